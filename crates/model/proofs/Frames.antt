@@ -1,0 +1,35 @@
+-- What the proofs of demand 3 carry from item to item: a good state, one screen the same in two states, legal items.
+use mathlib.Core.Path.{_≡_}
+use Prim.Native.Nat.{ℕ}
+use mathlib.Core.Bool.{Bool}
+use mathlib.Core.List.{List}
+use lib.ListN.{length, take, drop}
+use Rattle.model.specs.declared.Limits.{Limits}
+use Rattle.model.specs.State.{State}
+use Rattle.model.specs.Screens.{linesOf, columnsOf, placeOf, height, base, size}
+use Rattle.model.specs.Sound.{Sound}
+use Rattle.model.specs.Judging.{legalItem?}
+use Rattle.model.specs.Items.{Event, itemRead}
+
+-- sound settings, and stores of their sizes
+pub record Good (st : State) : Type 0 where
+  pub sound : Sound (st .settings)
+  pub cells-are : length (st .cells) ≡ 3840
+  pub layer-are : length (st .layer) ≡ 1280
+
+-- the cells of screen k
+abbrev pub cellsOf : State → ℕ → List ℕ
+cellsOf st k = take (size (st .settings) k) (drop (base (st .settings) k) (st .cells))
+
+-- screen k is the same in both: where it lies, its cursor and window, its cells
+pub record SameScreen (k : ℕ) (a b : State) : Type 0 where
+  pub same-base : base (b .settings) k ≡ base (a .settings) k
+  pub same-lines : linesOf (b .settings) k ≡ linesOf (a .settings) k
+  pub same-columns : columnsOf (b .settings) k ≡ columnsOf (a .settings) k
+  pub same-height : height (b .settings) ≡ height (a .settings)
+  pub same-place : placeOf (b .settings) k ≡ placeOf (a .settings) k
+  pub same-cells : cellsOf b k ≡ cellsOf a k
+
+-- the parameters of an event are in their ranges
+abbrev pub legalEvent? : Event → Limits → Bool
+legalEvent? (itemRead r) s = legalItem? (r .item) s

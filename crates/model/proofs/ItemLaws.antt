@@ -1,0 +1,196 @@
+-- Every item keeps the state good, and every item but a mode setting leaves the screen that is not selected as it was.
+use mathlib.Core.Path.{_∙_, _≡_, refl}
+use Prim.Native.Nat.{_*_, _+_, _-_, _<_, _≤_, suc, zero, ℕ}
+use native.Mathlib.Nat.{add-mul, suc-mul}
+use native.Mathlib.Omega.{arith}
+use mathlib.Core.Bool.{Bool, false, true}
+use mathlib.Core.List.{List, [], _∷_}
+use lib.ListN.{getD, length, length-replicate, length-set, set}
+use Rattle.model.specs.declared.Item.{Item}
+use Rattle.model.specs.declared.Item.the-variants.{Control, Printed, Refused, Sequence}
+use Rattle.model.specs.declared.Sequence.{Sequence as Seq}
+use Rattle.model.specs.declared.Sequence.the-variants.{Arrows1, Arrows2, Arrows3, CapsOff, CapsOn, Charset, Clear, Copy, CursorKind, CursorOff, CursorOn, Display, DrawDot, EraseLine, EraseRest, InsOff, InsOn, DrawLine, LinesDown, LinesUp, Mark, Mode0, Mode1, Mode2, Nothing, NumOff, NumOn, Pattern, PrintCode, Put, Repeat, RepeatDelay, RepeatInterval, SecretOff, SecretOn, Select, Shift, Step, StringsOff, StringsOn, Tracking, WindowBottom, WindowCursor, WindowDown, WindowTop, WindowUp}
+use Rattle.model.specs.declared.Settings.{Settings}
+use Rattle.model.specs.Bytes.{listFrom, put, scrolledDown, scrolledUp}
+use Rattle.model.specs.State.{State, putAt, withDisplay, withMode, withStored}
+use Rattle.model.specs.Checks.{InRanges, Passes, range}
+use Rattle.model.specs.Screens.{base, columnsHere, columnsOf, height, here, linesHere, linesOf, placeOf, size, textRows}
+use Rattle.model.specs.Sound.{Inside, Shaped, Sound, arrayRanges, keyRanges, mode0, mode1, mode2, plainRanges}
+use Rattle.model.specs.Judging.{legal?, legalItem?, limitsOf, ranges}
+use Rattle.model.specs.Rules.{applyItem, centred, flagged, modeSet, obeyed, placed, withArrows, withKeys, withKindPatterns, withLed, withSettings}
+use Rattle.model.specs.Claims.{isMode}
+use Rattle.model.proofs.Frames.{Good, SameScreen}
+use Rattle.model.proofs.Tests.{differ, ranges-true}
+use Rattle.model.proofs.ByteLaws.{length-down, length-listFrom, length-put, length-up}
+use Rattle.model.proofs.Keep.{Kept, height-high, height-low, kept-emptied, kept-flags, kept-layer, kept-refl, kept-stored-only, kept-trans, line-inside, same-emptied, same-trans, shaped-columns, shaped-height}
+use Rattle.model.proofs.Steps.{fits, height-fits, kept-at, kept-blank, kept-cleared, kept-control, kept-held, kept-lines, kept-printed, kept-top, kept-trackedFar, length-mark}
+
+-- what an item does: the state stays good, and all but a mode setting leave the screen that is not selected as it was
+pub record Obeyed (a b : State) (mode : Bool) : Type 0 where
+  pub good : Good b
+  pub other : mode ≡ false → (k : ℕ) → k < 2 → (k ≡ a .settings .selected → ⊥) → SameScreen k a b
+
+of-kept : {a b : State} → Kept a b → Obeyed a b false
+of-kept k = record { good = k .good; other = λ e. k .other }
+
+good-modeSet : (s : Settings) → Sound s → Good (modeSet s)
+unfolding modeSet
+good-modeSet s h = record { sound = h; cells-are = length-replicate {A = ℕ} 3840 32; layer-are = length-replicate {A = ℕ} 1280 0 }
+
+good-flags : (a : State) → Good a → (tr st se cu : ℕ) → Passes (range 0 tr 1) → 1 ≤ st → st ≤ height (a .settings) → Passes (range 0 se 1) → Passes (range 0 cu 1) → Obeyed a (flagged (a .settings .selected) tr st se cu a) false
+good-flags a g tr st se cu p q r u v = let z = kept-flags a g (a .settings .selected) tr st se cu (g .sound .selected) p q r u v in record { good = z .0; other = λ e k l n. z .1 k }
+
+-- settings of a mode just set
+sound-mode : (s : Settings) (m l1 l2 c1 c2 b : ℕ) → Sound s → Shaped m l1 l2 c1 c2 → Sound (withMode s m l1 l2 c1 c2 b)
+unfolding linesOf columnsOf placeOf plainRanges arrayRanges keyRanges
+sound-mode s m l1 l2 c1 c2 b h z = record {
+  arrays = (omega arith, h .arrays .1);
+  shaped = z;
+  selected = omega arith;
+  inside = all;
+  step-low = omega arith;
+  step-high = omega (arith, height-low (withMode s m l1 l2 c1 c2 b));
+  plain = search (h .plain, tracks) depth 30;
+}
+  where
+    tracks : Passes (range 0 1 1)
+    tracks = omega arith
+
+    all : (k : ℕ) → k < 2 → Inside (withMode s m l1 l2 c1 c2 b) k
+    all zero l = omega (arith, shaped-columns z, shaped-height z, height-high (withMode s m l1 l2 c1 c2 b))
+    all (suc zero) l = omega (arith, shaped-columns z, shaped-height z, height-high (withMode s m l1 l2 c1 c2 b))
+    all (suc (suc k)) l = absurd (omega arith)
+
+keys : {a : State} → Good a → InRanges (keyRanges (a .settings .kind) (a .settings .keys))
+unfolding plainRanges
+keys g = g .sound .plain .1 .1 .1 .1
+
+-- another key display
+kept-display : (n : ℕ) (a : State) → Good a → Passes (range 0 n 1) → Kept a (withSettings (withDisplay (a .settings) n) a)
+unfolding withSettings plainRanges arrayRanges keyRanges linesOf columnsOf height textRows placeOf base size
+kept-display n a g e = record {
+  good = record {
+    sound = record { arrays = g .sound .arrays; shaped = g .sound .shaped; selected = g .sound .selected; inside = g .sound .inside; step-low = g .sound .step-low; step-high = g .sound .step-high; plain = search (g .sound .plain, e) depth 30 };
+    cells-are = g .cells-are;
+    layer-are = g .layer-are;
+  };
+  same-selected = refl;
+  same-shape = λ k. (refl, refl);
+  same-tracking = refl;
+  other = λ k l n. record { same-base = refl; same-lines = refl; same-columns = refl; same-height = refl; same-place = refl; same-cells = refl };
+}
+
+-- one of three flags set
+set-low : (l : List ℕ) (w i f : ℕ) → getD l i 0 ≤ 1 → f ≤ 1 → getD (set l w f) i 0 ≤ 1
+set-low [] w i f h e = h
+set-low (x ∷ xs) zero zero f h e = e
+set-low (x ∷ xs) zero (suc i) f h e = h
+set-low (x ∷ xs) (suc w) zero f h e = h
+set-low (x ∷ xs) (suc w) (suc i) f h e = set-low xs w i f h e
+
+leds : (w f : ℕ) (l : List ℕ) → Passes (range 0 (getD l 0 0) 1) → Passes (range 0 (getD l 1 0) 1) → Passes (range 0 (getD l 2 0) 1) → f ≤ 1
+    → Passes (range 0 (getD (set l w f) 0 0) 1) × Passes (range 0 (getD (set l w f) 1 0) 1) × Passes (range 0 (getD (set l w f) 2 0) 1)
+leds w f l a b c x = ((omega arith, set-low l w 0 f (a .1) x), (omega arith, set-low l w 1 f (b .1) x), (omega arith, set-low l w 2 f (c .1) x))
+
+-- an LED on or off
+kept-led : (w f : ℕ) (a : State) → Good a → f ≤ 1 → Kept a (withLed w f a)
+unfolding withKeys keyRanges plainRanges arrayRanges
+kept-led w f a g x =
+    let h = keys g in
+    let l = leds w f (a .settings .keys .leds) h.1.0 h.1.1.0 h.1.1.1.0 x in
+    kept-stored-only a g _ _ _ (search (l, h) depth 30) (simp length-set (g .sound .arrays))
+
+-- four arrow codes
+kept-arrows : (w : ℕ) (cs : List ℕ) (a : State) → Good a → length cs ≡ 4 → w < 3 → Kept a (withArrows w cs a)
+unfolding withKeys keyRanges plainRanges arrayRanges
+kept-arrows w cs a g e h =
+    let z = g .sound .arrays in
+    let l : length (put (w * 4) cs (a .settings .keys .arrows)) ≡ length (a .settings .keys .arrows) = length-put (w * 4) cs (a .settings .keys .arrows) (omega arith) in
+    kept-stored-only a g _ _ _ (keys g) (rw l z)
+
+flag-on : Passes (range 0 1 1)
+flag-on = omega arith
+
+flag-off : Passes (range 0 0 1)
+flag-off = omega arith
+
+-- the rows of a pattern
+pattern-kept : (ms : ℕ → ℕ) (c at : ℕ) (a : State) → Good a → Passes (range 224 c 254)
+    → InRanges (arrayRanges (withStored (a .settings) (a .settings .kind) (a .settings .keys) (put ((c - 224) * 8) (listFrom ms at 8) (a .settings .patterns))))
+unfolding arrayRanges
+pattern-kept ms c at a g e =
+    let h = g .sound .arrays in
+    let l : length (put ((c - 224) * 8) (listFrom ms at 8) (a .settings .patterns)) ≡ length (a .settings .patterns) =
+    length-put ((c - 224) * 8) (listFrom ms at 8) (a .settings .patterns) (omega (arith, length-listFrom ms at 8)) in
+    rw l h
+
+-- 61: its bytes are m+31 and n+31
+pub kept-put : (a : State) → Good a → (l c : ℕ) → InRanges (ranges (Put l c) (limitsOf (a .settings))) → Kept a (placed (putAt (l - 31) (c - 31) (here a)) a)
+kept-put a g l c e = kept-at a g (l - 31) (c - 31) (omega arith) (omega arith) (omega arith) (omega arith)
+
+-- every accepted sequence
+obeyed-all : (ms : ℕ → ℕ) (q : Seq) (a : State) → Good a → InRanges (ranges q (limitsOf (a .settings))) → Obeyed a (obeyed ms q a) (isMode (Sequence q))
+unfolding obeyed centred withKeys withKindPatterns keyRanges plainRanges arrayRanges
+obeyed-all ms (PrintCode c) a g e = of-kept (kept-printed a g c)
+obeyed-all ms Clear a g e = of-kept (kept-cleared a g)
+obeyed-all ms CursorOff a g e = good-flags a g _ _ _ _ (g .sound .plain .0) (g .sound .step-low) (g .sound .step-high) (g .sound .plain .1 .0) (omega arith)
+obeyed-all ms CursorOn a g e = good-flags a g _ _ _ _ (g .sound .plain .0) (g .sound .step-low) (g .sound .step-high) (g .sound .plain .1 .0) (omega arith)
+obeyed-all ms (Put l c) a g e =
+    let k : Kept a (placed (putAt (l - 31) (c - 31) (here a)) a) = kept-put a g l c e in
+    of-kept (kept-trans k (kept-trackedFar _ (k .good)))
+obeyed-all ms (Charset n) a g e = of-kept (kept-stored-only a g _ _ _ (search (keys g, e) depth 30) (g .sound .arrays))
+obeyed-all ms Copy a g e = of-kept (kept-refl a g)
+obeyed-all ms EraseLine a g e = of-kept (kept-blank a g _ (omega (arith, fits a g, line-inside (columnsHere a) (here a .line) (linesHere a) (fits a g .line-low) (fits a g .line-high))))
+obeyed-all ms EraseRest a g e = of-kept (kept-blank a g _ (omega (arith, fits a g, rest (columnsHere a) (here a .line) (linesHere a) (fits a g .line-low) (fits a g .line-high))))
+  where
+    rest : (w l n : ℕ) → 1 ≤ l → l ≤ n → (l - 1) * w + w + (n - l) * w ≤ n * w
+    rest w l n p q =
+        let e₁ : suc (l - 1) ≡ l = omega arith in
+        let e₂ : l + (n - l) ≡ n = omega arith in
+        rw (← suc-mul (l - 1) w, e₁, ← add-mul l (n - l) w, e₂) (omega arith)
+obeyed-all ms SecretOn a g e = good-flags a g _ _ _ _ (g .sound .plain .0) (g .sound .step-low) (g .sound .step-high) (omega arith) (g .sound .plain .1 .1 .0)
+obeyed-all ms SecretOff a g e = good-flags a g _ _ _ _ (g .sound .plain .0) (g .sound .step-low) (g .sound .step-high) (omega arith) (g .sound .plain .1 .1 .0)
+obeyed-all ms (LinesUp x m) a g e = of-kept (kept-lines a g _ _ (scrolledUp (columnsHere a)) (length-up (columnsHere a)) (omega arith))
+obeyed-all ms (LinesDown x m) a g e = of-kept (kept-lines a g _ _ (scrolledDown (columnsHere a)) (length-down (columnsHere a)) (omega arith))
+obeyed-all ms (Step n) a g e = good-flags a g _ _ _ _ (g .sound .plain .0) (e .0 .0) (e .0 .1) (g .sound .plain .1 .0) (g .sound .plain .1 .1 .0)
+obeyed-all ms (Tracking n) a g e = good-flags a g _ _ _ _ (omega arith) (g .sound .step-low) (g .sound .step-high) (g .sound .plain .1 .0) (g .sound .plain .1 .1 .0)
+obeyed-all ms WindowUp a g e = of-kept (kept-held a g _)
+obeyed-all ms WindowDown a g e = of-kept (kept-held a g _)
+obeyed-all ms InsOn a g e = of-kept (kept-led 0 1 a g (omega arith))
+obeyed-all ms InsOff a g e = of-kept (kept-led 0 0 a g (omega arith))
+obeyed-all ms CapsOn a g e = of-kept (kept-led 1 1 a g (omega arith))
+obeyed-all ms CapsOff a g e = of-kept (kept-led 1 0 a g (omega arith))
+obeyed-all ms NumOn a g e = of-kept (kept-led 2 1 a g (omega arith))
+obeyed-all ms NumOff a g e = of-kept (kept-led 2 0 a g (omega arith))
+obeyed-all ms StringsOff a g e = of-kept (kept-stored-only a g _ _ _ (search (keys g, flag-off) depth 30) (g .sound .arrays))
+obeyed-all ms StringsOn a g e = of-kept (kept-stored-only a g _ _ _ (search (keys g, flag-on) depth 30) (g .sound .arrays))
+obeyed-all ms (DrawLine p1 p2 p3 p4 p5 p6 p7 p8 p9 p10 p11) a g e = of-kept (kept-refl a g)
+obeyed-all ms (DrawDot p1 p2 p3 p4) a g e = of-kept (kept-refl a g)
+obeyed-all ms (Mode0 x y) a g e = record { good = good-modeSet _ (sound-mode (a .settings) 0 x y 80 80 (a .settings .boundary) (g .sound) (mode0 refl refl refl (e .1 .0) (e .1 .1 .0 .0) (e .1 .1 .0 .1))); other = λ n. absurd (differ n) }
+obeyed-all ms (Mode1 x) a g e = record { good = good-modeSet _ (sound-mode (a .settings) 1 x x 39 39 (a .settings .boundary) (g .sound) (mode1 refl refl refl (e .1 .0 .0) (e .1 .0 .1) refl)); other = λ n. absurd (differ n) }
+obeyed-all ms (Mode2 x m p) a g e = record { good = good-modeSet _ (sound-mode (a .settings) 2 x x m (79 - m) p (g .sound) (mode2 refl (e .1 .1 .0 .0) (e .1 .1 .0 .1) refl (e .1 .0 .0) (e .1 .0 .1) refl)); other = λ n. absurd (differ n) }
+obeyed-all ms (Select n) a g e =
+    let z = kept-flags a g n (a .settings .tracking) (a .settings .step) (a .settings .secret) (a .settings .cursor) (omega arith) (g .sound .plain .0) (g .sound .step-low) (g .sound .step-high) (g .sound .plain .1 .0) (g .sound .plain .1 .1 .0) in
+    record { good = kept-emptied _ (z .0) .good; other = λ m k l d. same-trans (z .1 k) (same-emptied k _) }
+obeyed-all ms (Mark r c p) a g e = of-kept (kept-layer a g _ (length-mark _ p (a .layer) ∙ g .layer-are))
+obeyed-all ms (Display n) a g e = of-kept (kept-display n a g (e .0))
+obeyed-all ms WindowTop a g e = of-kept (kept-top a g 1 (omega arith) (omega (arith, height-fits a g)))
+obeyed-all ms WindowBottom a g e = of-kept (kept-top a g _ (omega (arith, height-fits a g)) (omega (arith, height-fits a g)))
+obeyed-all ms (CursorKind n) a g e = of-kept (kept-stored-only a g _ _ _ (e .0, keys g .1) (g .sound .arrays))
+obeyed-all ms WindowCursor a g e = of-kept (kept-held a g _)
+obeyed-all ms (Pattern c at) a g e = of-kept (kept-stored-only a g _ _ _ (keys g) (pattern-kept ms c at a g (e .0)))
+obeyed-all ms (Repeat n) a g e = of-kept (kept-stored-only a g _ _ _ (search (keys g, e) depth 30) (g .sound .arrays))
+obeyed-all ms (RepeatDelay n) a g e = of-kept (kept-stored-only a g _ _ _ (search (keys g, e) depth 30) (g .sound .arrays))
+obeyed-all ms (RepeatInterval n) a g e = of-kept (kept-stored-only a g _ _ _ (search (keys g, e) depth 30) (g .sound .arrays))
+obeyed-all ms (Arrows1 c1 c2 c3 c4) a g e = of-kept (kept-arrows 0 _ a g refl (omega arith))
+obeyed-all ms (Arrows2 c1 c2 c3 c4) a g e = of-kept (kept-arrows 1 _ a g refl (omega arith))
+obeyed-all ms (Arrows3 c1 c2 c3 c4) a g e = of-kept (kept-arrows 2 _ a g refl (omega arith))
+obeyed-all ms Nothing a g e = of-kept (kept-refl a g)
+obeyed-all ms (Shift n) a g e = of-kept (kept-stored-only a g _ _ _ (search (keys g, e) depth 30) (g .sound .arrays))
+
+pub obeyed-item : (ms : ℕ → ℕ) (i : Item) (a : State) → Good a → legalItem? i (limitsOf (a .settings)) ≡ true → Obeyed a (applyItem ms i a) (isMode i)
+unfolding applyItem legal?
+obeyed-item ms (Printed c) a g e = of-kept (kept-printed a g c)
+obeyed-item ms (Control c) a g e = of-kept (kept-control a g c)
+obeyed-item ms (Sequence q) a g e = obeyed-all ms q a g (ranges-true (ranges q (limitsOf (a .settings))) e)
+obeyed-item ms (Refused n) a g e = of-kept (kept-refl a g)

@@ -1,0 +1,205 @@
+-- Demand 3 of the rules: every list of calls that keep their promises has it. What stands is what the events of the list made;
+-- the laws of Events say what any list of events keeps, those of CallLaws what a call does to the shown screen.
+use mathlib.Core.Path.{_∙_, _≡_, ap, refl, subst, sym}
+use Prim.Native.Nat.{_*_, _+_, _-_, _<_, _≤_, suc, zero, ℕ}
+use native.Mathlib.Nat.{le-of-suc-le-suc, not-suc-le-zero}
+use native.Mathlib.Omega.{arith}
+use mathlib.Core.Bool.{Bool, cond, false, true}
+use mathlib.Core.List.{List, [], _++_, _∷_}
+use lib.ListN.{length, length-append, take}
+use lib.Seq.{take-append-add}
+use Rattle.model.specs.declared.Answer.{Answer}
+use Rattle.model.specs.declared.Settings.{Settings}
+use Rattle.model.specs.Bytes.{joined, written}
+use Rattle.model.specs.State.{State}
+use Rattle.model.specs.Screens.{base, cellAt, columnsOf, lineAt, linesOf, size}
+use Rattle.model.specs.Sound.{Sound}
+use Rattle.model.specs.Items.{Event, applyAll, blankAnswer, bytesRead}
+use Rattle.model.specs.Calls.{Call, Promised, Request, Terminal, accepted, answerOf, eventsIn, numberOf, printedBy, readsIn, requestOf, served}
+use Rattle.model.specs.Claims.{Apart, InOrder, On, Shown, Standing, setsMode}
+use Rattle.model.specs.Demand.{Demand, Demand3, Made, Nth, Resumed, Start, Stretch, acceptable, before, event, eventsOver, first, itemCount, later, left, next, none, opening, requests, resumed, sentBy, stands, stood}
+use Rattle.model.proofs.Frames.{Good, SameScreen}
+use Rattle.model.proofs.Keep.{same-refl, same-trans, within}
+use Rattle.model.proofs.ItemLaws.{Obeyed}
+use Rattle.model.proofs.Events.{AllLegal, apply-append, at-next, cell-inside, chained, event-at, good-at, legal-append, refused-nothing, unchanged, window-at}
+use Rattle.model.proofs.CallLaws.{accepted-number, answer-number, left-is, legal-in, number-good, opening-resumed, opening-shown, refused-answer, refused-leaves, refused-number, refused-prints, shown-accepted, shown-served, sized-served, state-served}
+use Rattle.model.proofs.Printing.{buffer-length, once, ordered, printed-is, taken-is}
+use Rattle.model.proofs.Places.{one-cell}
+
+-- what stands after a list is what its events made
+state-stands : (t : Terminal) (qs : List Request) → stands t qs .state ≡ applyAll (eventsOver t qs) (t .state)
+unfolding stands eventsOver applyAll
+state-stands t [] = refl
+state-stands t (q ∷ qs) =
+    state-stands (served t q) qs ∙ ap (applyAll (eventsOver (served t q) qs)) (state-served t q) ∙ sym (apply-append (eventsIn t q) (eventsOver (served t q) qs) (t .state))
+
+legal-over : (t : Terminal) (qs : List Request) → AllLegal (eventsOver t qs) (t .state)
+unfolding eventsOver
+legal-over t [] = tt
+legal-over t (q ∷ qs) =
+    legal-append (eventsIn t q) (eventsOver (served t q) qs) (t .state) (legal-in t q) (subst (AllLegal (eventsOver (served t q) qs)) (state-served t q) (legal-over (served t q) qs))
+
+made-take : {t : Terminal} {cs : List Call} → Made t cs → (n : ℕ) → Made t (take n cs)
+made-take none zero = none
+made-take none (suc n) = none
+made-take (next e p m) zero = none
+made-take (next e p m) (suc n) = next e p (made-take m n)
+
+-- the calls leave what stands
+exact-all : {t : Terminal} {cs : List Call} → Made t cs → left t cs ≡ stands t (requests cs)
+unfolding left stands
+exact-all none = refl
+exact-all {t} (next {c = c} {cs = cs} e p m) =
+    exact-all m ∙ ap (λ (x : Terminal). stands x (requests cs)) (left-is c p ∙ ap (λ (x : Terminal). served x (requestOf c)) e)
+
+-- the items up to a call are a front of the items of the list
+front-items : (t : Terminal) (qs : List Request) (n : ℕ) → take (length (eventsOver t (take n qs))) (eventsOver t qs) ≡ eventsOver t (take n qs)
+unfolding eventsOver
+front-items t qs zero = refl
+front-items t [] (suc n) = refl
+front-items t (q ∷ qs) (suc n) =
+    ap (λ (k : ℕ). take k (eventsIn t q ++ eventsOver (served t q) qs)) (length-append (eventsIn t q) (eventsOver (served t q) (take n qs)))
+    ∙ take-append-add (eventsIn t q) (eventsOver (served t q) qs) (length (eventsOver (served t q) (take n qs)))
+    ∙ ap (λ (l : List Event). eventsIn t q ++ l) (front-items (served t q) qs n)
+
+map-take : (cs : List Call) (n : ℕ) → requests (take n cs) ≡ take n (requests cs)
+map-take cs zero = refl
+map-take [] (suc n) = refl
+map-take (c ∷ cs) (suc n) = ap (λ (l : List Request). requestOf c ∷ l) (map-take cs n)
+
+-- any fact of a call that follows from its promise and what it was given
+each : (P : Terminal → Call → Type 0) → ((c : Call) → Promised c → P (c .given) c)
+    → {t : Terminal} {cs : List Call} → Made t cs → (n : ℕ) (c : Call) → Nth n cs c → P (stood t cs n) c
+unfolding stands
+each P given {t} (next g p m) zero c first = subst (λ (x : Terminal). P x c) g (given c p)
+each P given {t} (next {c = b} {cs = cs} g p m) (suc n) c (later h) =
+    subst (λ (x : Terminal). P (stands x (requests (take n cs))) c) (left-is b p ∙ ap (λ (x : Terminal). served x (requestOf b)) g) (each P given m n c h)
+
+-- and what it left, from the promise alone
+left-unaltered : (c : Call) → Promised c → accepted (c .given) (requestOf c) ≡ false → (c .left ≡ c .given) × (c .answer ≡ blankAnswer (numberOf (c .given) (requestOf c))) × (c .printer ≡ c .buffer)
+unfolding written
+left-unaltered c p e = (
+  left-is c p ∙ refused-leaves (c .given) (requestOf c) e,
+  p .answer-is ∙ refused-answer (c .given) (requestOf c) e,
+  p .printer-is ∙ ap (λ (ys : List ℕ). written ys (c .buffer)) (refused-prints (c .given) (requestOf c) e),
+)
+
+number-is : (c : Call) → Promised c → c .answer .number ≡ numberOf (c .given) (requestOf c)
+number-is c p = ap (λ (a : Answer). a .number) (p .answer-is) ∙ answer-number (c .given) (requestOf c)
+
+unaltered : (c : Call) → Promised c → (c .answer .number ≡ 0 → ⊥) → (c .left ≡ c .given) × (c .answer ≡ blankAnswer (c .answer .number)) × (c .printer ≡ c .buffer)
+unaltered c p n =
+    let z = left-unaltered c p (refused-number (c .given) (requestOf c) (λ e. n (number-is c p ∙ e))) in
+    (z .0, z .1 ∙ ap blankAnswer (sym (number-is c p)), z .2)
+
+is-accepted : (c : Call) → Promised c → c .answer .number ≡ 0 → accepted (c .given) (requestOf c) ≡ true
+is-accepted c p e = accepted-number (c .given) (requestOf c) (sym (number-is c p) ∙ e)
+
+-- the shown screen: it stays true, and an accepted message makes it true
+shown-stands : (qs : List Request) (t : Terminal) → Shown t → Shown (stands t qs)
+unfolding stands
+shown-stands [] t s = s
+shown-stands (q ∷ qs) t s = shown-stands qs (served t q) (shown-served t q s)
+
+shown-left : {t : Terminal} {cs : List Call} → Made t cs → Shown t → Shown (left t cs)
+shown-left m s = subst Shown (sym (exact-all m)) (shown-stands _ _ s)
+
+shown-from : {t : Terminal} {cs : List Call} → Made t cs → (i : ℕ) (c : Call) → Nth i cs c → c .answer .number ≡ 0 → (n : ℕ) → i < n → Shown (left t (take n cs))
+unfolding left
+shown-from (next g p m) zero c first e zero l = absurd (not-suc-le-zero l)
+shown-from (next g p m) zero c first e (suc n) l =
+    shown-left (made-take m n) (subst Shown (sym (left-is c p)) (shown-accepted (c .given) (requestOf c) (is-accepted c p e)))
+shown-from (next g p m) (suc i) c (later h) e zero l = absurd (not-suc-le-zero l)
+shown-from (next g p m) (suc i) c (later h) e (suc n) l = shown-from m i c h e n (le-of-suc-le-suc l)
+
+sized-stands : (qs : List Request) (t : Terminal) → length (t .shown) ≡ 640 → length (stands t qs .shown) ≡ 640
+unfolding stands
+sized-stands [] t e = e
+sized-stands (q ∷ qs) t e = sized-stands qs (served t q) (sized-served t q e)
+
+-- the screens' cells, place by place
+apart-of : (s : Settings) → Sound s → Apart s
+unfolding base size linesOf columnsOf cellAt lineAt
+apart-of s h = record {
+  first = refl;
+  next = refl;
+  within = within s h 1 (omega arith);
+  among = λ k l c o. omega (arith, within s h k (o .screen), inner k l c o);
+  one-place = λ k l c l′ c′ o o′ e. one-cell (base s k) (columnsOf s k) l c l′ c′ (o .line-low) (o′ .line-low) (o .column-low) (o .column-high) (o′ .column-low) (o′ .column-high) e;
+  none-shared = λ l c l′ c′ o o′ e. omega (arith, e, inner 0 l c o);
+}
+  where
+    inner : (k l c : ℕ) → On s k l c → (l - 1) * columnsOf s k + (c - 1) < linesOf s k * columnsOf s k
+    inner k l c o = cell-inside (columnsOf s k) l (linesOf s k) c (o .line-low) (o .line-high) (o .column-low) (o .column-high)
+
+standing-of : {st : State} → Good st → Standing st
+standing-of g = record { sound = g .sound; inside = g .sound .inside; apart = apart-of _ (g .sound); cells-are = g .cells-are; layer-is = g .layer-are }
+
+-- the printer bytes of a call
+printed-in : (c : Call) → Promised c → (length (printedBy (c .given) (requestOf c)) ≡ c .answer .printed) × (length (c .printer) ≡ length (c .buffer))
+printed-in c p = (sym (ap (λ (a : Answer). a .printed) (p .answer-is) ∙ printed-is (c .given) (requestOf c)), buffer-length c p)
+
+-- both starts are good
+start-resumed : (t : Terminal) → Start t → Resumed t
+start-resumed t (opening o) = opening-resumed t o
+start-resumed t (resumed r) = r
+
+module _ (t : Terminal) (cs : List Call) (made : Made t cs) where
+  exact : (n : ℕ) → left t (take n cs) ≡ stood t cs n
+  exact n = exact-all (made-take made n)
+
+  by-items : (n : ℕ) → left t (take n cs) .state ≡ before t cs (length (eventsOver t (requests (take n cs))))
+  by-items n =
+      ap (λ (x : Terminal). x .state) (exact n) ∙ state-stands t (requests (take n cs))
+      ∙ ap (λ (es : List Event). applyAll es (t .state))
+      (sym (subst (λ (qs : List Request). take (length (eventsOver t qs)) (eventsOver t (requests cs)) ≡ eventsOver t qs) (sym (map-take cs n)) (front-items t (requests cs) n)))
+
+  module _ (start : Start t) where
+    good : Good (t .state)
+    good = let r = start-resumed t start in record { sound = r .sound; cells-are = r .cells-are; layer-are = r .layer-is }
+
+    good-left : (n : ℕ) → Good (left t (take n cs) .state)
+    good-left n = subst Good (sym (by-items n)) (good-at (eventsOver t (requests cs)) (t .state) good (legal-over t (requests cs)) (length (eventsOver t (requests (take n cs)))))
+
+    number : (n : ℕ) (c : Call) → Nth n cs c → c .answer .number ≡ cond (acceptable (c .asked)) 0 2
+    number n c h =
+        let g : Good (stood t cs n .state) = subst (λ (x : Terminal). Good (x .state)) (exact n) (good-left n) in
+        each (λ x c. c .answer .number ≡ numberOf x (requestOf c)) number-is made n c h
+        ∙ number-good (stood t cs n) (requestOf c) g (sized-stands (requests (take n cs)) t (start-resumed t start .shown-is))
+
+    -- what event n of the list does
+    step : (n : ℕ) → n < itemCount t cs → Obeyed (before t cs n) (before t cs (suc n)) (setsMode (event t cs n))
+    step = event-at (eventsOver t (requests cs)) (t .state) good (legal-over t (requests cs))
+
+    stretch : (i j k : ℕ) → i ≤ j → j ≤ itemCount t cs → Stretch t cs i j k → (o : ℕ) → o < 2 → (o ≡ k → ⊥) → SameScreen o (before t cs i) (before t cs j)
+    stretch i j k u v f o ho e =
+        chained (SameScreen o) (same-refl o) (λ a b c. same-trans) (before t cs) i j u
+        (λ n p q. step n (omega arith) .other (f n p q .1) o ho (λ z. e (z ∙ f n p q .0)))
+
+  demand : Demand3 t cs
+  demand = record {
+    exact = λ n h. exact n;
+    answers = each (λ x c. c .answer ≡ answerOf x (requestOf c)) (λ c p. p .answer-is) made;
+    prints = each (λ x c. c .printer ≡ written (printedBy x (requestOf c)) (c .buffer)) (λ c p. p .printer-is) made;
+    printed = each (λ x c. (length (printedBy x (requestOf c)) ≡ c .answer .printed) × (length (c .printer) ≡ length (c .buffer))) printed-in made;
+    numbers = each (λ x c. c .answer .number ≡ numberOf x (requestOf c)) number-is made;
+    refused = each (λ x c. (c .answer .number ≡ 0 → ⊥) → (c .left ≡ c .given) × (c .answer ≡ blankAnswer (c .answer .number)) × (c .printer ≡ c .buffer)) unaltered made;
+    refusals = λ n h e. at-next (eventsOver t (requests cs)) (t .state) n h ∙ refused-nothing (event t cs n) (before t cs n) e;
+    once = each (λ x c. c .answer .number ≡ 0 → (joined (bytesRead (readsIn x (requestOf c))) ≡ sentBy (c .asked)) × (InOrder 0 (readsIn x (requestOf c))) × (c .answer .taken ≡ length (sentBy (c .asked))))
+        (λ c p e. let a = is-accepted c p e in (once (c .given) (requestOf c) a, ordered (c .given) (requestOf c) a, ap (λ (a : Answer). a .taken) (p .answer-is) ∙ taken-is (c .given) (requestOf c) a)) made;
+    by-items = λ n h. by-items n;
+    opened-shown = λ o n h. shown-left (made-take made n) (opening-shown t o);
+    message-shown = λ i c h e n l u. shown-from made i c h e n l;
+    accepts = λ start n c h e. number start n c h ∙ ap (λ (b : Bool). cond b 0 2) e;
+    refuses = λ start n c h e. number start n c h ∙ ap (λ (b : Bool). cond b 0 2) e;
+    standing = λ start n h. standing-of (good-at (eventsOver t (requests cs)) (t .state) (good start) (legal-over t (requests cs)) n);
+    left-standing = λ start n h. (
+      standing-of (good-left start n),
+      ap (λ (x : Terminal). length (x .shown)) (exact n) ∙ sized-stands (requests (take n cs)) t (start-resumed t start .shown-is),
+    );
+    tracks = λ start. window-at (eventsOver t (requests cs)) (t .state) (good start) (legal-over t (requests cs));
+    stretch = λ start i j k u v f o ho e. unchanged (stretch start i j k u v f o ho e);
+  }
+
+pub demand3 : Demand
+demand3 t cs made = demand t cs made

@@ -1,0 +1,101 @@
+-- Document 01, "Lists of messages": the words that demand 3 is said in: where cells lie, what the shown screen shows, the window
+-- and the cursor's line, items by kind, and what a screen keeps over a stretch.
+use mathlib.Core.Path.{_≡_}
+use Prim.Native.Nat.{ℕ, _+_, _-_, _*_, _≤_, _<_}
+use mathlib.Core.Bool.{Bool, true, false, _||_}
+use mathlib.Core.List.{List, [], _∷_}
+use lib.ListN.{length, getD}
+use lib.Dec.{eqb}
+use Rattle.model.specs.declared.Settings.{Settings}
+use Rattle.model.specs.declared.Item.{Item}
+use Rattle.model.specs.declared.Item.the-variants.{Printed, Control, Sequence, Refused}
+use Rattle.model.specs.State.{State}
+use Rattle.model.specs.Screens.{linesOf, columnsOf, placeOf, height, base, size, cellAt, here}
+use Rattle.model.specs.Sound.{Sound, Inside}
+use Rattle.model.specs.Picture.{pictureAt}
+use Rattle.model.specs.Reading.{Read}
+use Rattle.model.specs.Sequences.{codeOf}
+use Rattle.model.specs.Items.{Event, itemRead}
+use Rattle.model.specs.Calls.{Terminal}
+
+-- a line and a column of screen k (0 or 1)
+pub record On (s : Settings) (k l c : ℕ) : Type 0 where
+  pub screen : k < 2
+  pub line-low : 1 ≤ l
+  pub line-high : l ≤ linesOf s k
+  pub column-low : 1 ≤ c
+  pub column-high : c ≤ columnsOf s k
+
+-- "Screen 1 is the first cells, its lines × columns; screen 2 is the next, its own lines × columns; all lie among the 3,840"
+pub record Apart (s : Settings) : Type 0 where
+  pub first : base s 0 ≡ 0
+  pub next : base s 1 ≡ size s 0
+  pub within : base s 1 + size s 1 ≤ 3840
+  -- the same place by place: each is among the 3,840, and no two lines and columns, of one screen or of both, are one cell
+  pub among : (k l c : ℕ) → On s k l c → cellAt s k l c < 3840
+  pub one-place : (k l c l′ c′ : ℕ) → On s k l c → On s k l′ c′ → cellAt s k l c ≡ cellAt s k l′ c′ → (l ≡ l′) × (c ≡ c′)
+  pub none-shared : (l c l′ c′ : ℕ) → On s 0 l c → On s 1 l′ c′ → cellAt s 0 l c ≡ cellAt s 1 l′ c′ → ⊥
+
+-- what every state of a list is: sound settings, each cursor and window inside its screen, the screens' cells apart, stores of their sizes
+pub record Standing (st : State) : Type 0 where
+  pub sound : Sound (st .settings)
+  pub inside : (k : ℕ) → k < 2 → Inside (st .settings) k
+  pub apart : Apart (st .settings)
+  pub cells-are : length (st .cells) ≡ 3840
+  pub layer-is : length (st .layer) ≡ 1280
+
+-- items one behind the other: each begins where the one before ended, and has a byte
+abbrev pub InOrder : ℕ → List Read → Type 0
+InOrder at [] = Unit {0}
+InOrder at (r ∷ rs) = (r .at ≡ at) × ((1 ≤ length (r .bytes)) × InOrder (at + length (r .bytes)) rs)
+
+-- "Row r, column c is byte 80(r−1)+c−1 of the shown screen": all 640 places show the picture of what stands
+pub record Shown (t : Terminal) : Type 0 where
+  pub places : length (t .shown) ≡ 640
+  pub each : (r c : ℕ) → 1 ≤ r → r ≤ 8 → 1 ≤ c → c ≤ 80 → getD (t .shown) (80 * (r - 1) + (c - 1)) 0 ≡ pictureAt (t .state) r c
+
+-- "the window is lines top to top+H−1": the cursor's line lies in it, "on the selected screen"
+pub record InWindow (st : State) : Type 0 where
+  pub from-top : here st .top ≤ here st .line
+  pub to-bottom : here st .line < here st .top + height (st .settings)
+
+-- "a mode setting is an accepted 208"
+abbrev pub isMode : Item → Bool
+isMode (Printed c) = false
+isMode (Control c) = false
+isMode (Sequence q) = eqb (codeOf q) 208
+isMode (Refused n) = false
+
+-- "A printed character is a printed byte or an accepted 37; a line step is code 10, and codes 8 and 13 are counted with it; a cursor placing is 61"
+abbrev pub follows : Item → Bool
+follows (Printed c) = true
+follows (Control c) = eqb c 8 || eqb c 10 || eqb c 13
+follows (Sequence q) = eqb (codeOf q) 37 || eqb (codeOf q) 61
+follows (Refused n) = false
+
+-- a refusal
+abbrev pub isRefusal : Item → Bool
+isRefusal (Printed c) = false
+isRefusal (Control c) = false
+isRefusal (Sequence q) = false
+isRefusal (Refused n) = true
+
+-- the same of an event
+abbrev pub setsMode : Event → Bool
+setsMode (itemRead r) = isMode (r .item)
+
+abbrev pub refusedEvent : Event → Bool
+refusedEvent (itemRead r) = isRefusal (r .item)
+
+abbrev pub mustFollow : Event → Bool
+mustFollow (itemRead r) = follows (r .item)
+
+-- each cell, the cursor and the window of screen k are in b as in a
+pub record Unchanged (k : ℕ) (a b : State) : Type 0 where
+  pub lines : linesOf (b .settings) k ≡ linesOf (a .settings) k
+  pub columns : columnsOf (b .settings) k ≡ columnsOf (a .settings) k
+  pub cells : (l c : ℕ) → On (a .settings) k l c → getD (b .cells) (cellAt (b .settings) k l c) 0 ≡ getD (a .cells) (cellAt (a .settings) k l c) 0
+  pub cursor-line : placeOf (b .settings) k .line ≡ placeOf (a .settings) k .line
+  pub cursor-column : placeOf (b .settings) k .column ≡ placeOf (a .settings) k .column
+  pub top : placeOf (b .settings) k .top ≡ placeOf (a .settings) k .top
+  pub tall : height (b .settings) ≡ height (a .settings)

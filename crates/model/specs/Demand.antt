@@ -1,0 +1,137 @@
+-- Document 01, "Lists of messages": demand 3, a single claim about a whole list of calls.
+use mathlib.Core.Path.{_≡_}
+use Prim.Native.Nat.{ℕ, suc, _≤_, _<_}
+use mathlib.Core.Bool.{Bool, true, false}
+use mathlib.Core.List.{List, [], _∷_, _++_, map}
+use lib.ListN.{length, getD, take}
+use Rattle.model.specs.declared.Item.the-variants.{Refused}
+use Rattle.model.specs.Bytes.{joined, written}
+use Rattle.model.specs.State.{State}
+use Rattle.model.specs.Sound.{Sound}
+use Rattle.model.specs.Items.{Event, itemRead, applyAll, blankAnswer, bytesRead}
+use Rattle.model.specs.Calls.{Terminal, Asked, message, Request, Call, requestOf, Promised, short, numberOf, answerOf, printedBy, readsIn, eventsIn, served}
+use Rattle.model.specs.Opening.{OpeningPromised}
+use Rattle.model.specs.Claims.{Standing, InOrder, Shown, InWindow, setsMode, refusedEvent, mustFollow, Unchanged}
+
+-- "Each call gets the settings and these three stores as the call before left them", and keeps its promise
+pub data Made : Terminal → List Call → Type 0 where
+  none : {t : Terminal} → Made t []
+  next : {t : Terminal} {c : Call} {cs : List Call} → c .given ≡ t → Promised c → Made (c .left) cs → Made t (c ∷ cs)
+
+-- "what an accepted opening leaves": an opening call kept its promise, returned 0 and left this
+pub record Opening (t : Terminal) : Type 0 where
+  pub cells : List ℕ
+  pub layer : List ℕ
+  pub shown : List ℕ
+  pub promised : OpeningPromised cells layer shown (t .state .settings) 0 (t .state .cells) (t .state .layer) (t .shown)
+
+-- "or from sound settings with any bytes in cells, layer and shown screen"
+pub record Resumed (t : Terminal) : Type 0 where
+  pub sound : Sound (t .state .settings)
+  pub cells-are : length (t .state .cells) ≡ 3840
+  pub layer-is : length (t .state .layer) ≡ 1280
+  pub shown-is : length (t .shown) ≡ 640
+
+-- "It starts from"
+pub data Start (t : Terminal) : Type 0 where
+  opening : Opening t → Start t
+  resumed : Resumed t → Start t
+
+-- "What stands is worked out by the rules above from the start, the messages and the printer room of each call alone"
+unfoldable pub stands : Terminal → List Request → Terminal
+stands t [] = t
+stands t (q ∷ qs) = stands (served t q) qs
+
+-- what the last of the calls left
+unfoldable pub left : Terminal → List Call → Terminal
+left t [] = t
+left t (c ∷ cs) = left (c .left) cs
+
+-- what the calls are worked out from
+abbrev pub requests : List Call → List Request
+requests cs = map requestOf cs
+
+-- what stands before call n of a list, counted from 0
+abbrev pub stood : Terminal → List Call → ℕ → Terminal
+stood t cs n = stands t (requests (take n cs))
+
+-- call n of a list, counted from 0
+pub data Nth : ℕ → List Call → Call → Type 0 where
+  first : {c : Call} {cs : List Call} → Nth 0 (c ∷ cs) c
+  later : {n : ℕ} {b c : Call} {cs : List Call} → Nth n cs c → Nth (suc n) (b ∷ cs) c
+
+-- the items of a whole list, one call's after the other's: "across calls too"
+unfoldable pub eventsOver : Terminal → List Request → List Event
+eventsOver t [] = []
+eventsOver t (q ∷ qs) = eventsIn t q ++ eventsOver (served t q) qs
+
+-- read past the end of a list of items; no claim reaches it
+abbrev pub noEvent : Event
+noEvent = itemRead (record { at = 0; item = Refused 0; bytes = [] })
+
+-- item n of a list, counted from 0 over all its calls
+abbrev pub event : Terminal → List Call → ℕ → Event
+event t cs n = getD (eventsOver t (requests cs)) n noEvent
+
+-- the number of its items
+abbrev pub itemCount : Terminal → List Call → ℕ
+itemCount t cs = length (eventsOver t (requests cs))
+
+-- what stands before item n
+abbrev pub before : Terminal → List Call → ℕ → State
+before t cs n = applyAll (take n (eventsOver t (requests cs))) (t .state)
+
+-- "any items of the list that follow one another, across calls too, each read with the same screen selected and none a mode setting": items i to j − 1, screen k
+abbrev pub Stretch : Terminal → List Call → ℕ → ℕ → ℕ → Type 0
+Stretch t cs i j k = (n : ℕ) → i ≤ n → n < j → (before t cs n .settings .selected ≡ k) × (setsMode (event t cs n) ≡ false)
+
+-- the bytes that are sent
+abbrev pub sentBy : Asked → List ℕ
+sentBy (message m) = m
+
+-- what is asked and not too long: 2 is the one number that such a list's calls are refused by
+abbrev pub acceptable : Asked → Bool
+acceptable (message m) = short m
+
+-- the claim about a whole list
+pub record Demand3 (t : Terminal) (cs : List Call) : Type 0 where
+  -- WHEREVER IT STARTS, refused calls by every number included
+  -- "After each call the settings, cells and layer are exactly what then stands", the shown screen too
+  pub exact : (n : ℕ) → n ≤ length cs → left t (take n cs) ≡ stood t cs n
+  -- "its answer and printer bytes are those that the rules give from what stood before it"
+  pub answers : (n : ℕ) (c : Call) → Nth n cs c → c .answer ≡ answerOf (stood t cs n) (requestOf c)
+  pub prints : (n : ℕ) (c : Call) → Nth n cs c → c .printer ≡ written (printedBy (stood t cs n) (requestOf c)) (c .buffer)
+  -- which are as many as the answer says, and fit: the buffer keeps its length
+  pub printed : (n : ℕ) (c : Call) → Nth n cs c → (length (printedBy (stood t cs n) (requestOf c)) ≡ c .answer .printed) × (length (c .printer) ≡ length (c .buffer))
+  -- "Which calls are refused is settled by the numbers above .., never by the program" (a part of answers, said by itself)
+  pub numbers : (n : ℕ) (c : Call) → Nth n cs c → c .answer .number ≡ numberOf (stood t cs n) (requestOf c)
+  -- "a refused call changes nothing": settings and stores, zero counts, the printer buffer
+  pub refused : (n : ℕ) (c : Call) → Nth n cs c → (c .answer .number ≡ 0 → ⊥)
+      → (c .left ≡ c .given) × (c .answer ≡ blankAnswer (c .answer .number)) × (c .printer ≡ c .buffer)
+  -- "and a refusal changes nothing"
+  pub refusals : (n : ℕ) → n < itemCount t cs → refusedEvent (event t cs n) ≡ true → before t cs (suc n) ≡ before t cs n
+  -- "every byte of the message belongs to exactly one item": an accepted call's items are its message, cut, each behind the one before
+  pub once : (n : ℕ) (c : Call) → Nth n cs c → c .answer .number ≡ 0
+      → (joined (bytesRead (readsIn (stood t cs n) (requestOf c))) ≡ sentBy (c .asked)) × (InOrder 0 (readsIn (stood t cs n) (requestOf c))) × (c .answer .taken ≡ length (sentBy (c .asked)))
+  -- what stands after each call is what the items of the list made, up to that call's last
+  pub by-items : (n : ℕ) → n ≤ length cs → left t (take n cs) .state ≡ before t cs (length (eventsOver t (requests (take n cs))))
+  -- from an accepted opening on, all 640 places show the picture of what stands
+  pub opened-shown : Opening t → (n : ℕ) → n ≤ length cs → Shown (left t (take n cs))
+  -- from the first accepted message on, too
+  pub message-shown : (i : ℕ) (c : Call) → Nth i cs c → c .answer .number ≡ 0 → (n : ℕ) → i < n → n ≤ length cs → Shown (left t (take n cs))
+  -- FROM AN ACCEPTED OPENING, OR FROM SOUND SETTINGS
+  -- no call is refused but a message over 4,096 bytes
+  pub accepts : Start t → (n : ℕ) (c : Call) → Nth n cs c → acceptable (c .asked) ≡ true → c .answer .number ≡ 0
+  pub refuses : Start t → (n : ℕ) (c : Call) → Nth n cs c → acceptable (c .asked) ≡ false → c .answer .number ≡ 2
+  -- before and after every item: the settings sound, each cursor and window inside its screen, the screens' cells apart and among the 3,840
+  pub standing : Start t → (n : ℕ) → n ≤ itemCount t cs → Standing (before t cs n)
+  -- and after each call, the shown screen of its size
+  pub left-standing : Start t → (n : ℕ) → n ≤ length cs → (Standing (left t (take n cs) .state)) × (length (left t (take n cs) .shown) ≡ 640)
+  -- "The cursor's line is looked for right after the item, on the selected screen"
+  pub tracks : Start t → (n : ℕ) → n < itemCount t cs → mustFollow (event t cs n) ≡ true → before t cs n .settings .tracking ≡ 1 → InWindow (before t cs (suc n))
+  -- a stretch leaves each cell, the cursor and the window of the other screen as they were
+  pub stretch : Start t → (i j k : ℕ) → i ≤ j → j ≤ itemCount t cs → Stretch t cs i j k → (o : ℕ) → o < 2 → (o ≡ k → ⊥) → Unchanged o (before t cs i) (before t cs j)
+
+-- "a single claim about a whole list and not one for each call"
+abbrev pub Demand : Type 0
+Demand = (t : Terminal) (cs : List Call) → Made t cs → Demand3 t cs

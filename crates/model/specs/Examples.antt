@@ -1,0 +1,206 @@
+-- Document 01, "Bays' examples": a message from the opening, with a printer room, and what it must give. All rows marked P; of the
+-- rest those that say something of the rules; and rows of ours where the table is silent.
+use Prim.Native.Nat.{ℕ, suc, zero, _+_, _-_, _*_}
+use mathlib.Core.Bool.{Bool, true, false, _&&_}
+use mathlib.Core.List.{List, [], _∷_, _++_}
+use lib.ListN.{length, getD, replicate}
+use lib.Dec.{eqb}
+use Rattle.model.specs.declared.Answer.{Answer}
+use Rattle.model.specs.Screens.{linesOf, columnsOf, placeOf, cellAt}
+use Rattle.model.specs.Calls.{Terminal, Request, request, message, served, answerOf, printedBy}
+use Rattle.model.specs.Opening.{openedTerminal}
+
+-- what an example says of the answer, of what is left and of the printer bytes; screens are 1 and 2 here
+pub data Fact : Type 0 where
+  counts : ℕ → ℕ → ℕ → ℕ → Fact  -- taken, accepted, refused, printed; number 0
+  firstRefusal : ℕ → ℕ → Fact  -- number and offset
+  cursorAt : ℕ → ℕ → Fact  -- line and column, of screen 1
+  top : ℕ → Fact  -- of screen 1
+  selected : ℕ → Fact
+  lines : ℕ → ℕ → Fact  -- of screens 1 and 2
+  columns : ℕ → ℕ → Fact
+  cell : ℕ → ℕ → ℕ → ℕ → Fact  -- screen, line, column, byte
+  layer : ℕ → ℕ → ℕ → ℕ → Fact  -- row, column, mark and code
+  shows : ℕ → ℕ → ℕ → Fact  -- row, column, byte
+  showsDown : ℕ → ℕ → Fact  -- a column, in all eight rows, and the byte
+  blank : Fact  -- all 640 places
+  blankCells : Fact  -- all 3,840 cells
+  printedByte : ℕ → ℕ → Fact  -- printer byte by its number, from 0
+  led : ℕ → ℕ → Fact  -- INS, CAPS, NUM as 1 to 3, and 0 or 1
+  arrow : ℕ → ℕ → Fact  -- arrow code by its number, from 1
+  pattern : ℕ → ℕ → ℕ → Fact  -- code, row from 1, byte
+  keySettings : ℕ → ℕ → ℕ → ℕ → ℕ → ℕ → Fact  -- set, key strings, repeat, its two numbers, shift
+  displayed : ℕ → ℕ → ℕ → ℕ → Fact  -- cursor on, its type, key display, boundary
+
+-- every byte is c
+abbrev pub allAre : ℕ → List ℕ → Bool
+allAre c [] = true
+allAre c (x ∷ xs) = elim (eqb x c) [ true ↦ allAre c xs | false ↦ false ]
+
+-- rows 1 to n of a shown screen have byte b in column c
+abbrev pub down? : ℕ → ℕ → ℕ → List ℕ → Bool
+down? zero c b xs = true
+down? (suc n) c b xs = elim (eqb (getD xs (80 * n + (c - 1)) 0) b) [ true ↦ down? n c b xs | false ↦ false ]
+
+-- a fact, of what a call left, its answer and its printer bytes
+unfoldable pub holds : Fact → Terminal → Answer → List ℕ → Bool
+holds (counts t a r p) d w bs = eqb (w .number) 0 && eqb (w .taken) t && eqb (w .accepted) a && eqb (w .refused) r && eqb (w .printed) p && eqb (length bs) p
+holds (firstRefusal n o) d w bs = eqb (w .first) n && eqb (w .offset) o
+holds (cursorAt l c) d w bs = eqb (placeOf (d .state .settings) 0 .line) l && eqb (placeOf (d .state .settings) 0 .column) c
+holds (top t) d w bs = eqb (placeOf (d .state .settings) 0 .top) t
+holds (selected k) d w bs = eqb (d .state .settings .selected + 1) k
+holds (lines a b) d w bs = eqb (linesOf (d .state .settings) 0) a && eqb (linesOf (d .state .settings) 1) b
+holds (columns a b) d w bs = eqb (columnsOf (d .state .settings) 0) a && eqb (columnsOf (d .state .settings) 1) b
+holds (cell k l c b) d w bs = eqb (getD (d .state .cells) (cellAt (d .state .settings) (k - 1) l c) 0) b
+holds (layer r c m p) d w bs = eqb (getD (d .state .layer) (80 * (r - 1) + (c - 1)) 2) m && eqb (getD (d .state .layer) (640 + (80 * (r - 1) + (c - 1))) 2) p
+holds (shows r c b) d w bs = eqb (getD (d .shown) (80 * (r - 1) + (c - 1)) 0) b
+holds (showsDown c b) d w bs = down? 8 c b (d .shown)
+holds blank d w bs = eqb (length (d .shown)) 640 && allAre 32 (d .shown)
+holds blankCells d w bs = eqb (length (d .state .cells)) 3840 && allAre 32 (d .state .cells)
+holds (printedByte i b) d w bs = eqb (getD bs i 0) b
+holds (led k b) d w bs = eqb (getD (d .state .settings .keys .leds) (k - 1) 2) b
+holds (arrow k b) d w bs = eqb (getD (d .state .settings .keys .arrows) (k - 1) 0) b
+holds (pattern c r b) d w bs = eqb (getD (d .state .settings .patterns) ((c - 224) * 8 + (r - 1)) 0) b
+holds (keySettings c s r a b h) d w bs = let k = d .state .settings .keys in eqb (k .charset) c && eqb (k .strings) s && eqb (k .repeat) r && eqb (k .delay) a && eqb (k .interval) b && eqb (k .shift) h
+holds (displayed o n e p) d w bs = let s = d .state .settings in eqb (s .cursor) o && eqb (s .kind) n && eqb (s .display) e && eqb (s .boundary) p
+
+-- all facts of an example
+unfoldable pub allHold : List Fact → Terminal → Answer → List ℕ → Bool
+allHold [] d w bs = true
+allHold (f ∷ fs) d w bs = elim (holds f d w bs) [ true ↦ allHold fs d w bs | false ↦ false ]
+
+-- a message, its printer room, and its facts
+pub record Example : Type 0 where
+  pub sent : List ℕ
+  pub room : ℕ
+  pub facts : List Fact
+
+-- with room for one copy
+abbrev pub example : List ℕ → List Fact → Example
+example m fs = record { sent = m; room = 656; facts = fs }
+
+-- with another room
+abbrev pub withRoom : ℕ → List ℕ → List Fact → Example
+withRoom n m fs = record { sent = m; room = n; facts = fs }
+
+-- from the opening, by the rules
+unfoldable pub isRight : Example → Bool
+isRight e =
+    let q : Request = request (message (e .sent)) (e .room) in
+    allHold (e .facts) (served openedTerminal q) (answerOf openedTerminal q) (printedBy openedTerminal q)
+
+-- every example of a list
+unfoldable pub allRight : List Example → Bool
+allRight [] = true
+allRight (e ∷ es) = elim (isRight e) [ true ↦ allRight es | false ↦ false ]
+
+-- refused by 11 at offset 0, all its bytes taken, nothing changed
+abbrev pub refused11 : ℕ → List Fact
+refused11 n = counts n 0 1 0 ∷ firstRefusal 11 0 ∷ cursorAt 1 1 ∷ top 1 ∷ lines 24 24 ∷ columns 80 80 ∷ selected 1 ∷ blankCells ∷ blank ∷ []
+
+-- the table's rows marked P, in its order
+unfoldable pub marked : List Example
+marked =
+    example [] (counts 0 0 0 0 ∷ firstRefusal 0 0 ∷ blank ∷ blankCells ∷ keySettings 85 1 1 32 16 0 ∷ displayed 1 0 1 32 ∷ [])
+    ∷ example (65 ∷ []) (counts 1 0 0 0 ∷ shows 1 1 65 ∷ cell 1 1 1 65 ∷ cursorAt 1 2 ∷ [])
+    ∷ example (replicate 10 10) (counts 10 0 0 0 ∷ cursorAt 11 1 ∷ top 4 ∷ [])
+    ∷ example (27 ∷ 61 ∷ 43 ∷ 32 ∷ []) (counts 4 1 0 0 ∷ cursorAt 12 1 ∷ top 8 ∷ [])
+    ∷ example (27 ∷ 61 ∷ 56 ∷ 32 ∷ []) (refused11 4)
+    ∷ example (27 ∷ 61 ∷ 55 ∷ 111 ∷ []) (counts 4 1 0 0 ∷ cursorAt 24 80 ∷ [])
+    ∷ example (27 ∷ 208 ∷ 0 ∷ 24 ∷ 25 ∷ []) (refused11 5)
+    ∷ example (27 ∷ 208 ∷ 0 ∷ 24 ∷ 24 ∷ []) (counts 5 1 0 0 ∷ firstRefusal 0 0 ∷ lines 24 24 ∷ [])
+    ∷ example (27 ∷ 208 ∷ 0 ∷ 7 ∷ 24 ∷ []) (refused11 5)
+    ∷ example (27 ∷ 208 ∷ 2 ∷ 10 ∷ 20 ∷ 35 ∷ []) (counts 6 1 0 0 ∷ columns 20 59 ∷ lines 10 10 ∷ showsDown 21 35 ∷ showsDown 20 32 ∷ showsDown 22 32 ∷ [])
+    ∷ example (27 ∷ 144 ∷ 1 ∷ 24 ∷ []) (refused11 4)
+    ∷ example (27 ∷ 144 ∷ 0 ∷ 24 ∷ []) (counts 4 1 0 0 ∷ firstRefusal 0 0 ∷ [])
+    ∷ example (27 ∷ 144 ∷ 0 ∷ 0 ∷ []) (refused11 4)
+    ∷ example (27 ∷ 209 ∷ []) (counts 2 1 0 0 ∷ firstRefusal 0 0 ∷ selected 1 ∷ [])
+    ∷ example (27 ∷ 209 ∷ 65 ∷ []) (refused11 3)
+    ∷ example (27 ∷ []) (counts 1 0 1 0 ∷ firstRefusal 12 0 ∷ [])
+    ∷ example (27 ∷ 37 ∷ 27 ∷ []) (counts 3 1 0 0 ∷ cell 1 1 1 27 ∷ cursorAt 1 2 ∷ [])
+    ∷ []
+
+-- rows of the table that are not marked, and the example of the program "show"
+unfoldable pub unmarked : List Example
+unmarked =
+    example (replicate 80 65) (counts 80 0 0 0 ∷ cursorAt 2 1 ∷ shows 1 1 65 ∷ shows 1 80 65 ∷ shows 2 1 32 ∷ [])
+    -- 24 of 10: one lift, on a screen with A and B in lines 1 and 2
+    ∷ example (replicate 24 10) (counts 24 0 0 0 ∷ cursorAt 24 1 ∷ top 17 ∷ [])
+    ∷ example (65 ∷ 13 ∷ 10 ∷ 66 ∷ 13 ∷ replicate 23 10) (counts 28 0 0 0 ∷ cursorAt 24 1 ∷ top 17 ∷ cell 1 1 1 66 ∷ cell 1 2 1 32 ∷ cell 1 24 1 32 ∷ [])
+    -- the three tops 9, 17, 17
+    ∷ example (27 ∷ 148 ∷ 8 ∷ 27 ∷ 151 ∷ []) (counts 5 2 0 0 ∷ top 9 ∷ [])
+    ∷ example (27 ∷ 148 ∷ 8 ∷ 27 ∷ 151 ∷ 27 ∷ 151 ∷ []) (counts 7 3 0 0 ∷ top 17 ∷ [])
+    ∷ example (27 ∷ 148 ∷ 8 ∷ 27 ∷ 151 ∷ 27 ∷ 151 ∷ 27 ∷ 151 ∷ []) (counts 9 4 0 0 ∷ top 17 ∷ [])
+    -- a copy, by its room
+    ∷ withRoom 655 (27 ∷ 80 ∷ []) (counts 2 0 1 0 ∷ firstRefusal 13 0 ∷ [])
+    ∷ withRoom 656 (27 ∷ 80 ∷ []) (counts 2 1 0 656 ∷ firstRefusal 0 0 ∷ [])
+    ∷ withRoom 656 (27 ∷ 37 ∷ 7 ∷ 66 ∷ 27 ∷ 80 ∷ []) (counts 6 2 0 656 ∷ printedByte 0 32 ∷ printedByte 1 66 ∷ printedByte 79 32 ∷ printedByte 80 13 ∷ printedByte 81 10 ∷ printedByte 82 32 ∷ printedByte 654 13 ∷ printedByte 655 10 ∷ [])
+    ∷ withRoom 1311 (27 ∷ 80 ∷ 65 ∷ 27 ∷ 80 ∷ []) (counts 5 1 1 656 ∷ firstRefusal 13 3 ∷ [])
+    ∷ example (65 ∷ 27 ∷ 27 ∷ 66 ∷ []) (counts 4 0 1 0 ∷ firstRefusal 10 1 ∷ shows 1 1 65 ∷ shows 1 2 66 ∷ [])
+    ∷ []
+
+-- A, B and C in lines 1, 2 and 3
+abbrev abc : List ℕ
+abc = 65 ∷ 13 ∷ 10 ∷ 66 ∷ 13 ∷ 10 ∷ 67 ∷ []
+
+-- the same in lines 23, 24 and 22
+abbrev last : List ℕ
+last = 27 ∷ 61 ∷ 54 ∷ 32 ∷ 65 ∷ 27 ∷ 61 ∷ 55 ∷ 32 ∷ 66 ∷ 27 ∷ 61 ∷ 53 ∷ 32 ∷ 67 ∷ []
+
+-- where the table is silent
+unfoldable pub added : List Example
+added =
+    -- mode 1's picture: the left half's last column in row 8, and the window's ninth line right, in row 1
+    example (27 ∷ 208 ∷ 1 ∷ 16 ∷ 65 ∷ 27 ∷ 61 ∷ 39 ∷ 70 ∷ 67 ∷ 68 ∷ []) (counts 11 2 0 0 ∷ columns 39 39 ∷ lines 16 16 ∷ shows 1 1 65 ∷ shows 8 39 67 ∷ showsDown 40 32 ∷ showsDown 41 32 ∷ shows 1 42 68 ∷ cursorAt 9 2 ∷ [])
+    -- its last column right, in column 80, and the window's last line in row 8
+    ∷ example (27 ∷ 208 ∷ 1 ∷ 16 ∷ 27 ∷ 61 ∷ 46 ∷ 70 ∷ 69 ∷ 27 ∷ 61 ∷ 47 ∷ 32 ∷ 70 ∷ []) (cell 1 15 39 69 ∷ shows 7 80 69 ∷ shows 8 42 70 ∷ cursorAt 16 2 ∷ top 1 ∷ [])
+    -- the same with the window's top at 9: 215 by half of 16 from line 17
+    ∷ example (27 ∷ 208 ∷ 1 ∷ 24 ∷ 27 ∷ 61 ∷ 48 ∷ 32 ∷ 65 ∷ 27 ∷ 215 ∷ []) (cursorAt 17 2 ∷ top 9 ∷ shows 1 42 65 ∷ shows 1 1 32 ∷ [])
+    -- mode 2: each screen by its own top, the second behind the boundary
+    ∷ example (27 ∷ 208 ∷ 2 ∷ 10 ∷ 20 ∷ 35 ∷ 65 ∷ 27 ∷ 209 ∷ 1 ∷ 66 ∷ 27 ∷ 61 ∷ 34 ∷ 32 ∷ 67 ∷ 27 ∷ 213 ∷ []) (counts 18 4 0 0 ∷ top 1 ∷ shows 1 1 65 ∷ shows 1 22 67 ∷ cell 2 1 1 66 ∷ cell 2 3 1 67 ∷ selected 2 ∷ [])
+    -- a mark of the layer; printing there empties that place, 209 the whole layer, a lift too
+    ∷ example (27 ∷ 210 ∷ 2 ∷ 3 ∷ 90 ∷ []) (shows 2 3 90 ∷ cell 1 2 3 32 ∷ layer 2 3 1 90 ∷ [])
+    ∷ example (27 ∷ 210 ∷ 1 ∷ 1 ∷ 90 ∷ 27 ∷ 210 ∷ 8 ∷ 80 ∷ 91 ∷ 65 ∷ []) (shows 1 1 65 ∷ layer 1 1 0 0 ∷ shows 8 80 91 ∷ layer 8 80 1 91 ∷ [])
+    ∷ example (27 ∷ 210 ∷ 1 ∷ 1 ∷ 90 ∷ 27 ∷ 209 ∷ 0 ∷ []) (counts 8 2 0 0 ∷ blank ∷ layer 1 1 0 0 ∷ [])
+    ∷ example (27 ∷ 61 ∷ 55 ∷ 32 ∷ 27 ∷ 210 ∷ 1 ∷ 1 ∷ 90 ∷ 10 ∷ []) (blank ∷ layer 1 1 0 0 ∷ cursorAt 24 1 ∷ [])
+    -- 212 with the top unmoved leaves it
+    ∷ example (27 ∷ 210 ∷ 1 ∷ 1 ∷ 90 ∷ 27 ∷ 212 ∷ []) (shows 1 1 90 ∷ layer 1 1 1 90 ∷ [])
+    -- secret over the layer, and printing under secret
+    ∷ example (65 ∷ 27 ∷ 210 ∷ 1 ∷ 1 ∷ 90 ∷ 27 ∷ 123 ∷ []) (blank ∷ cell 1 1 1 65 ∷ layer 1 1 1 90 ∷ [])
+    ∷ example (27 ∷ 210 ∷ 1 ∷ 1 ∷ 90 ∷ 27 ∷ 123 ∷ 65 ∷ 27 ∷ 125 ∷ []) (shows 1 1 65 ∷ layer 1 1 0 0 ∷ [])
+    -- 144 and 145 at the screen's first and last lines: the region is a+1 to a+m, and no line outside changes
+    ∷ example (abc ++ (27 ∷ 144 ∷ 0 ∷ 2 ∷ [])) (cell 1 1 1 66 ∷ cell 1 2 1 32 ∷ cell 1 3 1 67 ∷ [])
+    ∷ example (abc ++ (27 ∷ 145 ∷ 0 ∷ 2 ∷ [])) (cell 1 1 1 32 ∷ cell 1 2 1 65 ∷ cell 1 3 1 67 ∷ [])
+    ∷ example (last ++ (27 ∷ 144 ∷ 22 ∷ 2 ∷ [])) (cell 1 22 1 67 ∷ cell 1 23 1 66 ∷ cell 1 24 1 32 ∷ [])
+    ∷ example (last ++ (27 ∷ 145 ∷ 22 ∷ 2 ∷ [])) (cell 1 22 1 67 ∷ cell 1 23 1 32 ∷ cell 1 24 1 65 ∷ [])
+    ∷ example (27 ∷ 144 ∷ 23 ∷ 1 ∷ 27 ∷ 145 ∷ 24 ∷ 1 ∷ 27 ∷ 145 ∷ 0 ∷ 25 ∷ []) (counts 12 1 2 0 ∷ firstRefusal 11 4 ∷ [])
+    -- 84 and 89 take in the cursor's cell
+    ∷ example (abc ++ (27 ∷ 61 ∷ 33 ∷ 32 ∷ 68 ∷ 69 ∷ 70 ∷ 27 ∷ 61 ∷ 33 ∷ 33 ∷ 27 ∷ 84 ∷ [])) (cell 1 1 1 65 ∷ cell 1 2 1 68 ∷ cell 1 2 2 32 ∷ cell 1 2 3 32 ∷ cell 1 3 1 67 ∷ [])
+    ∷ example (abc ++ (27 ∷ 61 ∷ 33 ∷ 32 ∷ 68 ∷ 69 ∷ 70 ∷ 27 ∷ 61 ∷ 33 ∷ 33 ∷ 27 ∷ 89 ∷ [])) (cell 1 1 1 65 ∷ cell 1 2 1 68 ∷ cell 1 2 2 32 ∷ cell 1 2 3 32 ∷ cell 1 3 1 32 ∷ [])
+    -- 84, 89, 144, 145 and a top that changes empty the layer
+    ∷ example (27 ∷ 210 ∷ 2 ∷ 3 ∷ 90 ∷ 27 ∷ 84 ∷ []) (layer 2 3 0 0 ∷ [])
+    ∷ example (27 ∷ 210 ∷ 2 ∷ 3 ∷ 90 ∷ 27 ∷ 89 ∷ []) (layer 2 3 0 0 ∷ [])
+    ∷ example (27 ∷ 210 ∷ 2 ∷ 3 ∷ 90 ∷ 27 ∷ 144 ∷ 4 ∷ 1 ∷ []) (layer 2 3 0 0 ∷ [])
+    ∷ example (27 ∷ 210 ∷ 2 ∷ 3 ∷ 90 ∷ 27 ∷ 145 ∷ 4 ∷ 1 ∷ []) (layer 2 3 0 0 ∷ [])
+    ∷ example (27 ∷ 210 ∷ 2 ∷ 3 ∷ 90 ∷ 27 ∷ 151 ∷ []) (layer 2 3 0 0 ∷ top 2 ∷ [])
+    -- without tracking the window stays; 150 stops at the least top
+    ∷ example (27 ∷ 149 ∷ 1 ∷ replicate 10 10) (cursorAt 11 1 ∷ top 1 ∷ [])
+    ∷ example (27 ∷ 213 ∷ 27 ∷ 148 ∷ 5 ∷ 27 ∷ 150 ∷ []) (top 12 ∷ [])
+    ∷ example (27 ∷ 151 ∷ 27 ∷ 148 ∷ 8 ∷ 27 ∷ 150 ∷ []) (top 1 ∷ [])
+    -- what is only stored, each by its own byte
+    ∷ example (27 ∷ 160 ∷ 27 ∷ 164 ∷ 27 ∷ 67 ∷ 78 ∷ 27 ∷ 176 ∷ 27 ∷ 240 ∷ 0 ∷ 27 ∷ 241 ∷ 127 ∷ 27 ∷ 242 ∷ 1 ∷ 27 ∷ 247 ∷ 66 ∷ []) (led 1 1 ∷ led 2 0 ∷ led 3 1 ∷ keySettings 78 0 0 127 1 66 ∷ counts 21 8 0 0 ∷ [])
+    ∷ example (27 ∷ 162 ∷ 27 ∷ 160 ∷ 27 ∷ 161 ∷ 27 ∷ 50 ∷ 27 ∷ 214 ∷ 3 ∷ 27 ∷ 211 ∷ 0 ∷ []) (led 1 0 ∷ led 2 1 ∷ led 3 0 ∷ displayed 0 3 0 32 ∷ counts 14 6 0 0 ∷ [])
+    ∷ example (27 ∷ 243 ∷ 1 ∷ 2 ∷ 3 ∷ 4 ∷ 27 ∷ 244 ∷ 5 ∷ 6 ∷ 7 ∷ 8 ∷ 27 ∷ 245 ∷ 9 ∷ 10 ∷ 11 ∷ 12 ∷ []) (arrow 1 1 ∷ arrow 4 4 ∷ arrow 5 5 ∷ arrow 8 8 ∷ arrow 9 9 ∷ arrow 12 12 ∷ counts 18 3 0 0 ∷ [])
+    ∷ example (27 ∷ 224 ∷ 230 ∷ 12 ∷ 12 ∷ 30 ∷ 63 ∷ 12 ∷ 18 ∷ 0 ∷ 0 ∷ []) (pattern 230 1 12 ∷ pattern 230 3 30 ∷ pattern 230 6 18 ∷ pattern 230 8 0 ∷ pattern 229 8 0 ∷ pattern 231 1 0 ∷ counts 11 1 0 0 ∷ [])
+    -- a refused 208 changes nothing; 27,208,9 is three bytes and 11; 27,208 at the end is 12
+    ∷ example (65 ∷ 27 ∷ 208 ∷ 0 ∷ 7 ∷ 24 ∷ []) (counts 6 0 1 0 ∷ firstRefusal 11 1 ∷ shows 1 1 65 ∷ cell 1 1 1 65 ∷ cursorAt 1 2 ∷ lines 24 24 ∷ [])
+    ∷ example (65 ∷ 27 ∷ 208 ∷ 3 ∷ 27 ∷ 208 ∷ 9 ∷ 27 ∷ 208 ∷ []) (counts 9 0 3 0 ∷ firstRefusal 14 1 ∷ shows 1 1 65 ∷ cursorAt 1 2 ∷ [])
+    ∷ example (27 ∷ 208 ∷ 9 ∷ []) (counts 3 0 1 0 ∷ firstRefusal 11 0 ∷ [])
+    ∷ example (27 ∷ 208 ∷ []) (counts 2 0 1 0 ∷ firstRefusal 12 0 ∷ [])
+    -- a sequence that is cut is 12 though a parameter is bad already
+    ∷ example (27 ∷ 208 ∷ 2 ∷ 99 ∷ []) (counts 4 0 1 0 ∷ firstRefusal 12 0 ∷ [])
+    -- 213: the window's last line is the screen's
+    ∷ example (27 ∷ 213 ∷ []) (counts 2 1 0 0 ∷ top 17 ∷ cursorAt 1 1 ∷ [])
+    -- a second screen keeps its own cursor and cells
+    ∷ example (65 ∷ 27 ∷ 209 ∷ 1 ∷ 66 ∷ 27 ∷ 209 ∷ []) (counts 7 2 0 0 ∷ cursorAt 1 2 ∷ cell 1 1 1 65 ∷ cell 2 1 1 66 ∷ shows 1 1 65 ∷ selected 1 ∷ [])
+    ∷ []

@@ -1,0 +1,93 @@
+-- Document 01, "Lists of messages": "An accepted message is read into items; each in turn changes what stands as its rule
+-- says"; and of "Stores and calls" the counts of the answer, which the items fix.
+use Prim.Native.Nat.{ℕ, _+_, _-_}
+use mathlib.Core.Bool.{cond}
+use mathlib.Core.List.{List, [], _∷_, _++_, map}
+use lib.ListN.{length}
+use lib.Dec.{eqb}
+use Rattle.model.specs.declared.Answer.{Answer}
+use Rattle.model.specs.declared.Item.{Item}
+use Rattle.model.specs.declared.Item.the-variants.{Printed, Control, Sequence, Refused}
+use Rattle.model.specs.State.{State}
+use Rattle.model.specs.Picture.{copied, copySize}
+use Rattle.model.specs.Sequences.{codeOf}
+use Rattle.model.specs.Reading.{Read, byteOf, itemOf}
+use Rattle.model.specs.declared.Limits.{Limits}
+use Rattle.model.specs.Judging.{limitsOf, judged}
+use Rattle.model.specs.Rules.{applyItem}
+
+-- the item of some bytes at an offset, judged
+abbrev pub read : ℕ → List ℕ → Limits → ℕ → Read
+read at bs s room = record { at = at; item = judged (itemOf at bs) s room; bytes = bs }
+
+-- what it does, with its own bytes
+abbrev pub obeyedBy : Read → State → State
+obeyedBy r st = applyItem (byteOf r) (r .item) st
+
+-- printer bytes that an item takes: 8 rows of 80, each followed by 13, 10
+abbrev pub printerBytes : Item → ℕ
+printerBytes (Printed c) = 0
+printerBytes (Control c) = 0
+printerBytes (Sequence q) = cond (eqb (codeOf q) 80) copySize 0
+printerBytes (Refused n) = 0
+
+-- the items of these bytes, the first at an offset, each read with what those before it left
+unfoldable pub readsOf : List (List ℕ) → ℕ → State → ℕ → List Read
+readsOf [] at st room = []
+readsOf (bs ∷ bss) at st room =
+    let r = read at bs (limitsOf (st .settings)) room in
+    r ∷ readsOf bss (at + length bs) (obeyedBy r st) (room - printerBytes (r .item))
+
+-- the bytes of each item that was read
+abbrev pub bytesRead : List Read → List (List ℕ)
+bytesRead rs = map (λ (r : Read). r .bytes) rs
+
+-- what happens to what stands: an item that is read
+pub data Event : Type 0 where
+  itemRead : Read → Event
+
+-- the events of what is read
+abbrev pub eventsOf : List Read → List Event
+eventsOf [] = []
+eventsOf (r ∷ rs) = itemRead r ∷ eventsOf rs
+
+-- what an event does
+unfoldable pub happened : Event → State → State
+happened (itemRead r) st = obeyedBy r st
+
+-- "each in turn"
+unfoldable pub applyAll : List Event → State → State
+applyAll [] st = st
+applyAll (e ∷ es) st = applyAll es (happened e st)
+
+-- 80: "appends the picture at that moment"
+abbrev pub copyOf : Item → State → List ℕ
+copyOf (Printed c) st = []
+copyOf (Control c) st = []
+copyOf (Sequence q) st = cond (eqb (codeOf q) 80) (copied st) []
+copyOf (Refused n) st = []
+
+-- the bytes that an event prints
+abbrev pub printsOf : Event → State → List ℕ
+printsOf (itemRead r) st = copyOf (r .item) st
+
+-- the bytes that events print, one behind the other
+unfoldable pub copies : List Event → State → List ℕ
+copies [] st = []
+copies (e ∷ es) st = printsOf e st ++ copies es (happened e st)
+
+-- the answer before any item: "zero counts, its number"
+abbrev pub blankAnswer : ℕ → Answer
+blankAnswer n = record { number = n; taken = 0; accepted = 0; refused = 0; first = 0; offset = 0; printed = 0 }
+
+-- one item more, of so many bytes, at an offset
+abbrev pub counted : Item → ℕ → ℕ → Answer → Answer
+counted (Printed c) n at a = record { number = a .number; taken = a .taken + n; accepted = a .accepted; refused = a .refused; first = a .first; offset = a .offset; printed = a .printed }
+counted (Control c) n at a = record { number = a .number; taken = a .taken + n; accepted = a .accepted; refused = a .refused; first = a .first; offset = a .offset; printed = a .printed }
+counted (Sequence q) n at a = record { number = a .number; taken = a .taken + n; accepted = a .accepted + 1; refused = a .refused; first = a .first; offset = a .offset; printed = a .printed + printerBytes (Sequence q) }
+counted (Refused k) n at a = record { number = a .number; taken = a .taken + n; accepted = a .accepted; refused = a .refused + 1; first = cond (eqb (a .refused) 0) k (a .first); offset = cond (eqb (a .refused) 0) at (a .offset); printed = a .printed }
+
+-- "number, bytes taken, sequences accepted, sequences refused, number and offset of the first refusal (0 and 0 if none), printer bytes"
+unfoldable pub countedAll : List Read → Answer → Answer
+countedAll [] a = a
+countedAll (r ∷ rs) a = countedAll rs (counted (r .item) (length (r .bytes)) (r .at) a)

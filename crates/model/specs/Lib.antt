@@ -1,0 +1,16 @@
+pub mod Bytes
+pub mod State
+pub mod Screens
+pub mod Checks
+pub mod Sound
+pub mod Picture
+pub mod Sequences
+pub mod Reading
+pub mod Judging
+pub mod Rules
+pub mod Items
+pub mod Calls
+pub mod Opening
+pub mod Claims
+pub mod Demand
+pub mod Examples

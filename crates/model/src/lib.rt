@@ -1,0 +1,193 @@
+// The types of the terminal. What they mean, and every rule, is in specs/.
+
+// Of one screen: cursor line, cursor column and window top, each from 1.
+#[repr(C)]
+pub struct Place {
+    pub line: u8,
+    pub column: u8,
+    pub top: u8,
+}
+
+// What is only stored of the keyboard.
+#[repr(C)]
+pub struct Keys {
+    pub leds: [u8; 3],
+    pub charset: u8,
+    pub strings: u8,
+    pub repeat: u8,
+    pub delay: u8,
+    pub interval: u8,
+    pub shift: u8,
+    pub arrows: [u8; 12],
+}
+
+// The settings. `selected` is 0 for screen 1 and 1 for screen 2, and picks the place. `cursor` is whether the cursor is on, `kind` its
+// type, `display` the key display; a flag is 1 when on.
+#[repr(C)]
+pub struct Settings {
+    pub mode: u8,
+    pub lines1: u8,
+    pub lines2: u8,
+    pub columns1: u8,
+    pub columns2: u8,
+    pub boundary: u8,
+    pub selected: u8,
+    pub places: [Place; 2],
+    pub tracking: u8,
+    pub step: u8,
+    pub secret: u8,
+    pub cursor: u8,
+    pub display: u8,
+    pub kind: u8,
+    pub keys: Keys,
+    pub patterns: [u8; 248],
+}
+
+// A whole sequence, one case a second byte (208: a mode byte), its parameters as sent.
+// The rows of a pattern are named by the offset of the first in the message.
+pub enum Sequence {
+    PrintCode(u8),
+    Clear,
+    CursorOff,
+    CursorOn,
+    Put {
+        line: u8,
+        column: u8,
+    },
+    Charset(u8),
+    Copy,
+    EraseLine,
+    EraseRest,
+    SecretOn,
+    SecretOff,
+    LinesUp {
+        from: u8,
+        count: u8,
+    },
+    LinesDown {
+        from: u8,
+        count: u8,
+    },
+    Step(u8),
+    Tracking(u8),
+    WindowUp,
+    WindowDown,
+    InsOn,
+    InsOff,
+    CapsOn,
+    CapsOff,
+    NumOn,
+    NumOff,
+    StringsOff,
+    StringsOn,
+    DrawLine {
+        p1: u8,
+        p2: u8,
+        p3: u8,
+        p4: u8,
+        p5: u8,
+        p6: u8,
+        p7: u8,
+        p8: u8,
+        p9: u8,
+        p10: u8,
+        p11: u8,
+    },
+    DrawDot {
+        p1: u8,
+        p2: u8,
+        p3: u8,
+        p4: u8,
+    },
+    Mode0 {
+        lines1: u8,
+        lines2: u8,
+    },
+    Mode1 {
+        lines: u8,
+    },
+    Mode2 {
+        lines: u8,
+        columns: u8,
+        boundary: u8,
+    },
+    Select(u8),
+    Mark {
+        row: u8,
+        column: u8,
+        code: u8,
+    },
+    Display(u8),
+    WindowTop,
+    WindowBottom,
+    CursorKind(u8),
+    WindowCursor,
+    Pattern {
+        code: u8,
+        at: u32,
+    },
+    Repeat(u8),
+    RepeatDelay(u8),
+    RepeatInterval(u8),
+    Arrows1 {
+        c1: u8,
+        c2: u8,
+        c3: u8,
+        c4: u8,
+    },
+    Arrows2 {
+        c1: u8,
+        c2: u8,
+        c3: u8,
+        c4: u8,
+    },
+    Arrows3 {
+        c1: u8,
+        c2: u8,
+        c3: u8,
+        c4: u8,
+    },
+    Nothing,
+    Shift(u8),
+}
+
+// What parameters are judged by: the lines and columns of the selected screen, and the window's height H.
+pub struct Limits {
+    pub lines: u8,
+    pub columns: u8,
+    pub height: u8,
+}
+
+// A printed byte, a control code, a sequence (accepted, once it is judged), or a refusal with its number.
+pub enum Item {
+    Printed(u8),
+    Control(u8),
+    Sequence(Sequence),
+    Refused(u8),
+}
+
+// The answer of the message call.
+#[repr(C)]
+pub struct Answer {
+    pub number: u8,
+    pub taken: u32,
+    pub accepted: u32,
+    pub refused: u32,
+    pub first: u8,
+    pub offset: u32,
+    pub printed: usize,
+}
+
+// What the message call returns.
+#[repr(C)]
+pub struct Outcome {
+    pub settings: Settings,
+    pub answer: Answer,
+}
+
+// What the opening call returns.
+#[repr(C)]
+pub struct Opened {
+    pub settings: Settings,
+    pub number: u8,
+}
