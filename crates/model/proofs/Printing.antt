@@ -25,7 +25,7 @@ use Rattle.model.proofs.Tests.{cond-at, cond₂}
 use Rattle.model.proofs.ByteLaws.{length-listFrom, length-written}
 use Rattle.model.proofs.Gathering.{AllSome, joined-uncut, none, some, some-uncut}
 
-length-rows : (f : ℕ → ℕ) (r n : ℕ) → length (copiedRows f r n) ≡ n * 82
+pub length-rows : (f : ℕ → ℕ) (r n : ℕ) → length (copiedRows f r n) ≡ n * 82
 unfolding copiedRows
 length-rows f r zero = refl
 length-rows f r (suc n) =
@@ -46,7 +46,7 @@ length-copy (Sequence q) st = cond₂ (λ (l : List ℕ) (n : ℕ). length l ≡
 length-copy (Refused n) st = refl
 
 -- 13: a copy that is accepted has its room
-fits-room : (i : Item) (room : ℕ) → printerBytes (fitting i room) ≤ room
+pub fits-room : (i : Item) (room : ℕ) → printerBytes (fitting i room) ≤ room
 unfolding fitting
 fits-room (Printed c) room = omega arith
 fits-room (Control c) room = omega arith

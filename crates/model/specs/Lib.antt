@@ -8,6 +8,7 @@ pub mod Sequences
 pub mod Reading
 pub mod Judging
 pub mod Rules
+pub mod OnScreen
 pub mod Items
 pub mod Calls
 pub mod Opening

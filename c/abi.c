@@ -1,0 +1,337 @@
+/*
+ * Holds the header and the archive together: every field of the settings is
+ * set by a sequence of its own and read back through the header's structures,
+ * as are the answer's fields, and refused calls leave every byte alone.
+ *
+ *   gcc -std=c99 -o abi abi.c libboard.a && ./abi
+ *
+ * The last line is `N passed, M failed`; the exit status is 0 if M is 0.
+ */
+#include <stdio.h>
+#include <string.h>
+
+#include "px8.h"
+
+#define GUARD 64
+#define ROOM (2 * PX8_COPY)
+
+/* The stores with bytes between them that nobody may write. */
+typedef struct desk {
+    uint8_t before[GUARD];
+    uint8_t cells[PX8_CELLS];
+    uint8_t between1[GUARD];
+    uint8_t layer[PX8_LAYER];
+    uint8_t between2[GUARD];
+    uint8_t shown[PX8_SHOWN];
+    uint8_t between3[GUARD];
+    uint8_t printer[ROOM];
+    uint8_t after[GUARD];
+} desk;
+
+static desk at, copy;
+static int passed, failed;
+
+static void check(int holds, const char *what)
+{
+    if (holds) {
+        passed++;
+    } else {
+        failed++;
+        printf("failed: %s\n", what);
+    }
+}
+
+/* Fills everything with bytes that differ from their neighbours. */
+static void fill_desk(void)
+{
+    uint8_t *bytes = (uint8_t *)&at;
+    size_t n;
+    for (n = 0; n < sizeof at; n++)
+        bytes[n] = (uint8_t)(n % 251);
+    copy = at;
+}
+
+static int guards_stay(void)
+{
+    return memcmp(at.before, copy.before, GUARD) == 0 &&
+           memcmp(at.between1, copy.between1, GUARD) == 0 &&
+           memcmp(at.between2, copy.between2, GUARD) == 0 &&
+           memcmp(at.between3, copy.between3, GUARD) == 0 &&
+           memcmp(at.after, copy.after, GUARD) == 0;
+}
+
+static px8_opened open_desk(void)
+{
+    return px8_opening(at.cells, PX8_CELLS, at.layer, PX8_LAYER, at.shown, PX8_SHOWN);
+}
+
+static px8_outcome send_message(px8_settings settings, const uint8_t *message, size_t length)
+{
+    return px8_message(settings, message, length, at.cells, PX8_CELLS, at.layer, PX8_LAYER,
+                       at.shown, PX8_SHOWN, at.printer, ROOM);
+}
+
+/* ---- the opening ---- */
+
+static int all(const uint8_t *bytes, size_t length, uint8_t value)
+{
+    size_t n;
+    for (n = 0; n < length; n++)
+        if (bytes[n] != value)
+            return 0;
+    return 1;
+}
+
+static void opening_settings(px8_settings s)
+{
+    int screen;
+    check(s.mode == 0 && s.lines1 == 24 && s.lines2 == 24, "opening: mode and lines");
+    check(s.columns1 == 80 && s.columns2 == 80, "opening: columns");
+    check(s.boundary == 32 && s.selected == 0, "opening: boundary and selected");
+    for (screen = 0; screen < 2; screen++)
+        check(s.places[screen].line == 1 && s.places[screen].column == 1 &&
+                  s.places[screen].top == 1,
+              "opening: places");
+    check(s.tracking == 1 && s.step == 1 && s.secret == 0, "opening: window and secret");
+    check(s.cursor == 1 && s.display == 1 && s.kind == 0, "opening: cursor and display");
+    check(all(s.keys.leds, 3, 0) && s.keys.charset == 'U', "opening: leds and charset");
+    check(s.keys.strings == 1 && s.keys.repeat == 1, "opening: strings and repeat");
+    check(s.keys.delay == 32 && s.keys.interval == 16, "opening: delay and interval");
+    check(s.keys.shift == 0 && all(s.keys.arrows, 12, 0), "opening: shift and arrows");
+    check(all(s.patterns, PX8_PATTERNS, 0), "opening: patterns");
+}
+
+static void opening(void)
+{
+    px8_opened opened;
+    fill_desk();
+    opened = open_desk();
+    check(opened.number == PX8_SERVED, "opening: number");
+    opening_settings(opened.settings);
+    check(all(at.cells, PX8_CELLS, PX8_BLANK), "opening: cells blank");
+    check(all(at.layer, PX8_LAYER, 0), "opening: layer empty");
+    check(all(at.shown, PX8_SHOWN, PX8_BLANK), "opening: shown screen blank");
+    check(guards_stay(), "opening: guards");
+    check(memcmp(at.printer, copy.printer, ROOM) == 0, "opening: printer buffer");
+}
+
+/* ---- every field of the settings ---- */
+
+/* Sends the bytes to a terminal just opened: the settings afterwards must be
+ * the expected ones. Settings have no padding, so all bytes count. */
+static void check_settings(px8_settings expected, const uint8_t *bytes, size_t length,
+                           const char *what)
+{
+    px8_outcome outcome;
+    fill_desk();
+    outcome = send_message(open_desk().settings, bytes, length);
+    check(outcome.answer.number == 0 && outcome.answer.refused == 0 &&
+              memcmp(&outcome.settings, &expected, sizeof expected) == 0 && guards_stay(),
+          what);
+}
+
+/* `change` says how s, the opening settings, is altered by the bytes. */
+#define SETS(change, ...)                                      \
+    do {                                                       \
+        static const uint8_t bytes[] = {__VA_ARGS__};          \
+        px8_settings s = open_desk().settings;                 \
+        change;                                                \
+        check_settings(s, bytes, sizeof bytes, #change);       \
+    } while (0)
+
+static void screens(void)
+{
+    SETS((s.lines1 = 9, s.lines2 = 39), 27, 208, 0, 9, 39);
+    SETS((s.mode = 1, s.lines1 = s.lines2 = 20, s.columns1 = s.columns2 = 39), 27, 208, 1, 20);
+    SETS((s.mode = 2, s.lines1 = s.lines2 = 10, s.columns1 = 20, s.columns2 = 59, s.boundary = 35),
+         27, 208, 2, 10, 20, 35);
+    SETS(s.selected = 1, 27, 209, 1);
+    SETS(s.selected = 0, 27, 209);
+    SETS((s.places[0].line = 3, s.places[0].column = 5), 27, 61, 34, 36);
+    SETS(s.places[0].column = 80, 27, 61, 32, 111);
+    SETS(s.places[0].top = 2, 27, 151);
+    SETS((s.places[0].line = 12, s.places[0].top = 8), 27, 61, 43, 32);
+    SETS((s.selected = 1, s.places[1].line = 4), 27, 209, 1, 10, 10, 10);
+    SETS((s.selected = 1, s.places[1].column = 3), 27, 209, 1, 65, 66);
+    SETS((s.selected = 1, s.places[1].top = 17), 27, 209, 1, 27, 213);
+}
+
+static void switches(void)
+{
+    SETS(s.tracking = 0, 27, 149, 1);
+    SETS(s.tracking = 1, 27, 149, 1, 27, 149, 0);
+    SETS(s.step = 5, 27, 148, 5);
+    SETS(s.secret = 1, 27, 123);
+    SETS(s.secret = 0, 27, 123, 27, 125);
+    SETS(s.cursor = 0, 27, 50);
+    SETS(s.cursor = 1, 27, 50, 27, 51);
+    SETS(s.display = 0, 27, 211, 0);
+    SETS(s.kind = 3, 27, 214, 3);
+}
+
+static void keys(void)
+{
+    SETS(s.keys.leds[0] = 1, 27, 160);
+    SETS(s.keys.leds[1] = 1, 27, 162);
+    SETS(s.keys.leds[2] = 1, 27, 164);
+    SETS(s.keys.leds[0] = 0, 27, 160, 27, 161);
+    SETS(s.keys.leds[1] = 0, 27, 162, 27, 163);
+    SETS(s.keys.leds[2] = 0, 27, 164, 27, 165);
+    SETS(s.keys.charset = 'N', 27, 67, 'N');
+    SETS(s.keys.strings = 0, 27, 176);
+    SETS(s.keys.strings = 1, 27, 176, 27, 177);
+    SETS(s.keys.repeat = 0, 27, 240, 0);
+    SETS(s.keys.delay = 127, 27, 241, 127);
+    SETS(s.keys.interval = 126, 27, 242, 126);
+    SETS(s.keys.shift = 66, 27, 247, 66);
+    SETS(memcpy(s.keys.arrows, "abcd", 4), 27, 243, 'a', 'b', 'c', 'd');
+    SETS(memcpy(s.keys.arrows + 4, "efgh", 4), 27, 244, 'e', 'f', 'g', 'h');
+    SETS(memcpy(s.keys.arrows + 8, "ijkl", 4), 27, 245, 'i', 'j', 'k', 'l');
+}
+
+static void patterns(void)
+{
+    uint8_t bytes[3 + PX8_PATTERN_ROWS];
+    int code, row;
+    for (code = PX8_PATTERN_FIRST; code <= 254; code++) {
+        px8_settings s = open_desk().settings;
+        bytes[0] = 27;
+        bytes[1] = 224;
+        bytes[2] = (uint8_t)code;
+        for (row = 0; row < PX8_PATTERN_ROWS; row++) {
+            bytes[3 + row] = (uint8_t)(code ^ (row + 1));
+            s.patterns[PX8_PATTERN_ROWS * (code - PX8_PATTERN_FIRST) + row] = bytes[3 + row];
+        }
+        check_settings(s, bytes, sizeof bytes, "patterns");
+    }
+}
+
+/* ---- the answer and the stores ---- */
+
+static void answer(void)
+{
+    static const uint8_t bytes[] = {'L', 'O', 'A', 'D', 27, 50, 27, 51, 27,  80,
+                                    27,  80,  27,  214, 9,  27, 1,  'k', 'g'};
+    px8_answer a;
+    fill_desk();
+    a = send_message(open_desk().settings, bytes, sizeof bytes).answer;
+    check(a.number == PX8_SERVED, "answer: number");
+    check(a.taken == 19, "answer: taken");
+    check(a.accepted == 4, "answer: accepted");
+    check(a.refused == 2, "answer: refused");
+    check(a.first == PX8_OUT_OF_RANGE, "answer: first");
+    check(a.offset == 12, "answer: offset");
+    check(a.printed == 2 * PX8_COPY, "answer: printed");
+    check(memcmp(at.shown, "LOADkg ", 7) == 0, "answer: shown screen");
+    check(memcmp(at.cells, at.shown, PX8_SHOWN) == 0, "answer: cells");
+    check(memcmp(at.printer, "LOAD ", 5) == 0, "answer: first copy");
+    check(memcmp(at.printer + PX8_COPY - 3, " \r\n", 3) == 0, "answer: end of a copy");
+    check(guards_stay(), "answer: guards");
+}
+
+static void layer(void)
+{
+    static const uint8_t bytes[] = {27, 210, 8, 80, '*'};
+    const size_t place = PX8_AT(8, 80);
+    fill_desk();
+    send_message(open_desk().settings, bytes, sizeof bytes);
+    check(at.layer[place] == 1 && at.layer[PX8_PLACES + place] == '*', "layer: mark and code");
+    check(at.shown[place] == '*' && at.cells[place] == PX8_BLANK, "layer: shown, not stored");
+}
+
+static void printed(void)
+{
+    static const uint8_t buffer[3] = {1, 2, 3};
+    check(px8_printed(buffer, 3, 0) == 0, "printed: none");
+    check(px8_printed(buffer, 3, 2) == 2, "printed: a part");
+    check(px8_printed(buffer, 3, 3) == 3, "printed: all");
+    check(px8_printed(buffer, 3, 4) == 0, "printed: beyond");
+    check(px8_printed(buffer, 3, (size_t)-1) == 0, "printed: far beyond");
+    check(px8_printed(NULL, 0, 0) == 0 && px8_printed(NULL, 0, 1) == 0, "printed: no buffer");
+}
+
+/* ---- refused calls ---- */
+
+static void check_refused(px8_outcome outcome, px8_settings given, uint8_t number,
+                          const char *what)
+{
+    const px8_answer a = outcome.answer;
+    check(a.number == number && a.taken == 0 && a.accepted == 0 && a.refused == 0 &&
+              a.first == 0 && a.offset == 0 && a.printed == 0 &&
+              memcmp(&outcome.settings, &given, sizeof given) == 0 &&
+              memcmp(&at, &copy, sizeof at) == 0,
+          what);
+}
+
+static void refused_openings(void)
+{
+    const px8_settings settings = open_desk().settings;
+    px8_opened opened;
+    fill_desk();
+    opened = px8_opening(at.cells, PX8_CELLS - 1, at.layer, PX8_LAYER, at.shown, PX8_SHOWN);
+    check(opened.number == PX8_STORE_SIZE &&
+              memcmp(&opened.settings, &settings, sizeof settings) == 0 &&
+              memcmp(&at, &copy, sizeof at) == 0,
+          "opening refused: cells");
+    opened = px8_opening(at.cells, PX8_CELLS, at.layer, PX8_LAYER + 1, at.shown, PX8_SHOWN);
+    check(opened.number == PX8_STORE_SIZE && memcmp(&at, &copy, sizeof at) == 0,
+          "opening refused: layer");
+    opened = px8_opening(NULL, 0, NULL, 0, NULL, 0);
+    check(opened.number == PX8_STORE_SIZE &&
+              memcmp(&opened.settings, &settings, sizeof settings) == 0,
+          "opening refused: null and 0");
+}
+
+static void refused_messages(void)
+{
+    static uint8_t long_message[PX8_MESSAGE_MOST + 1];
+    const px8_settings settings = open_desk().settings;
+    px8_settings unsound = settings;
+    unsound.places[1].top = 18;
+    memset(long_message, 'x', sizeof long_message);
+    fill_desk();
+    check_refused(px8_message(settings, long_message, 4, at.cells, PX8_CELLS, at.layer, PX8_LAYER,
+                              at.shown, PX8_SHOWN - 1, at.printer, ROOM),
+                  settings, PX8_STORE_SIZE, "refused: shown screen too short");
+    check_refused(px8_message(unsound, NULL, 0, NULL, 0, NULL, 0, NULL, 0, NULL, 0), unsound,
+                  PX8_STORE_SIZE, "refused: null and 0");
+    check_refused(send_message(unsound, long_message, sizeof long_message), unsound, PX8_TOO_LONG,
+                  "refused: message too long");
+    check_refused(send_message(unsound, long_message, PX8_MESSAGE_MOST), unsound, PX8_UNSOUND,
+                  "refused: settings not sound");
+}
+
+/* Lengths of 0 with null pointers are served where any length is. */
+static void empty_buffers(void)
+{
+    static const uint8_t bytes[] = {27, 80};
+    px8_settings settings;
+    px8_answer a;
+    fill_desk();
+    settings = open_desk().settings;
+    a = px8_message(settings, NULL, 0, at.cells, PX8_CELLS, at.layer, PX8_LAYER, at.shown,
+                    PX8_SHOWN, NULL, 0)
+            .answer;
+    check(a.number == PX8_SERVED && a.taken == 0, "empty: message and printer buffer");
+    a = px8_message(settings, bytes, sizeof bytes, at.cells, PX8_CELLS, at.layer, PX8_LAYER,
+                    at.shown, PX8_SHOWN, NULL, 0)
+            .answer;
+    check(a.refused == 1 && a.first == PX8_NO_ROOM && a.printed == 0, "empty: a copy refused");
+}
+
+int main(void)
+{
+    opening();
+    screens();
+    switches();
+    keys();
+    patterns();
+    answer();
+    layer();
+    printed();
+    refused_openings();
+    refused_messages();
+    empty_buffers();
+    printf("%d passed, %d failed\n", passed, failed);
+    return failed != 0;
+}

@@ -1,0 +1,187 @@
+/*
+ * A small weighing bay: the load on screen 1, the day's tally on screen 2.
+ *
+ *   gcc -std=c99 -o bay bay.c libboard.a && ./bay
+ *
+ * The load is drawn piece by piece, as a scale sends it, each piece with its
+ * own cursor placing. After each message the answer and the eight lines of the
+ * shown screen are printed; bay.out holds what this program prints.
+ */
+#include <stdio.h>
+#include <string.h>
+
+#include "px8.h"
+
+#define ESC 27
+#define SCREEN_1 0
+#define SCREEN_2 1
+
+/* All that a bay keeps; the library keeps nothing. */
+typedef struct bay {
+    px8_settings settings;
+    uint8_t cells[PX8_CELLS];
+    uint8_t layer[PX8_LAYER];
+    uint8_t shown[PX8_SHOWN];
+    uint8_t printer[PX8_COPY]; /* room for one copy a message */
+} bay;
+
+/* A message on its way. */
+typedef struct message {
+    uint8_t bytes[PX8_MESSAGE_MOST];
+    size_t length;
+} message;
+
+/* ---- writing a message ---- */
+
+static void add(message *to, const void *bytes, size_t length)
+{
+    if (length > sizeof to->bytes - to->length)
+        return;
+    memcpy(to->bytes + to->length, bytes, length);
+    to->length += length;
+}
+
+static void add_text(message *to, const char *text)
+{
+    add(to, text, strlen(text));
+}
+
+/* Places the cursor; lines and columns count from 1. */
+static void add_place(message *to, int line, int column)
+{
+    uint8_t sequence[4];
+    sequence[0] = ESC;
+    sequence[1] = 61;
+    sequence[2] = (uint8_t)(line + 31);
+    sequence[3] = (uint8_t)(column + 31);
+    add(to, sequence, sizeof sequence);
+}
+
+static void add_select(message *to, int screen)
+{
+    uint8_t sequence[3];
+    sequence[0] = ESC;
+    sequence[1] = 209;
+    sequence[2] = (uint8_t)screen;
+    add(to, sequence, sizeof sequence);
+}
+
+static void add_copy(message *to)
+{
+    static const uint8_t sequence[2] = {ESC, 80};
+    add(to, sequence, sizeof sequence);
+}
+
+/* ---- showing what stands ---- */
+
+static int letter(uint8_t code)
+{
+    return code >= 32 && code <= 126 ? code : '.';
+}
+
+/* The eight lines, without trailing blanks. */
+static void show_lines(const uint8_t *shown)
+{
+    int row, column, end;
+    for (row = 1; row <= PX8_ROWS; row++) {
+        end = PX8_WIDTH;
+        while (end > 0 && shown[PX8_AT(row, end)] == PX8_BLANK)
+            end--;
+        printf(end > 0 ? "%d " : "%d", row);
+        for (column = 1; column <= end; column++)
+            putchar(letter(shown[PX8_AT(row, column)]));
+        putchar('\n');
+    }
+}
+
+/* A board would send these bytes to its printer as they are. Here each row
+ * stands between bars, without its 13 and 10. */
+static void show_copy(const uint8_t *copy, size_t length)
+{
+    size_t row;
+    for (row = 0; row + PX8_COPY_ROW <= length; row += PX8_COPY_ROW)
+        printf("printer |%.*s|\n", PX8_WIDTH, (const char *)copy + row);
+}
+
+/* Sends the message, keeps what it leaves and shows it. */
+static void send_message(bay *at, const char *title, message *sent)
+{
+    const px8_outcome outcome =
+        px8_message(at->settings, sent->bytes, sent->length, at->cells, sizeof at->cells,
+                    at->layer, sizeof at->layer, at->shown, sizeof at->shown,
+                    at->printer, sizeof at->printer);
+    const px8_answer answer = outcome.answer;
+    at->settings = outcome.settings;
+    sent->length = 0;
+    printf("%s\n", title);
+    printf("answer %u taken %lu accepted %lu refused %lu first %u at %lu\n",
+           (unsigned)answer.number, (unsigned long)answer.taken,
+           (unsigned long)answer.accepted, (unsigned long)answer.refused,
+           (unsigned)answer.first, (unsigned long)answer.offset);
+    show_lines(at->shown);
+    show_copy(at->printer, px8_printed(at->printer, sizeof at->printer, answer.printed));
+}
+
+/* ---- the bay ---- */
+
+static int open_bay(bay *at)
+{
+    const px8_opened opened = px8_opening(at->cells, sizeof at->cells, at->layer,
+                                          sizeof at->layer, at->shown, sizeof at->shown);
+    at->settings = opened.settings;
+    return opened.number == PX8_SERVED;
+}
+
+static void draw_tally(bay *at, message *next, const char *loads, const char *sum)
+{
+    add_select(next, SCREEN_2);
+    add_place(next, 1, 1);
+    add_text(next, "TALLY OF THE DAY");
+    add_place(next, 3, 1);
+    add_text(next, "loads");
+    add_place(next, 3, 12);
+    add_text(next, loads);
+    add_place(next, 4, 1);
+    add_text(next, "sum kg");
+    add_place(next, 4, 12);
+    add_text(next, sum);
+    send_message(at, "the tally, on screen 2", next);
+}
+
+static void draw_load(bay *at, message *next)
+{
+    add_select(next, SCREEN_1);
+    add_place(next, 4, 30);
+    add_text(next, "LOAD kg");
+    send_message(at, "the label, on screen 1", next);
+    add_place(next, 4, 40);
+    add_text(next, "38");
+    send_message(at, "thousands", next);
+    add_place(next, 4, 43);
+    add_text(next, "500");
+    send_message(at, "the rest", next);
+    add_place(next, 4, 42);
+    add_text(next, ",");
+    send_message(at, "the comma", next);
+}
+
+int main(void)
+{
+    static bay here;
+    static message next;
+    if (!open_bay(&here))
+        return 1;
+    draw_tally(&here, &next, "     12", "412,300");
+    draw_load(&here, &next);
+    draw_tally(&here, &next, "     13", "450,800");
+    add_select(&next, SCREEN_1);
+    send_message(&here, "screen 1 again", &next);
+    add_copy(&next);
+    send_message(&here, "a copy", &next);
+    /* A slip, to show a refusal: there is no line 25. The rest is served. */
+    add_place(&next, 6, 30);
+    add_text(&next, "stable");
+    add_place(&next, 25, 1);
+    send_message(&here, "a line that is not there", &next);
+    return 0;
+}

@@ -1,0 +1,339 @@
+/*
+ * px8.h: the terminal of a weighing bay, as a board's firmware links it.
+ *
+ * The library takes the byte stream that programs write for the Epson PX-8
+ * and keeps two virtual screens, a shown screen of 8 rows by 80 and, on
+ * request, a printed copy of it. There are three calls:
+ *
+ *   px8_opening   makes the stores ready and gives the opening settings
+ *   px8_message   reads one message and brings everything up to date
+ *   px8_printed   how many bytes of a printer buffer to send on
+ *
+ * What the caller keeps. The library allocates nothing, keeps no state of its
+ * own and does no input or output. Settings are a plain value that goes in and
+ * comes back; the three stores (cells, layer, shown screen) and the printer
+ * buffer are the caller's memory, lent for the time of one call. A call's
+ * results depend on its arguments and on the lent bytes alone, so several
+ * terminals, threads or interrupt levels can use the library at once if each
+ * has its own settings and stores.
+ *
+ * A list of calls. Open once; then hand each message the settings and the
+ * three stores just as the call before left them. Nobody else should write
+ * them meanwhile. Settings, cells and layer can be saved and taken up again
+ * later without an opening: they are all that stands, and the next message
+ * paints the shown screen from them.
+ *
+ * Linking. libboard.a is made for x86-64 and its C calling convention. Of the
+ * C library it needs at most memcpy, memmove, memset, memcmp and bcmp.
+ *
+ * Not checked, since C cannot tell: a pointer that is null or dangling
+ * although its length is not 0; a length larger than the buffer; buffers that
+ * overlap each other or the message. Each of these is undefined behaviour.
+ * Everything else is checked. A null pointer with length 0 is an empty buffer.
+ *
+ * C99 or newer, C++98 or newer.
+ */
+#ifndef PX8_H
+#define PX8_H
+
+#include <stddef.h>
+#include <stdint.h>
+
+#ifdef __cplusplus
+extern "C" {
+#endif
+
+/* ---- sizes ---- */
+
+#define PX8_ROWS 8            /* rows of the shown screen */
+#define PX8_WIDTH 80          /* places in a row */
+#define PX8_CELLS 3840        /* bytes of the cells */
+#define PX8_PLACES 640        /* places of the shown screen, PX8_ROWS * PX8_WIDTH */
+#define PX8_LAYER 1280        /* bytes of the layer: 640 marks, then 640 codes */
+#define PX8_SHOWN 640         /* bytes of the shown screen */
+#define PX8_MESSAGE_MOST 4096 /* the longest message that is taken */
+#define PX8_COPY_ROW 82       /* bytes of a row of a printed copy: 80 codes, 13, 10 */
+#define PX8_COPY 656          /* bytes of a printed copy, PX8_ROWS * PX8_COPY_ROW */
+#define PX8_PATTERNS 248      /* bytes of the patterns: 31 codes of 8 rows */
+#define PX8_PATTERN_ROWS 8    /* rows of one pattern */
+#define PX8_PATTERN_FIRST 224 /* the first code with a pattern; the last is 254 */
+#define PX8_BLANK 32          /* what a blank cell holds */
+
+/* Byte of row 1 to 8, column 1 to 80 in the shown screen and in the marks. */
+#define PX8_AT(row, column) (PX8_WIDTH * ((row) - 1) + (column) - 1)
+
+/* ---- numbers ---- */
+
+/* The number of a call: 0, or why the whole call was refused. They are tried
+ * in this order; px8_opening knows only 0 and 1. */
+#define PX8_SERVED 0     /* the call was served */
+#define PX8_STORE_SIZE 1 /* cells, layer or shown screen are not of their size */
+#define PX8_TOO_LONG 2   /* the message is longer than PX8_MESSAGE_MOST */
+#define PX8_UNSOUND 3    /* a setting is outside its range (see px8_settings) */
+
+/* The number of the first refused sequence of a message that was served. A
+ * refused sequence is skipped, and changes nothing but the counts and the
+ * first refusal. Sequences are checked in the order 10, 12, 14, 11, 13. */
+#define PX8_NOT_LISTED 10   /* the byte after ESC is not in the list; 2 bytes skipped */
+#define PX8_OUT_OF_RANGE 11 /* a parameter is outside its range; whole sequence skipped */
+#define PX8_CUT 12          /* the message ends inside a sequence; the rest skipped */
+#define PX8_NO_ROOM 13      /* ESC 80 with less than PX8_COPY of printer room left */
+#define PX8_MODE_3 14       /* ESC 208 with mode 3; 3 bytes skipped */
+
+/* ---- settings ---- */
+
+/* What each of the two screens has of its own. */
+typedef struct px8_place {
+    uint8_t line;   /* cursor line, 1 to the screen's lines */
+    uint8_t column; /* cursor column, 1 to the screen's columns */
+    uint8_t top;    /* the window's first line, 1 to lines - H + 1 */
+} px8_place;
+
+/* The keyboard's settings. They are stored for the board to act on; nothing
+ * else in the library depends on them. */
+typedef struct px8_keys {
+    uint8_t leds[3];    /* INS, CAPS, NUM; each 0 off, 1 on (ESC 160 to 165) */
+    uint8_t charset;    /* one of the letters U F G E D W I S N (ESC 67) */
+    uint8_t strings;    /* function keys send 1 strings, 0 codes (ESC 177, 176) */
+    uint8_t repeat;     /* key repeat, 0 off, 1 on (ESC 240) */
+    uint8_t delay;      /* its start time, 1 to 127, in 1/64 second (ESC 241) */
+    uint8_t interval;   /* its interval, 1 to 127, in 1/256 second (ESC 242) */
+    uint8_t shift;      /* 0, 2, 4, 6, 16, 18, 32, 34, 64 or 66 (ESC 247) */
+    uint8_t arrows[12]; /* any bytes: four codes of the arrow keys (ESC 243), four
+                         * with SHIFT (244), four with CTRL (245), as sent */
+} px8_keys;
+
+/* The settings. H is the window's height: 16 in mode 1, else 8. The measures
+ * hang on the mode; m is mode 2's own number, 1 to 78:
+ *
+ *   mode  lines1 and lines2                      columns1  columns2
+ *   0     each at least 8, together at most 48   80        80
+ *   1     equal, 16 to 48                        39        39
+ *   2     equal, 8 to 48                         m         79 - m
+ *
+ * Settings are sound when every field lies in its range. What the calls return
+ * is always sound, or else exactly what was given to a refused call; so only a
+ * caller that makes or alters settings can meet number 3. */
+typedef struct px8_settings {
+    uint8_t mode;        /* 0, 1 or 2 (ESC 208) */
+    uint8_t lines1;      /* lines of screen 1, by the table (ESC 208) */
+    uint8_t lines2;      /* lines of screen 2 */
+    uint8_t columns1;    /* columns of screen 1, by the table (ESC 208) */
+    uint8_t columns2;    /* columns of screen 2 */
+    uint8_t boundary;    /* any byte: mode 2 shows it in column m + 1 (ESC 208) */
+    uint8_t selected;    /* 0 screen 1, 1 screen 2 (ESC 209) */
+    px8_place places[2]; /* of screen 1 and of screen 2 */
+    uint8_t tracking;    /* 1 the window follows the cursor, 0 not. (ESC 149 is
+                          * sent the other way round: 0 on, 1 off.) */
+    uint8_t step;        /* lines that ESC 150 and 151 move by, 1 to H (ESC 148) */
+    uint8_t secret;      /* 1 every place is shown blank, 0 not (ESC 123, 125) */
+    uint8_t cursor;      /* 1 cursor on, 0 off (ESC 51, 50); stored only */
+    uint8_t display;     /* key display as sent, 0 or 1 (ESC 211); stored only. The
+                          * manual: 0 shows the function keys, 1 does not */
+    uint8_t kind;        /* type of the cursor, 0 to 3 (ESC 214); stored only */
+    px8_keys keys;
+    uint8_t patterns[PX8_PATTERNS]; /* any bytes: code c, 224 to 254, has the eight
+                          * from 8 * (c - 224) on (ESC 224); stored only */
+} px8_settings;
+
+/*
+ * The opening settings: mode 0, 24 and 24 lines, 80 and 80 columns, boundary
+ * 32, screen 1 selected (0), both places 1, 1, 1, tracking 1, step 1, secret
+ * 0, cursor 1, display 1, kind 0; LEDs 0, charset U, strings 1, repeat 1,
+ * delay 32, interval 16, shift 0, arrows 0; patterns 0.
+ */
+
+/* ---- stores ----
+ *
+ * cells   Screen 1 from byte 0, line after line; screen 2 right after it, at
+ *         lines1 * columns1. What is left over belongs to no screen. Any bytes
+ *         are accepted.
+ * layer   Marks over the shown screen (ESC 210): byte PX8_AT(row, column) is 0
+ *         where there is no mark, else the code at PX8_PLACES further on is
+ *         shown in place of the cell's. Any bytes are accepted.
+ * shown   What the display shows: byte PX8_AT(row, column). Every message that
+ *         is served paints all 640; the library never reads it.
+ */
+
+/* ---- what a message holds ----
+ *
+ * Bytes 32 to 255 print at the cursor, which moves right, from the last column
+ * to the next line; going below the last line lifts the screen by a line.
+ * Codes: 8 one column back, 10 one line down, 13 to column 1, 12 as ESC 42;
+ * other codes below 32 do nothing. ESC (27) begins a sequence. All act on the
+ * selected screen, of R lines; numbers outside the ranges are refusal 11.
+ *
+ *   ESC 37 n            prints n, 0 to 255
+ *   ESC 42              blanks the screen, cursor home, top 1, no marks
+ *   ESC 50, 51          cursor off, on
+ *   ESC 61 m+31 n+31    cursor to line m, 1 to R, and column n, 1 to columns
+ *   ESC 67 c            character set, one of U F G E D W I S N
+ *   ESC 80              printed copy
+ *   ESC 84, 89          blanks from the cursor to the end of its line, of the screen
+ *   ESC 123, 125        secret on, off
+ *   ESC 144 a m         lines a+1 to a+m move up by one; a 0 to R-1, m 1 to R,
+ *   ESC 145 a m           a+m at most R; or down by one
+ *   ESC 148 n           step, 1 to H
+ *   ESC 149 n           tracking: 0 on, 1 off
+ *   ESC 150, 151        window up, down by the step, held inside the screen
+ *   ESC 160 to 165      INS on, off, CAPS on, off, NUM on, off
+ *   ESC 176, 177        key strings off, on
+ *   ESC 198, 199        no operation, with 11 and 4 bytes that are not judged
+ *   ESC 208 0 n1 n2     mode 0, ESC 208 1 n1 mode 1, ESC 208 2 n1 m p mode 2 with
+ *                         boundary p: blanks all cells, no marks, places 1, 1, 1,
+ *                         screen 1 selected, step 1, tracking on
+ *   ESC 209 n           selects screen 1 (0) or 2 (1)
+ *   ESC 210 x y p       marks row x, 1 to 8, column y, 1 to 80, with code p
+ *   ESC 211 n           key display, 0 or 1
+ *   ESC 212, 213, 215   window to the top, to the end, to the cursor
+ *   ESC 214 n           cursor type, 0 to 3
+ *   ESC 224 c r1 .. r8  pattern of code c, 224 to 254
+ *   ESC 240 n           key repeat, 0 or 1
+ *   ESC 241 n, 242 n    its start time and interval, 1 to 127
+ *   ESC 243 to 245      four arrow codes each: plain, SHIFT, CTRL
+ *   ESC 246             no effect
+ *   ESC 247 n           shift state, one of px8_keys.shift
+ *
+ * Printing takes away the mark over its cell. All marks go with an accepted
+ * 42, 84, 89, 144, 145, 208, 209, with code 12, with a lifted screen and with a
+ * window that moves.
+ */
+
+/* ---- results ---- */
+
+/* The answer to a message. Between its fields there are padding bytes of no
+ * fixed value: compare answers field by field. */
+typedef struct px8_answer {
+    uint8_t number;    /* PX8_SERVED, or why the whole call was refused: 1, 2, 3 */
+    uint32_t taken;    /* bytes taken: all of the message, if served */
+    uint32_t accepted; /* sequences accepted (printed bytes and codes not counted) */
+    uint32_t refused;  /* sequences refused */
+    uint8_t first;     /* number of the first refusal, 10 to 14; 0 if there is none */
+    uint32_t offset;   /* where its ESC stands in the message, counted from 0;
+                        * 0 if there is none */
+    size_t printed;    /* bytes of printed copies, a multiple of PX8_COPY */
+} px8_answer;
+
+typedef struct px8_outcome {
+    px8_settings settings;
+    px8_answer answer;
+} px8_outcome;
+
+typedef struct px8_opened {
+    px8_settings settings;
+    uint8_t number; /* PX8_SERVED or PX8_STORE_SIZE */
+} px8_opened;
+
+/* ---- calls ---- */
+
+/*
+ * Opens a terminal: blanks (32) all cells and the shown screen, zeroes the
+ * layer, and returns the opening settings with number 0.
+ *
+ * Refused with 1 unless the lengths are PX8_CELLS, PX8_LAYER and PX8_SHOWN.
+ * A refused opening alters no byte; the settings that it returns are the
+ * opening settings all the same.
+ */
+px8_opened px8_opening(uint8_t *cells, size_t cells_length,
+                       uint8_t *layer, size_t layer_length,
+                       uint8_t *shown, size_t shown_length);
+
+/*
+ * Reads a message of up to PX8_MESSAGE_MOST bytes (it may be empty), brings
+ * cells, layer and settings up to date and paints the shown screen.
+ *
+ * Printed copies (ESC 80) are written to the printer buffer one behind the
+ * other from its start, PX8_COPY bytes each: the picture at that moment, 8
+ * rows of 80 with codes below 32 as 32, each followed by 13, 10. No other byte
+ * of the buffer is written, and none is read. It may be of any length, and
+ * another one each time.
+ *
+ * Each message is read by itself: a sequence does not run on into the next
+ * one (number 12), save that 27, 209 at the very end means 27, 209, 0.
+ *
+ * A refused call (answer.number 1, 2 or 3) changes nothing: it returns the
+ * settings as they were given, all counts 0, first 0, offset 0 and printed 0,
+ * and no byte of the stores or of the printer buffer is altered, the shown
+ * screen included. The message itself is never altered.
+ */
+px8_outcome px8_message(px8_settings settings,
+                        const uint8_t *message, size_t message_length,
+                        uint8_t *cells, size_t cells_length,
+                        uint8_t *layer, size_t layer_length,
+                        uint8_t *shown, size_t shown_length,
+                        uint8_t *printer, size_t printer_length);
+
+/*
+ * The part of a printer buffer to send on: its first `count` bytes, with
+ * answer.printed for the count. Returned is that part's length: count, or 0 if
+ * count is larger than the length. It refuses nothing and writes nothing.
+ */
+size_t px8_printed(const uint8_t *buffer, size_t length, size_t count);
+
+#ifdef __cplusplus
+}
+#endif
+
+/* ---- the layout that the archive was built with ---- */
+
+#if defined(__cplusplus) && __cplusplus >= 201103L
+#define PX8_HOLDS(claim) static_assert(claim, #claim)
+#elif !defined(__cplusplus) && defined(__STDC_VERSION__) && __STDC_VERSION__ >= 201112L
+#define PX8_HOLDS(claim) _Static_assert(claim, #claim)
+#endif
+
+#ifdef PX8_HOLDS
+PX8_HOLDS(sizeof(px8_place) == 3);
+PX8_HOLDS(offsetof(px8_place, line) == 0);
+PX8_HOLDS(offsetof(px8_place, column) == 1);
+PX8_HOLDS(offsetof(px8_place, top) == 2);
+
+PX8_HOLDS(sizeof(px8_keys) == 21);
+PX8_HOLDS(offsetof(px8_keys, leds) == 0);
+PX8_HOLDS(offsetof(px8_keys, charset) == 3);
+PX8_HOLDS(offsetof(px8_keys, strings) == 4);
+PX8_HOLDS(offsetof(px8_keys, repeat) == 5);
+PX8_HOLDS(offsetof(px8_keys, delay) == 6);
+PX8_HOLDS(offsetof(px8_keys, interval) == 7);
+PX8_HOLDS(offsetof(px8_keys, shift) == 8);
+PX8_HOLDS(offsetof(px8_keys, arrows) == 9);
+
+PX8_HOLDS(sizeof(px8_settings) == 288);
+PX8_HOLDS(offsetof(px8_settings, mode) == 0);
+PX8_HOLDS(offsetof(px8_settings, lines1) == 1);
+PX8_HOLDS(offsetof(px8_settings, lines2) == 2);
+PX8_HOLDS(offsetof(px8_settings, columns1) == 3);
+PX8_HOLDS(offsetof(px8_settings, columns2) == 4);
+PX8_HOLDS(offsetof(px8_settings, boundary) == 5);
+PX8_HOLDS(offsetof(px8_settings, selected) == 6);
+PX8_HOLDS(offsetof(px8_settings, places) == 7);
+PX8_HOLDS(offsetof(px8_settings, tracking) == 13);
+PX8_HOLDS(offsetof(px8_settings, step) == 14);
+PX8_HOLDS(offsetof(px8_settings, secret) == 15);
+PX8_HOLDS(offsetof(px8_settings, cursor) == 16);
+PX8_HOLDS(offsetof(px8_settings, display) == 17);
+PX8_HOLDS(offsetof(px8_settings, kind) == 18);
+PX8_HOLDS(offsetof(px8_settings, keys) == 19);
+PX8_HOLDS(offsetof(px8_settings, patterns) == 40);
+
+PX8_HOLDS(sizeof(size_t) == 8);
+PX8_HOLDS(sizeof(px8_answer) == 32);
+PX8_HOLDS(offsetof(px8_answer, number) == 0);
+PX8_HOLDS(offsetof(px8_answer, taken) == 4);
+PX8_HOLDS(offsetof(px8_answer, accepted) == 8);
+PX8_HOLDS(offsetof(px8_answer, refused) == 12);
+PX8_HOLDS(offsetof(px8_answer, first) == 16);
+PX8_HOLDS(offsetof(px8_answer, offset) == 20);
+PX8_HOLDS(offsetof(px8_answer, printed) == 24);
+
+PX8_HOLDS(sizeof(px8_outcome) == 320);
+PX8_HOLDS(offsetof(px8_outcome, settings) == 0);
+PX8_HOLDS(offsetof(px8_outcome, answer) == 288);
+
+PX8_HOLDS(sizeof(px8_opened) == 289);
+PX8_HOLDS(offsetof(px8_opened, settings) == 0);
+PX8_HOLDS(offsetof(px8_opened, number) == 288);
+#undef PX8_HOLDS
+#endif
+
+#endif

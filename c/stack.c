@@ -1,0 +1,56 @@
+/* How much stack a call takes: each call runs on a stack of its own that was filled with one byte, and what is no longer that
+ * byte afterwards was used. Prints a line a call, and fails if one took more than is said in the README. */
+#define _XOPEN_SOURCE 700
+#include <pthread.h>
+#include <stdint.h>
+#include <stdio.h>
+#include <stdlib.h>
+#include <string.h>
+
+#include "px8.h"
+
+#define STACK (256 * 1024)
+#define FILL 0xA5
+#define MOST 8192 /* what the README says a call takes at most */
+
+static uint8_t cells[PX8_CELLS], layer[PX8_LAYER], shown[PX8_SHOWN], printer[2 * PX8_COPY];
+static px8_settings settings;
+
+static void *nothing(void *unused) { return unused; }
+
+static void *opening(void *unused) {
+    settings = px8_opening(cells, sizeof cells, layer, sizeof layer, shown, sizeof shown).settings;
+    return unused;
+}
+
+/* printing, a lift, a mode, a copy, a mark: the deepest ways through the call */
+static void *message(void *unused) {
+    static const uint8_t bytes[] = {'3', '8', ',', 27, 61, 55, 32, 10, 27, 80, 27, 208, 2, 10, 20, 35, 27, 210, 1, 1, 90, 27, 80,
+                                    27, 224, 230, 1, 2, 3, 4, 5, 6, 7, 8, 27, 208, 1, 16, 'A', 27, 144, 0, 2};
+    settings = px8_message(settings, bytes, sizeof bytes, cells, sizeof cells, layer, sizeof layer, shown, sizeof shown, printer, sizeof printer).settings;
+    return unused;
+}
+
+/* the bytes of a stack that a call touched */
+static size_t used(void *(*call)(void *)) {
+    pthread_t thread;
+    pthread_attr_t attributes;
+    uint8_t *stack = aligned_alloc(4096, STACK);
+    size_t untouched = 0;
+    memset(stack, FILL, STACK);
+    pthread_attr_init(&attributes);
+    pthread_attr_setstack(&attributes, stack, STACK);
+    pthread_create(&thread, &attributes, call, NULL);
+    pthread_join(thread, NULL);
+    while (untouched < STACK && stack[untouched] == FILL) untouched++;
+    free(stack);
+    return STACK - untouched;
+}
+
+int main(void) {
+    size_t thread = used(nothing);
+    size_t open = used(opening) - thread;
+    size_t serve = used(message) - thread;
+    printf("opening %zu\nmessage %zu\n", open, serve);
+    return open <= MOST && serve <= MOST ? 0 : 1;
+}

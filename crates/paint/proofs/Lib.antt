@@ -1,0 +1,6 @@
+pub mod Painted
+pub mod Runs
+pub mod Windows
+pub mod Views
+pub mod Pictures
+pub mod Copies

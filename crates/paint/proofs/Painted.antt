@@ -1,0 +1,65 @@
+-- Bytes listed by a function and put into a store: the one shape of every loop and every call of this crate.
+use mathlib.Core.Path.{_∙_, _≡_, ap, sym}
+use Prim.Native.Nat.{_+_, _-_, _<_, _≤_, suc, zero, ℕ}
+use native.Mathlib.Nat.{add-zero, zero-add}
+use native.Mathlib.Omega.{arith}
+use mathlib.Core.List.{List, _++_, _∷_}
+use lib.ListN.{getD, length, set}
+use lib.Seq.{ext-getD}
+use Rattle.model.specs.Bytes.{listFrom, put}
+use Rattle.model.proofs.ByteLaws.{getD-listFrom, length-listFrom, same-listFrom}
+use Rattle.store.proofs.Laws.{put-inside, put-more, put-none, put-over, put-then}
+use Rattle.paint.specs.Painted.{laid, marked, painted}
+
+pub listFrom-then : (f : ℕ → ℕ) (i n m : ℕ) → listFrom f i (n + m) ≡ listFrom f i n ++ listFrom f (i + n) m
+listFrom-then f i zero m = rw (zero-add, add-zero)
+listFrom-then f i (suc n) m =
+    let e : suc n + m ≡ suc (n + m) = omega arith in
+    let g : i + suc n ≡ suc i + n = omega arith in
+    rw (e, g) (ap (λ (l : List ℕ). f i ∷ l) (listFrom-then f (suc i) n m))
+
+-- bytes that are f's, one by one
+pub listed : (f : ℕ → ℕ) (i n : ℕ) (ys : List ℕ) → length ys ≡ n → ((k : ℕ) → k < n → getD ys k 0 ≡ f (i + k)) → ys ≡ listFrom f i n
+listed f i n ys e h =
+    ext-getD 0 ys (listFrom f i n) (e ∙ sym (length-listFrom f i n)) (λ k l. h k (omega arith) ∙ sym (getD-listFrom f n i k (omega arith)))
+
+-- a turn of a loop that puts f's bytes, from i on, at a
+pub listed-more : (a i n : ℕ) (f : ℕ → ℕ) (xs : List ℕ) {l : List ℕ} {k v : ℕ}
+    → l ≡ put a (listFrom f i n) xs → k ≡ a + n → v ≡ f (i + n) → k < length xs → set l k v ≡ put a (listFrom f i (n + 1)) xs
+listed-more a i n f xs e g w h =
+    put-more a (listFrom f i n) (f (i + n)) xs e (omega (arith, length-listFrom f i n)) w (listFrom-then f i n 1) h
+
+-- painted: nothing, one place more, and a row behind those before it
+module _ (a : ℕ) (f : ℕ → ℕ) (xs : List ℕ) where
+  pub painted-none : xs ≡ painted a 0 f xs
+  unfolding painted
+  painted-none = sym (put-none a xs)
+
+  pub painted-more : (n : ℕ) {l : List ℕ} {k v : ℕ} → l ≡ painted a n f xs → k ≡ a + n → v ≡ f (a + n) → k < length xs → set l k v ≡ painted a (n + 1) f xs
+  unfolding painted
+  painted-more n e g w h = listed-more a a n f xs e g w h
+
+  pub painted-next : (n m : ℕ) {b : ℕ} {l l′ : List ℕ} → l ≡ painted a n f xs → l′ ≡ painted b m f l → b ≡ a + n → b ≤ length xs → l′ ≡ painted a (n + m) f xs
+  unfolding painted
+  painted-next n m {b} {l} e e′ g h =
+      let size : length (listFrom f a n) ≡ n = length-listFrom f a n in
+      e′ ∙ put-then a (listFrom f a n) xs (omega arith) b (listFrom f b m) e (omega arith) ∙ rw (g, listFrom-then f a n m)
+
+-- the layer laid over places that are painted
+module _ (a n : ℕ) (f : ℕ → ℕ) (layer xs : List ℕ) (fits : a + n ≤ length xs) where
+  there : {l : List ℕ} → l ≡ painted a n f xs → (p : ℕ) → a ≤ p → p < a + n → getD l p 0 ≡ f p
+  unfolding painted
+  there e p g h =
+      let at : a + (p - a) ≡ p = omega arith in
+      ap (λ (l : List ℕ). getD l p 0) e ∙ ap (λ (k : ℕ). getD (put a (listFrom f a n) xs) k 0) (sym at)
+      ∙ put-inside a (listFrom f a n) xs (omega (arith, length-listFrom f a n)) (p - a) (omega (arith, length-listFrom f a n))
+      ∙ getD-listFrom f n a (p - a) (omega arith) ∙ ap f at
+
+  pub painted-over : {l l′ : List ℕ} → l ≡ painted a n f xs → l′ ≡ painted a n (laid layer (λ p. getD l p 0)) l → l′ ≡ painted a n (laid layer f) xs
+  unfolding painted laid
+  painted-over {l} e e′ =
+      let g : ℕ → ℕ = laid layer (λ p. getD l p 0) in
+      let same : listFrom g a n ≡ listFrom (laid layer f) a n =
+      same-listFrom g (laid layer f) a n (λ p b h. ap (marked (getD layer p 0) (getD layer (640 + p) 0)) (there e p b h)) in
+      let size : length (listFrom (laid layer f) a n) ≡ length (listFrom f a n) = length-listFrom (laid layer f) a n ∙ sym (length-listFrom f a n) in
+      e′ ∙ rw (same, e) (put-over a (listFrom f a n) xs (omega (arith, length-listFrom f a n)) (listFrom (laid layer f) a n) size)

@@ -1,0 +1,137 @@
+-- The views of the three modes show the picture without secret and layer.
+use mathlib.Core.Path.{_∙_, _≡_, ap, refl, sym}
+use Prim.Native.Nat.{_*_, _+_, _-_, _<_, _≤_, ℕ}
+use native.Mathlib.Nat.{add-mul}
+use native.Mathlib.Omega.{arith}
+use mathlib.Core.Bool.{Bool, cond}
+use mathlib.Core.List.{List}
+use lib.ListN.{getD}
+use lib.Dec.{eqb, leb, ltb}
+use borrow.Author.Tests.{eq-eqb, eqb-true, le-leb, leb-true, ltb-false, ltb-true, ne-eqb}
+use Rattle.model.specs.declared.Settings.{Settings}
+use Rattle.model.specs.State.{State, state}
+use Rattle.model.specs.Screens.{columnsOf, height, textRows}
+use Rattle.model.specs.Sound.{Shaped, Sound, mode0, mode1, mode2}
+use Rattle.model.specs.Picture.{halves, sides, under}
+use Rattle.model.proofs.Tests.{cond-at, differ, elim-at}
+use Rattle.model.proofs.Places.{all, left-half, left-side, picture-shows, right-half, right-side}
+use Rattle.paint.specs.declared.view.Pane.{Pane}
+use Rattle.paint.specs.declared.view.View.{View}
+use Rattle.paint.specs.Panes.{ViewOf, Window, across, cellIn}
+use Rattle.paint.proofs.Windows.{in-window}
+
+-- the table of modes by the mode's number
+columns-0 : {m l1 l2 c1 c2 : ℕ} → Shaped m l1 l2 c1 c2 → m ≡ 0 → (c1 ≡ 80) × (c2 ≡ 80)
+columns-0 (mode0 m p q a b c) e = (p, q)
+columns-0 (mode1 m p q a b c) e = absurd (omega arith)
+columns-0 (mode2 m p q r a b c) e = absurd (omega arith)
+
+columns-1 : {m l1 l2 c1 c2 : ℕ} → Shaped m l1 l2 c1 c2 → (m ≡ 0 → ⊥) → (m ≡ 2 → ⊥) → (m ≡ 1) × ((c1 ≡ 39) × (c2 ≡ 39))
+columns-1 (mode0 m p q a b c) z t = absurd (z m)
+columns-1 (mode1 m p q a b c) z t = (m, (p, q))
+columns-1 (mode2 m p q r a b c) z t = absurd (t m)
+
+columns-2 : {m l1 l2 c1 c2 : ℕ} → Shaped m l1 l2 c1 c2 → m ≡ 2 → (c1 ≤ 78) × (c2 ≡ 79 - c1)
+columns-2 (mode0 m p q a b c) e = absurd (omega arith)
+columns-2 (mode1 m p q a b c) e = absurd (omega arith)
+columns-2 (mode2 m p q r a b c) e = (q, r)
+
+-- a row by its three parts
+by-parts : (v : View) (cells : List ℕ) (row column u : ℕ)
+    → (column < v .left .width → getD cells (cellIn (v .left) row column) 0 ≡ u)
+    → (v .left .width ≤ column → column < v .left .width + v .gap → v .code ≡ u)
+    → (v .left .width + v .gap ≤ column → getD cells (cellIn (v .right) row (column - (v .left .width + v .gap))) 0 ≡ u)
+    → across v cells row column ≡ u
+unfolding across
+by-parts v cells row column u left gap right =
+    cond-at (λ (x : ℕ). x ≡ u) (ltb column (v .left .width)) _ _ (λ t. left (ltb-true _ _ t))
+    (λ f. cond-at (λ (x : ℕ). x ≡ u) (ltb column (v .left .width + v .gap)) _ _ (λ t. gap (ltb-false _ _ f) (ltb-true _ _ t)) (λ g. right (ltb-false _ _ g)))
+
+-- "40 and 41 blank"
+gap-blank : (st : State) (row column : ℕ) → st .settings .mode ≡ 1 → 40 ≤ column → column ≤ 41 → under st row column ≡ 32
+unfolding under halves
+gap-blank st row column m g h =
+    elim-at (λ (x : ℕ). x ≡ 32) (eqb (st .settings .mode) 0) _ _ (λ t. absurd (omega (arith, eqb-true (st .settings .mode) 0 t)))
+    (λ f. elim-at (λ (x : ℕ). x ≡ 32) (eqb (st .settings .mode) 1) _ _
+    (λ t. elim-at (λ (x : ℕ). x ≡ 32) (leb column 39) _ _ (λ u. absurd (omega (arith, leb-true column 39 u)))
+    (λ u. elim-at (λ (x : ℕ). x ≡ 32) (leb column 41) _ _ (λ w. refl) (λ w. absurd (differ (sym (le-leb column 41 h) ∙ w)))))
+    (λ g. absurd (differ (sym (eq-eqb _ 1 m) ∙ g))))
+
+-- "column m+1 the boundary"
+gap-boundary : (st : State) (row column : ℕ) → st .settings .mode ≡ 2 → column ≡ st .settings .columns1 + 1 → under st row column ≡ st .settings .boundary
+unfolding under sides
+gap-boundary st row column m h =
+    let b : ℕ = st .settings .boundary in
+    elim-at (λ (x : ℕ). x ≡ b) (eqb (st .settings .mode) 0) _ _ (λ t. absurd (omega (arith, eqb-true (st .settings .mode) 0 t)))
+    (λ f. elim-at (λ (x : ℕ). x ≡ b) (eqb (st .settings .mode) 1) _ _ (λ t. absurd (omega (arith, eqb-true (st .settings .mode) 1 t)))
+    (λ g. elim-at (λ (x : ℕ). x ≡ b) (leb column (st .settings .columns1)) _ _ (λ u. absurd (omega (arith, leb-true column (st .settings .columns1) u)))
+    (λ u. elim-at (λ (x : ℕ). x ≡ b) (eqb column (st .settings .columns1 + 1)) _ _ (λ w. refl) (λ w. absurd (differ (sym (eq-eqb column (st .settings .columns1 + 1) h) ∙ w))))))
+
+module _ (s : Settings) (sound : Sound s) where
+  columns-both : (n k : ℕ) → s .columns1 ≡ n → s .columns2 ≡ n → columnsOf s k ≡ n
+  unfolding columnsOf
+  columns-both n k e f = cond-at (λ (w : ℕ). w ≡ n) (eqb k 0) _ _ (λ t. e) (λ t. f)
+
+  low : (s .mode ≡ 1 → ⊥) → height s ≡ 8
+  unfolding height textRows
+  low n = ap (λ (b : Bool). cond b 16 8) (ne-eqb (s .mode) 1 n)
+
+  high : s .mode ≡ 1 → height s ≡ 16
+  unfolding height textRows
+  high e = ap (λ (b : Bool). cond b 16 8) (eq-eqb (s .mode) 1 e)
+
+  pub shows-whole : s .mode ≡ 0 → {left : Pane} → Window s (s .selected) left → ViewOf s (record { left = left; gap = 0; code = 32; right = record { at = 0; width = 0 } })
+  shows-whole m {left} w =
+      let c = columns-0 (sound .shaped) m in
+      let wide : left .width ≡ 80 = w .wide ∙ columns-both 80 (s .selected) (c .0) (c .1) in
+      let h : height s ≡ 8 = low (λ e. omega arith) in
+      record {
+        framed = record { whole = omega arith; left-inside = rw h at (w .inside); right-inside = omega arith };
+        same = λ cells layer row column r k.
+            by-parts _ cells row column _
+            (λ l. sym (picture-shows (state s cells layer) (row + 1) (column + 1) _ (all m (in-window s sound (s .selected) (sound .selected) w row column (row + 1) (column + 1) refl refl))))
+            (λ l g. absurd (omega arith))
+            (λ g. absurd (omega arith));
+      }
+
+  pub shows-halves : (s .mode ≡ 0 → ⊥) → (s .mode ≡ 2 → ⊥) → {left : Pane} → Window s (s .selected) left
+      → ViewOf s (record { left = left; gap = 2; code = 32; right = record { at = left .at + 8 * left .width; width = left .width } })
+  unfolding textRows
+  shows-halves z t {left} w =
+      let c = columns-1 (sound .shaped) z t in
+      let m : s .mode ≡ 1 = c .0 in
+      let wide : left .width ≡ 39 = w .wide ∙ columns-both 39 (s .selected) (c .1 .0) (c .1 .1) in
+      let h : height s ≡ 16 = high m in
+      let inside : left .at + 16 * left .width ≤ 3840 = rw h at (w .inside) in
+      record {
+        framed = record { whole = omega arith; left-inside = omega arith; right-inside = omega arith };
+        same = λ cells layer row column r k.
+            by-parts _ cells row column _
+            (λ l. sym (picture-shows (state s cells layer) (row + 1) (column + 1) _
+            (left-half m (omega arith) (in-window s sound (s .selected) (sound .selected) w row column (row + 1) (column + 1) refl refl))))
+            (λ l g. sym (gap-blank (state s cells layer) (row + 1) (column + 1) m (omega arith) (omega arith)))
+            (λ g. sym (picture-shows (state s cells layer) (row + 1) (column + 1) _
+            (right-half m (omega arith)
+            (below left row (column - (left .width + 2)) ∙ in-window s sound (s .selected) (sound .selected) w (8 + row) (column - (left .width + 2)) (8 + (row + 1)) (column + 1 - 41) (omega arith) (omega arith)))));
+      }
+    where
+      below : (pane : Pane) (row column : ℕ) → pane .at + 8 * pane .width + row * pane .width + column ≡ cellIn pane (8 + row) column
+      below pane row column = rw (add-mul 8 row (pane .width)) (omega arith)
+
+  pub shows-sides : s .mode ≡ 2 → {left right : Pane} → Window s 0 left → Window s 1 right → ViewOf s (record { left = left; gap = 1; code = s .boundary; right = right })
+  unfolding columnsOf
+  shows-sides m {left} {right} w w′ =
+      let c = columns-2 (sound .shaped) m in
+      let wide : left .width ≡ s .columns1 = w .wide in
+      let wide′ : right .width ≡ s .columns2 = w′ .wide in
+      let h : height s ≡ 8 = low (λ e. omega arith) in
+      record {
+        framed = record { whole = omega arith; left-inside = rw h at (w .inside); right-inside = rw h at (w′ .inside) };
+        same = λ cells layer row column r k.
+            by-parts _ cells row column _
+            (λ l. sym (picture-shows (state s cells layer) (row + 1) (column + 1) _
+            (left-side m (omega arith) (in-window s sound 0 (omega arith) w row column (row + 1) (column + 1) refl refl))))
+            (λ l g. sym (gap-boundary (state s cells layer) (row + 1) (column + 1) m (omega arith)))
+            (λ g. sym (picture-shows (state s cells layer) (row + 1) (column + 1) _
+            (right-side m (omega arith) (in-window s sound 1 (omega arith) w′ row (column - (left .width + 1)) (row + 1) (column + 1 - s .columns1 - 1) refl (omega arith)))));
+      }

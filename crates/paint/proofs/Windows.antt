@@ -1,0 +1,39 @@
+-- Where windows lie among the cells.
+use mathlib.Core.Path.{_≡_, refl}
+use Prim.Native.Nat.{_*_, _+_, _-_, _<_, _≤_, ℕ}
+use native.Mathlib.Nat.{add-mul}
+use native.Mathlib.Omega.{arith}
+use Rattle.model.specs.declared.Settings.{Settings}
+use Rattle.model.specs.Screens.{base, cellAt, columnsOf, height, lineAt, linesOf, placeOf, size}
+use Rattle.model.specs.Sound.{Fits, Sound}
+use Rattle.model.proofs.Keep.{lines-inside, within}
+use Rattle.paint.specs.declared.view.Pane.{Pane}
+use Rattle.paint.specs.Panes.{Window, cellIn}
+
+module _ (s : Settings) (sound : Sound s) where
+  top-low : (k : ℕ) → k < 2 → 1 ≤ placeOf s k .top
+  top-low k l = sound .inside k l .top-low
+
+  window-inside : (k : ℕ) → k < 2 → lineAt s k (placeOf s k .top) + height s * columnsOf s k ≤ 3840
+  unfolding lineAt size
+  window-inside k l =
+      let f : Fits (linesOf s k) (columnsOf s k) (height s) (placeOf s k) = sound .inside k l in
+      omega (arith, within s sound k l, lines-inside (columnsOf s k) (placeOf s k .top - 1) (height s) (linesOf s k) (omega arith))
+
+  -- the windows of the two screens, by the settings
+  pub window-1 : Window s 0 (record { at = (placeOf s 0 .top - 1) * s .columns1; width = s .columns1 })
+  unfolding lineAt base columnsOf
+  window-1 = record { starts = omega arith; wide = refl; inside = omega (arith, window-inside 0 (omega arith)) }
+
+  pub window-2 : Window s 1 (record { at = s .lines1 * s .columns1 + (placeOf s 1 .top - 1) * s .columns2; width = s .columns2 })
+  unfolding lineAt base columnsOf
+  window-2 = record { starts = refl; wide = refl; inside = window-inside 1 (omega arith) }
+
+  -- the cell of a window at a row and a column from 0 is that of document 01's line and column from 1
+  pub in-window : (k : ℕ) → k < 2 → {pane : Pane} → Window s k pane → (row column line c : ℕ) → line ≡ row + 1 → c ≡ column + 1
+      → cellIn pane row column ≡ cellAt s k (placeOf s k .top + line - 1) c
+  unfolding cellAt lineAt
+  in-window k l {pane} w row column line c e f =
+      let n : placeOf s k .top + line - 1 - 1 ≡ placeOf s k .top - 1 + row = omega (arith, top-low k l) in
+      let m : c - 1 ≡ column = omega arith in
+      rw (w .starts, w .wide, n, m, add-mul (placeOf s k .top - 1) row (columnsOf s k)) (omega arith)

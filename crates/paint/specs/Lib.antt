@@ -1,0 +1,4 @@
+pub mod Paintable
+pub mod Panes
+pub mod Painted
+pub mod Copy

@@ -1,0 +1,19 @@
+-- Places of the shown screen, painted: what every loop over them leaves, and the layer over them.
+use Prim.Native.Nat.{ℕ, _+_}
+use mathlib.Core.Bool.{cond}
+use mathlib.Core.List.{List}
+use lib.ListN.{getD}
+use lib.Dec.{eqb}
+use Rattle.model.specs.Bytes.{listFrom, put}
+
+-- the count places from `from` on, each with what f says of it; the others stay
+unfoldable pub painted : ℕ → ℕ → (ℕ → ℕ) → List ℕ → List ℕ
+painted from count f xs = put from (listFrom f from count) xs
+
+-- "0 empty, other values set"
+abbrev pub marked : ℕ → ℕ → ℕ → ℕ
+marked mark code x = cond (eqb mark 0) x code
+
+-- "first 640 marks, then 640 codes": f, with the layer over it
+unfoldable pub laid : List ℕ → (ℕ → ℕ) → ℕ → ℕ
+laid layer f p = marked (getD layer p 0) (getD layer (640 + p) 0) (f p)

@@ -1,0 +1,50 @@
+-- The picture without secret and layer, by panes: one view for each of document 01's modes, and what its rows show. Rows and
+-- columns are counted from 0 here, as the code counts them; a place is a byte of the shown screen.
+use mathlib.Core.Path.{_≡_}
+use Prim.Native.Nat.{ℕ, _+_, _-_, _*_, _/_, _%_, _≤_, _<_}
+use mathlib.Core.Bool.{cond}
+use mathlib.Core.List.{List}
+use lib.ListN.{getD}
+use lib.Dec.{ltb}
+use Rattle.model.specs.declared.Settings.{Settings}
+use Rattle.model.specs.State.{state}
+use Rattle.model.specs.Screens.{placeOf, columnsOf, lineAt, height}
+use Rattle.model.specs.Picture.{under}
+use Rattle.paint.specs.declared.view.Pane.{Pane}
+use Rattle.paint.specs.declared.view.View.{View}
+
+-- the cell of a pane at a row and a column
+abbrev pub cellIn : Pane → ℕ → ℕ → ℕ
+cellIn pane row column = pane .at + row * pane .width + column
+
+-- what a row shows at a column: the left pane, the gap, the right pane
+unfoldable pub across : View → List ℕ → ℕ → ℕ → ℕ
+across v cells row column =
+    cond (ltb column (v .left .width)) (getD cells (cellIn (v .left) row column) 0)
+    (cond (ltb column (v .left .width + v .gap)) (v .code) (getD cells (cellIn (v .right) row (column - (v .left .width + v .gap))) 0))
+
+-- the same by place
+unfoldable pub seen : View → List ℕ → ℕ → ℕ
+seen v cells p = across v cells (p / 80) (p % 80)
+
+-- a row is 80 wide, and 8 rows of each pane lie among the cells
+pub record Framed (v : View) : Type 0 where
+  pub whole : v .left .width + v .gap + v .right .width ≡ 80
+  pub left-inside : v .left .at + 8 * v .left .width ≤ 3840
+  pub right-inside : v .right .at + 8 * v .right .width ≤ 3840
+
+-- row `row` of a pane: its first cell, and all of it lies among the cells
+pub record Line (pane : Pane) (row r : ℕ) : Type 0 where
+  pub starts : r ≡ pane .at + row * pane .width
+  pub inside : r + pane .width ≤ 3840
+
+-- a pane is the window of screen k
+pub record Window (s : Settings) (k : ℕ) (pane : Pane) : Type 0 where
+  pub starts : pane .at ≡ lineAt s k (placeOf s k .top)
+  pub wide : pane .width ≡ columnsOf s k
+  pub inside : pane .at + height s * pane .width ≤ 3840
+
+-- a view shows "the picture without secret and layer"
+pub record ViewOf (s : Settings) (v : View) : Type 0 where
+  pub framed : Framed v
+  pub same : (cells layer : List ℕ) (row column : ℕ) → row < 8 → column < 80 → across v cells row column ≡ under (state s cells layer) (row + 1) (column + 1)

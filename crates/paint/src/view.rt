@@ -1,0 +1,85 @@
+// Where the picture takes its cells from, the same for each of its rows: a left pane, a gap and a right pane.
+ghost use Prim.Native.Nat.{_+_, _*_, _≤_, _<_};
+ghost use Rattle.model.specs.Sound.{Sound};
+ghost use Rattle.paint.specs.Panes.{Line, Window, ViewOf};
+use model::Settings;
+
+// In each row `width` cells, in the first from cell `at` on, in the next from where the one before ends.
+pub struct Pane {
+    pub at: usize,
+    pub width: usize,
+}
+
+// `gap` places of `code` stand between the panes.
+pub struct View {
+    pub left: Pane,
+    pub gap: usize,
+    pub code: u8,
+    pub right: Pane,
+}
+
+// The first cell of a pane in row `row`, from 0.
+pub(crate) fn start(pane: Pane, row: usize) -> usize
+    requires { ⌜ (pane .at + 8 * pane .width ≤ 3840) × (row < 8) ⌝ }
+    ensures { λ r. ⌜ Line pane row r ⌝ }
+{
+    pane.at + row * pane.width
+}
+
+// The rows of the shown screen that show text: mode 1's right half starts so many lines after the left.
+const TEXT_ROWS: usize = 8;
+
+// The window of screen `k`, from 0.
+pub(crate) fn window(settings: Settings, k: usize) -> Pane
+    requires { ⌜ (Sound settings) × (k < 2) ⌝ }
+    ensures { λ r. ⌜ Window settings k r ⌝ }
+{
+    let place = settings.places[k];
+    let above = place.top as usize - 1;
+    let columns1 = settings.columns1 as usize;
+    if k == 0 {
+        Pane {
+            at: above * columns1,
+            width: columns1,
+        }
+    } else {
+        let columns2 = settings.columns2 as usize;
+        Pane {
+            at: settings.lines1 as usize * columns1 + above * columns2,
+            width: columns2,
+        }
+    }
+}
+
+// Mode 0: the selected screen. Mode 1: its left half, "40 and 41 blank", and its right half. Mode 2: screen 1, the boundary, screen 2.
+pub(crate) fn view_of(settings: Settings) -> View
+    requires { ⌜ Sound settings ⌝ }
+    ensures { λ r. ⌜ ViewOf settings r ⌝ }
+{
+    let mode = settings.mode;
+    if mode == 2 {
+        return View {
+            left: window(settings, 0),
+            gap: 1,
+            code: settings.boundary,
+            right: window(settings, 1),
+        };
+    }
+    let left = window(settings, settings.selected as usize);
+    let width = left.width;
+    if mode == 0 {
+        return View {
+            left,
+            gap: 0,
+            code: 32,
+            right: Pane { at: 0, width: 0 },
+        };
+    }
+    let at = left.at + TEXT_ROWS * width;
+    View {
+        left,
+        gap: 2,
+        code: 32,
+        right: Pane { at, width },
+    }
+}

@@ -1,0 +1,60 @@
+-- The frame of sound settings, and that they are ready for it.
+use mathlib.Core.Path.{_≡_, refl}
+use Prim.Native.Nat.{_+_, _<_, _≤_, ℕ}
+use native.Mathlib.Omega.{arith}
+use mathlib.Core.Bool.{Bool, _&&_, cond, false, true}
+use lib.Dec.{eqb}
+use Rattle.model.specs.declared.Settings.{Settings}
+use Rattle.model.specs.Screens.{base, columnsOf, height, linesOf, placeOf, size, textRows}
+use Rattle.model.specs.Sound.{Shaped, Sound, arrayRanges, mode0, mode1, mode2}
+use Rattle.model.specs.Judging.{limitsOf}
+use Rattle.model.proofs.Keep.{height-low, tall, wide, within}
+use Rattle.model.proofs.Tests.{by-test, cond-at}
+use Rattle.screen.specs.declared.Frame.{Frame}
+use Rattle.screen.specs.Frame.{Framed, FrameOf, Stands, limitsIn}
+
+shaped-lines : {m l1 l2 c1 c2 : ℕ} → Shaped m l1 l2 c1 c2 → (l1 ≤ 48) × (l2 ≤ 48) × (c1 ≤ 80)
+shaped-lines (mode0 m p q a b c) = omega arith
+shaped-lines (mode1 n p q a b c) = omega arith
+shaped-lines (mode2 n p q e a b c) = omega arith
+
+module _ {s : Settings} (h : Sound s) where
+  -- mode 2's first screen leaves room for the boundary
+  pub columns-high : s .columns1 < 255
+  columns-high = omega (arith, shaped-lines (h .shaped))
+
+  lines-high : (k : ℕ) → linesOf s k ≤ 48
+  unfolding linesOf
+  lines-high k = cond-at (λ (n : ℕ). n ≤ 48) (eqb k 0) _ _ (λ e. omega (arith, shaped-lines (h .shaped))) (λ e. omega (arith, shaped-lines (h .shaped)))
+
+  -- of sound settings a frame is one whose place stands on its screen
+  pub stands-of : {f : Frame} → Framed s f → Stands f (placeOf s (s .selected))
+  unfolding size
+  stands-of e = record {
+    among = rw (e .base-is, e .lines-are, e .columns-are) (within s h (s .selected) (h .selected));
+    columns-low = rw (e .columns-are) (wide s h (s .selected) (h .selected));
+    lines-high = rw (e .lines-are) (lines-high (s .selected));
+    height-low = rw (e .height-is) (omega (arith, height-low s));
+    height-high = rw (e .height-is, e .lines-are) (tall s h (s .selected) (h .selected));
+    step-high = rw (e .step-is, e .height-is) (h .step-high);
+    fits = rw (e .lines-are, e .columns-are, e .height-is) (h .inside (s .selected) (h .selected));
+  }
+
+  pub frame : {f : Frame} → f .lines ≡ linesOf s (s .selected) → f .columns ≡ columnsOf s (s .selected) → f .base ≡ base s (s .selected)
+      → f .height ≡ cond (eqb (s .mode) 1) 16 8 → f .shift ≡ cond (eqb (s .mode) 2 && eqb (s .selected) 1) (s .columns1 + 1) 0
+      → f .rows ≡ 8 → f .step ≡ s .step → f .tracking ≡ s .tracking → FrameOf s f
+  unfolding arrayRanges height textRows
+  frame {f} a b c d e g i j =
+      let k : Framed s f = record { two-places = omega (arith, h .arrays .0); selected-low = h .selected; lines-are = a; columns-are = b; base-is = c; rows-are = g; height-is = d; shift-is = e; step-is = i; tracking-is = j } in
+      record { framed = k; stands = stands-of k }
+
+-- which columns of the picture are another screen's
+pub shift-first : (s : Settings) → s .selected ≡ 0 → 0 ≡ cond (eqb (s .mode) 2 && eqb (s .selected) 1) (s .columns1 + 1) 0
+shift-first s k = rw k (by-test (λ (b : Bool). 0 ≡ cond (b && false) (s .columns1 + 1) 0) (eqb (s .mode) 2) refl refl)
+
+pub shift-second : (s : Settings) → s .selected ≡ 1 → cond (eqb (s .mode) 2) (s .columns1 + 1) 0 ≡ cond (eqb (s .mode) 2 && eqb (s .selected) 1) (s .columns1 + 1) 0
+shift-second s k = rw k (by-test (λ (b : Bool). cond b (s .columns1 + 1) 0 ≡ cond (b && true) (s .columns1 + 1) 0) (eqb (s .mode) 2) refl refl)
+
+-- parameters are judged by the frame as by the settings
+pub limits-are : {s : Settings} {f : Frame} → Framed s f → limitsOf s ≡ limitsIn f
+limits-are e = rw (e .lines-are, e .columns-are, e .height-is)

@@ -1,0 +1,10 @@
+pub mod Acting
+pub mod Frames
+pub mod Cells
+pub mod Shown
+pub mod Steps
+pub mod Moves
+pub mod Regions
+pub mod Windows
+pub mod Sequences
+pub mod Runs

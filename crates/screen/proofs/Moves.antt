@@ -1,0 +1,80 @@
+-- The cursor: storing where it stands, and moving it.
+use mathlib.Core.Path.{_∙_, _≡_, ap, sym}
+use Prim.Native.Nat.{_+_, _-_, _<_, _≤_, max, ℕ}
+use native.Mathlib.Omega.{arith}
+use mathlib.Core.Bool.{Bool}
+use mathlib.Core.List.{List}
+use lib.ListN.{length, length-set, set}
+use lib.Dec.{ltb}
+use borrow.Author.Tests.{le-ltb, lt-ltb, ne-eqb}
+use Rattle.model.specs.declared.Place.{Place}
+use Rattle.model.specs.Bytes.{scrolledUp}
+use Rattle.model.specs.State.{State, putAt, state}
+use Rattle.model.specs.Screens.{columnsHere, here, linesHere}
+use Rattle.model.specs.Rules.{control, down, onLines, placed, right, stored, toColumn, unmark}
+use Rattle.model.proofs.Steps.{length-unmark}
+use Rattle.screen.specs.declared.Frame.{Frame}
+use Rattle.screen.specs.Frame.{Ready}
+use Rattle.screen.specs.Acts.{Acts, Reads}
+use Rattle.screen.specs.Here.{cellIn, shownHere}
+use Rattle.screen.proofs.Acting.{at-value, likewise, stays, still, when-false, when-true}
+use Rattle.screen.proofs.Steps.{cell-is, cursor-acts, here-is}
+
+-- tests: the cursor's line is above the last, its column before the last
+line-test : {f : Frame} {p : Place} {b : Bool} → ltb (p .line) (f .lines) ≡ b → Reads (λ (st : State). ltb (here st .line) (linesHere st)) f p b
+line-test h st e k = rw (k, ← e .lines-are) h
+
+column-test : {f : Frame} {p : Place} {b : Bool} → ltb (p .column) (f .columns) ≡ b → Reads (λ (st : State). ltb (here st .column) (columnsHere st)) f p b
+column-test h st e k = rw (k, ← e .columns-are) h
+
+-- storing, and another line or column
+module _ {f : Frame} {p : Place} {c l : List ℕ} (h : Ready f p c l) where
+  -- 61
+  pub put-acts : {r : Place} (line column : ℕ) → 1 ≤ line → line ≤ f .lines → 1 ≤ column → column ≤ f .columns → r ≡ putAt line column p
+      → Acts (λ (st : State). placed (putAt line column (here st)) st) f p r c l c l
+  put-acts line column = cursor-acts h (λ (x : Place). line) (λ (x : Place). column)
+
+  pub column-acts : {r : Place} (column : ℕ) → 1 ≤ column → column ≤ f .columns → r ≡ putAt (p .line) column p → Acts (toColumn column) f p r c l c l
+  unfolding toColumn
+  column-acts column = cursor-acts h (λ (x : Place). x .line) (λ (x : Place). column) (h .stands .fits .line-low) (h .stands .fits .line-high)
+
+  -- code 8
+  pub back-acts : {r : Place} {n : ℕ} → n ≡ max 1 (p .column - 1) → r ≡ putAt (p .line) n p → Acts (λ (st : State). toColumn (max 1 (here st .column - 1)) st) f p r c l c l
+  back-acts a k =
+      at-value (λ (x : Place) (st : State). toColumn (max 1 (x .column - 1)) st) here-is
+      (column-acts (max 1 (p .column - 1)) (omega arith) (omega (arith, h .stands .fits)) (rw a at k))
+
+  pub stored-acts : (code : ℕ) {m n : ℕ} {l′ : List ℕ} → m ≡ cellIn f p → Reads shownHere f p n → l′ ≡ unmark n l → Acts (stored code) f p p c l (set c m code) l′
+  unfolding stored
+  stored-acts code {m} {n} a shown b =
+      stays (record { stands = h .stands; cells-are = length-set c m code ∙ h .cells-are; layer-are = ap length b ∙ length-unmark n l ∙ h .layer-are })
+      (λ s e i. rw (cell-is (state s c l) e i, shown (state s c l) e i, a, b))
+
+-- "one line down", "moves right"
+module _ {f : Frame} {p : Place} {c l : List ℕ} where
+  pub down-moves : {r : Place} → Ready f p c l → p .line < f .lines → r ≡ putAt (p .line + 1) (p .column) p → Acts down f p r c l c l
+  unfolding down
+  down-moves h k j =
+      when-true _ (line-test (lt-ltb (p .line) (f .lines) k))
+      (cursor-acts h (λ (x : Place). x .line + 1) (λ (x : Place). x .column) (omega arith) (omega arith) (h .stands .fits .column-low) (h .stands .fits .column-high) j)
+
+  pub down-lifts : {c′ l′ : List ℕ} → f .lines ≤ p .line → Acts (λ (st : State). onLines 0 (f .lines) (scrolledUp (columnsHere st)) st) f p p c l c′ l′ → Acts down f p p c l c′ l′
+  unfolding down
+  down-lifts k a =
+      when-false _ (line-test (le-ltb (p .line) (f .lines) k))
+      (at-value (λ (n : ℕ) (st : State). onLines 0 n (scrolledUp (columnsHere st)) st) (λ st e i. sym (e .lines-are)) a)
+
+  pub right-steps : {r : Place} → Ready f p c l → p .column < f .columns → r ≡ putAt (p .line) (p .column + 1) p → Acts right f p r c l c l
+  unfolding right
+  right-steps h k j =
+      when-true _ (column-test (lt-ltb (p .column) (f .columns) k))
+      (at-value (λ (x : Place) (st : State). toColumn (x .column + 1) st) here-is (column-acts h (p .column + 1) (omega arith) (omega arith) j))
+
+  pub right-wraps : {r : Place} {c′ l′ : List ℕ} → f .columns ≤ p .column → Acts (λ (st : State). down (toColumn 1 st)) f p r c l c′ l′ → Acts right f p r c l c′ l′
+  unfolding right
+  right-wraps k a = when-false _ (column-test (le-ltb (p .column) (f .columns) k)) a
+
+  -- "other codes do nothing"
+  pub no-code : (n : ℕ) → Ready f p c l → (n ≡ 8 → ⊥) → (n ≡ 10 → ⊥) → (n ≡ 13 → ⊥) → (n ≡ 12 → ⊥) → Acts (control n) f p p c l c l
+  unfolding control
+  no-code n h a b d e = likewise (λ s i j. rw (ne-eqb n 8 a, ne-eqb n 10 b, ne-eqb n 13 d, ne-eqb n 12 e)) (still h)

@@ -1,0 +1,61 @@
+-- The place that shows the cursor's cell, by the frame: the window is as tall as the rows or, in mode 1, twice as tall.
+use mathlib.Core.Path.{_∙_, _≡_}
+use Prim.Native.Nat.{_*_, _+_, _-_, _<_, _≤_, ℕ}
+use native.Mathlib.Omega.{arith}
+use mathlib.Core.Bool.{Bool, _&&_, cond, false, true}
+use lib.Dec.{eqb, leb, ltb}
+use borrow.Author.Tests.{le-leb, le-ltb, lt-leb, lt-ltb}
+use Rattle.model.specs.declared.Place.{Place}
+use Rattle.model.specs.State.{State}
+use Rattle.model.specs.Screens.{height, here}
+use Rattle.model.specs.Rules.{shownAt}
+use Rattle.screen.specs.declared.Frame.{Frame}
+use Rattle.screen.specs.Frame.{Framed}
+use Rattle.screen.specs.Acts.{Reads}
+use Rattle.screen.specs.Here.{shownHere}
+
+-- line l under a window of top t over r rows: a where the rows show it, b where mode 1 shows it in the right half
+spot : Bool → ℕ → ℕ → ℕ → ℕ → ℕ → ℕ
+spot m t l r a b = cond (leb t l && ltb (l - t) r) a (cond (m && leb t l && ltb (l - t) (2 * r)) b 640)
+
+module _ (t l r a b : ℕ) where
+  above : (m : Bool) → l < t → spot m t l r a b ≡ 640
+  unfolding spot
+  above true k = rw (lt-leb t l k)
+  above false k = rw (lt-leb t l k)
+
+  near : (m : Bool) → t ≤ l → l - t < r → spot m t l r a b ≡ a
+  unfolding spot
+  near m k j = rw (le-leb t l k, lt-ltb (l - t) r j)
+
+  far : (m : Bool) → t ≤ l → r ≤ l - t → l - t < cond m (2 * r) r → spot m t l r a b ≡ b
+  unfolding spot
+  far true k j i = rw (le-leb t l k, le-ltb (l - t) r j, lt-ltb (l - t) (2 * r) i)
+  far false k j i = absurd (omega arith)
+
+  below : (m : Bool) → t ≤ l → r ≤ l - t → cond m (2 * r) r ≤ l - t → spot m t l r a b ≡ 640
+  unfolding spot
+  below true k j i = rw (le-leb t l k, le-ltb (l - t) r j, le-ltb (l - t) (2 * r) i)
+  below false k j i = rw (le-leb t l k, le-ltb (l - t) r j)
+
+height-by : {f : Frame} (st : State) → Framed (st .settings) f → f .height ≡ cond (eqb (st .settings .mode) 1) (2 * f .rows) (f .rows)
+unfolding height
+height-by st e = rw (e .rows-are) (e .height-is)
+
+module _ {f : Frame} {p : Place} where
+  spot-is : (st : State) → Framed (st .settings) f → here st ≡ p
+      → shownHere st ≡ spot (eqb (st .settings .mode) 1) (p .top) (p .line) (f .rows) ((p .line - p .top) * 80 + (p .column - 1) + f .shift) ((p .line - p .top - f .rows) * 80 + p .column + 40)
+  unfolding shownAt spot
+  spot-is st e i = rw (i, ← e .rows-are, ← e .shift-is)
+
+  pub shown-above : p .line < p .top → Reads shownHere f p 640
+  shown-above k st e i = spot-is st e i ∙ above _ _ _ _ _ _ k
+
+  pub shown-near : {n : ℕ} → p .top ≤ p .line → p .line - p .top < f .rows → (p .line - p .top) * 80 + (p .column - 1) + f .shift ≡ n → Reads shownHere f p n
+  shown-near k j d st e i = spot-is st e i ∙ near _ _ _ _ _ _ k j ∙ d
+
+  pub shown-far : {n : ℕ} → p .top ≤ p .line → f .rows ≤ p .line - p .top → p .line - p .top < f .height → (p .line - p .top - f .rows) * 80 + p .column + 40 ≡ n → Reads shownHere f p n
+  shown-far k j h d st e i = spot-is st e i ∙ far _ _ _ _ _ _ k j (rw (height-by st e) at h) ∙ d
+
+  pub shown-below : p .top ≤ p .line → f .rows ≤ p .line - p .top → f .height ≤ p .line - p .top → Reads shownHere f p 640
+  shown-below k j h st e i = spot-is st e i ∙ below _ _ _ _ _ _ k j (rw (height-by st e) at h)

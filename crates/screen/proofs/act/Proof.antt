@@ -1,0 +1,75 @@
+-- `act` meets its contract: each arm obeys the sequence that it names by the function that it calls, and the last changes nothing.
+use mathlib.Core.Path.{refl}
+use borrow.Author.Needs.{needs}
+use Rattle.model.specs.Checks.{member}
+use Rattle.model.specs.Rules.{obeyed}
+use Rattle.model.specs.OnScreen.{onScreen?}
+use Rattle.screen.proofs.Sequences.{idles, legal-at, obeys, off-screen}
+use Rattle.screen.proofs.Windows.{greatest-top, topped-at}
+use Rattle.screen.proofs.act.Statement.{statement}
+use Rattle.screen.proofs.act.Tie as tie
+
+pub act-spec : {M : Type 1} → statement M
+unfolding member obeyed onScreen?
+act-spec =
+    tie.close
+    (tie.spec
+    (λ c. search needs)
+    (λ c κs. search needs)
+    (λ c. search needs)
+    (λ c κs. search needs)
+    (λ c. search needs)
+    (λ c κs. (c .before .before .before .before .before .before .pre .0 .stands, (c .before .before .before .before .before .before .pre .0 .layer-are, legal-at (c .before .before .before .before .before .before .args .frame) (c .before .before .q2 .given .1) (c .before .before .before .before .before .before .pre .1))))
+    (λ c. search needs)
+    (λ c κs. search needs)
+    (λ c. search needs)
+    (λ c κs. search needs)
+    (λ c. search needs)
+    (λ c κs. let e = legal-at (c .before .before .before .before .before .before .before .args .frame) (c .before .before .before .q3 .given .1) (c .before .before .before .before .before .before .before .pre .1) in (c .before .before .before .before .before .before .before .pre .0, (e .1 .0 .0 .0, e .1 .0 .1)))
+    (λ c. search needs)
+    (λ c κs. let e = legal-at (c .before .before .before .before .before .before .before .args .frame) (c .before .before .before .q4 .given .1) (c .before .before .before .before .before .before .before .pre .1) in (c .before .before .before .before .before .before .before .pre .0, (e .1 .0 .0 .0, e .1 .0 .1)))
+    (λ c. search needs)
+    (λ c κs. search needs)
+    (λ c κs. search needs)
+    (λ c. search needs)
+    (λ c κs. search needs)
+    (λ c κs. search needs)
+    (λ c. search needs)
+    (λ c κs. search needs)
+    (λ c. search needs)
+    (λ c κs. search needs)
+    (λ c κs. search needs)
+    (λ c. search needs)
+    (λ c κs. search needs)
+    (λ c κs. search needs)
+    (λ c. search needs)
+    (λ c. search needs)
+    (λ c. obeys (c .before .before .before .before .before .before .before .before .q .given .1) refl (λ m. c .before .before .before .before .print .ensures))
+    (λ c. search needs)
+    (λ c. search needs)
+    (λ c. obeys (c .before .before .before .before .before .before .before .enum-told .given .1) refl (λ m. c .before .before .before .before .clear .ensures))
+    (λ c. search needs)
+    (λ c. obeys (c .before .before .before .before .before .q2 .given .1) refl (λ m. c .before .before .put .ensures _ (c .before .before .before .before .before .before .before .before .before .pre .0 .cells-are)))
+    (λ c. search needs)
+    (λ c. search needs)
+    (λ c. obeys (c .before .before .before .before .before .before .before .enum-told2 .given .1) refl (λ m. c .before .before .before .before .erase-line .ensures))
+    (λ c. search needs)
+    (λ c. search needs)
+    (λ c. obeys (c .before .before .before .before .before .before .before .enum-told3 .given .1) refl (λ m. c .before .before .before .before .erase-rest .ensures))
+    (λ c. search needs)
+    (λ c. search needs)
+    (λ c. obeys (c .before .before .before .before .before .before .before .before .q3 .given .1) refl (λ m. c .before .before .before .before .up .ensures))
+    (λ c. search needs)
+    (λ c. search needs)
+    (λ c. obeys (c .before .before .before .before .before .before .before .before .q4 .given .1) refl (λ m. c .before .before .before .before .down .ensures))
+    (λ c. search needs)
+    (λ c. obeys (c .before .before .before .before .before .enum-told4 .given .1) refl (λ m. topped-at (c .before .before .before .before .less .ensures) (c .before .before .turn .ensures) _ (c .before .before .before .before .before .before .before .before .before .pre .0 .cells-are)))
+    (λ c. search needs)
+    (λ c. obeys (c .before .before .before .before .before .enum-told5 .given .1) refl (λ m. topped-at (c .before .before .before .before .more .ensures) (c .before .before .turn2 .ensures) _ (c .before .before .before .before .before .before .before .before .before .pre .0 .cells-are)))
+    (λ c. search needs)
+    (λ c. obeys (c .before .before .before .before .enum-told6 .given .1) refl (λ m. c .before .before .turn3 .ensures _ (c .before .before .before .before .before .before .before .before .pre .0 .cells-are)))
+    (λ c. search needs)
+    (λ c. obeys (c .before .before .before .before .before .enum-told7 .given .1) refl (λ m. topped-at (greatest-top (c .before .before .before .before .before .before .before .before .before .pre .0 .stands) (c .before .before .before .before .most .ensures)) (c .before .before .turn4 .ensures) _ (c .before .before .before .before .before .before .before .before .before .pre .0 .cells-are)))
+    (λ c. search needs)
+    (λ c. obeys (c .before .before .before .before .before .enum-told8 .given .1) refl (λ m. topped-at (c .before .before .before .before .centre .ensures) (c .before .before .turn5 .ensures) _ (c .before .before .before .before .before .before .before .before .before .pre .0 .cells-are)))
+    (λ c. idles (off-screen (c .before .before .before .args .q) (c .match .keys13))))

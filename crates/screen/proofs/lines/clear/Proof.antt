@@ -1,0 +1,17 @@
+-- `lines::clear` meets its contract: the blanked cells are all lines of the screen, and home is a place of it.
+use borrow.Author.Needs.{needs}
+use Rattle.screen.proofs.Regions.{cleared-acts}
+use Rattle.screen.proofs.lines.clear.Statement.{statement}
+use Rattle.screen.proofs.lines.clear.Tie as tie
+
+pub clear-spec : {M : Type 1} → statement M
+clear-spec =
+    tie.close
+    (tie.spec
+    (λ c κs. search needs)
+    (λ c κs. search needs)
+    (λ c κs. search needs)
+    (λ c κs. search needs)
+    (λ c. search needs)
+    (λ c. search needs)
+    (λ c. cleared-acts (search needs) (c .before .before .before .empty .ensures) (c .before .before .before .before .before .before .before .before .times .ensures .0) (c .before .before .before .before .before .before .before .blank .ensures) (c .home-place .ensures)))

@@ -1,0 +1,15 @@
+-- `marks::empty` meets its contract: the layer that is filled has 1,280 bytes.
+use mathlib.Core.Path.{_∙_, ap}
+use Prim.Native.Nat.{ℕ}
+use lib.ListN.{replicate}
+use borrow.Author.Needs.{needs}
+use Rattle.screen.proofs.marks.empty.Statement.{statement}
+use Rattle.screen.proofs.marks.empty.Tie as tie
+
+pub empty-spec : {M : Type 1} → statement M
+empty-spec =
+    tie.close
+    (tie.spec
+    (λ c κs. search needs)
+    (λ c. search needs)
+    (λ c. c .before .before .fill .ensures ∙ ap (λ (n : ℕ). replicate n 0) (c .before .before .before .before .before .pre)))

@@ -1,0 +1,20 @@
+-- `marks::empty_at` meets its contract: a place below 640 has its mark and its code in the layer.
+use native.Mathlib.Omega.{arith}
+use lib.ListN.{length-set}
+use borrow.Author.Tests.{le-ltb, lt-ltb}
+use borrow.Author.Needs.{needs}
+use Rattle.model.specs.Rules.{unmark}
+use Rattle.screen.proofs.marks.empty_at.Statement.{statement}
+use Rattle.screen.proofs.marks.empty_at.Tie as tie
+
+pub empty-at-spec : {M : Type 1} → statement M
+unfolding unmark
+empty-at-spec =
+    tie.close
+    (tie.spec
+    (λ c. search needs)
+    (λ c. search needs)
+    (λ c. simp length-set (omega arith))
+    (λ c. simp length-set)
+    (λ c. rw (lt-ltb _ _ (c .if1 .taken)))
+    (λ c. rw (le-ltb _ _ (c .if1 .left))))

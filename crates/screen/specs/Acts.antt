@@ -1,0 +1,35 @@
+-- The one shape of every contract: what a function does to the place, the cells and the layer is, of any settings with that
+-- frame and that place, what a rule of the model does to what stands.
+use mathlib.Core.Path.{_≡_}
+use Prim.Native.Nat.{ℕ, _+_, _≤_}
+use mathlib.Core.List.{List}
+use lib.ListN.{length, set}
+use Rattle.model.specs.declared.Place.{Place}
+use Rattle.model.specs.declared.Settings.{Settings}
+use Rattle.model.specs.State.{State, state, withPlaces}
+use Rattle.model.specs.Screens.{placeOf, here}
+use Rattle.screen.specs.declared.Frame.{Frame}
+use Rattle.screen.specs.Frame.{Framed, Ready}
+
+-- the settings with another place on the selected screen
+abbrev pub withPlace : Settings → Place → Settings
+withPlace s r = withPlaces s (set (s .places) (s .selected) r)
+
+-- from place p, cells and layer to place r, cells′ and layer′, as the rule does, and ready for the next
+pub record Acts (rule : State → State) (f : Frame) (p r : Place) (cells layer cells′ layer′ : List ℕ) : Type 0 where
+  pub does : (s : Settings) → Framed s f → placeOf s (s .selected) ≡ p → rule (state s cells layer) ≡ state (withPlace s r) cells′ layer′
+  pub ready : Ready f r cells′ layer′
+
+-- the same of a function that is lent the layer alone: the cells stay, whatever they are
+abbrev pub ActsAbove : (State → State) → Frame → Place → Place → List ℕ → List ℕ → Type 0
+ActsAbove rule f p r layer layer′ = (cells : List ℕ) → length cells ≡ 3840 → Acts rule f p r cells layer cells layer′
+
+-- what is read off what stands, of any settings with that frame and that place
+abbrev pub Reads : {A : Type 0} → (State → A) → Frame → Place → A → Type 0
+Reads value f p r = (st : State) → Framed (st .settings) f → here st ≡ p → value st ≡ r
+
+-- a window top that is read so, "held in range"
+pub record Top (value : State → ℕ) (f : Frame) (p : Place) (t : ℕ) : Type 0 where
+  pub is : Reads value f p t
+  pub low : 1 ≤ t
+  pub high : t + f .height ≤ f .lines + 1

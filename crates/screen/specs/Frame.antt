@@ -1,0 +1,53 @@
+-- A frame: what acting on the selected screen needs of the settings. It is worked out when a mode, the selection, the step or
+-- tracking changes, and not for each byte, so that a printed byte copies no settings. It names no place: the cursor and the
+-- window move under one and the same frame.
+use mathlib.Core.Path.{_≡_}
+use Prim.Native.Nat.{ℕ, _+_, _*_, _≤_, _<_}
+use mathlib.Core.Bool.{cond, _&&_}
+use mathlib.Core.List.{List}
+use lib.ListN.{length}
+use lib.Dec.{eqb}
+use Rattle.model.specs.declared.Place.{Place}
+use Rattle.model.specs.declared.Settings.{Settings}
+use Rattle.model.specs.declared.Limits.{Limits}
+use Rattle.model.specs.Screens.{linesOf, columnsOf, placeOf, textRows, height, base}
+use Rattle.model.specs.Sound.{Fits}
+use Rattle.screen.specs.declared.Frame.{Frame}
+
+-- f is the frame of the settings s
+pub record Framed (s : Settings) (f : Frame) : Type 0 where
+  pub two-places : length (s .places) ≡ 2
+  pub selected-low : s .selected < 2
+  pub lines-are : f .lines ≡ linesOf s (s .selected)
+  pub columns-are : f .columns ≡ columnsOf s (s .selected)
+  pub base-is : f .base ≡ base s (s .selected)
+  pub rows-are : f .rows ≡ textRows s
+  pub height-is : f .height ≡ height s
+  pub shift-is : f .shift ≡ cond (eqb (s .mode) 2 && eqb (s .selected) 1) (s .columns1 + 1) 0
+  pub step-is : f .step ≡ s .step
+  pub tracking-is : f .tracking ≡ s .tracking
+
+-- the screen of f lies among the cells, its window is no taller than it, and p is a place of it
+pub record Stands (f : Frame) (p : Place) : Type 0 where
+  pub among : f .base + f .lines * f .columns ≤ 3840
+  pub columns-low : 1 ≤ f .columns
+  pub lines-high : f .lines ≤ 48
+  pub height-low : 1 ≤ f .height
+  pub height-high : f .height ≤ f .lines
+  pub step-high : f .step ≤ f .height
+  pub fits : Fits (f .lines) (f .columns) (f .height) p
+
+-- and the stores have their sizes: what is asked before each step, and holds after it
+pub record Ready (f : Frame) (p : Place) (cells layer : List ℕ) : Type 0 where
+  pub stands : Stands f p
+  pub cells-are : length cells ≡ 3840
+  pub layer-are : length layer ≡ 1280
+
+-- what frame_of promises of sound settings
+pub record FrameOf (s : Settings) (f : Frame) : Type 0 where
+  pub framed : Framed s f
+  pub stands : Stands f (placeOf s (s .selected))
+
+-- what parameters are judged by
+abbrev pub limitsIn : Frame → Limits
+limitsIn f = record { lines = f .lines; columns = f .columns; height = f .height }

@@ -1,0 +1,27 @@
+-- A run of printed bytes of a message.
+use Prim.Native.Nat.{ℕ, _-_, _≤_, _<_}
+use mathlib.Core.List.{List, [], _∷_}
+use lib.ListN.{length, getD, take, drop}
+use Rattle.model.specs.declared.Place.{Place}
+use Rattle.model.specs.State.{State}
+use Rattle.model.specs.Rules.{printed}
+use Rattle.screen.specs.declared.Frame.{Frame}
+use Rattle.screen.specs.declared.run.Run.{Run}
+use Rattle.screen.specs.Acts.{Acts}
+
+-- bytes printed one after the other
+unfoldable pub printedAll : List ℕ → State → State
+printedAll [] st = st
+printedAll (b ∷ bs) st = printedAll bs (printed b st)
+
+-- the bytes of m from an offset up to where the run ends are printed; there is at least one, and "Bytes 32 to 255 print"
+pub record Ran (m : List ℕ) (at : ℕ) (f : Frame) (p : Place) (r : Run) (cells layer cells′ layer′ : List ℕ) : Type 0 where
+  pub some : at < r .at
+  pub inside : r .at ≤ length m
+  pub print : (j : ℕ) → at ≤ j → j < r .at → 32 ≤ getD m j 0
+  pub acts : Acts (printedAll (take (r .at - at) (drop at m))) f p (r .place) cells layer cells′ layer′
+
+-- a byte of m that prints
+pub record Prints (m : List ℕ) (at : ℕ) : Type 0 where
+  pub inside : at < length m
+  pub prints : 32 ≤ getD m at 0

@@ -1,0 +1,202 @@
+// Everything that acts on the selected screen alone: its cells, the layer, its cursor and window. What it needs of the settings
+// is a frame, which a caller keeps beside the selected screen's place, so that a printed byte copies no settings.
+mod cursor;
+mod lines;
+mod marks;
+mod places;
+pub mod run;
+mod window;
+
+use model::Place;
+use model::Sequence;
+use model::Settings;
+ghost use mathlib.Core.Path.{_≡_};
+ghost use Prim.Native.Nat.{_+_, _*_, _-_, _<_};
+ghost use lib.ListN.{length};
+ghost use lib.Dec.{eqb};
+ghost use mathlib.Core.Bool.{cond, true};
+ghost use Rattle.model.specs.Sound.{Sound};
+ghost use Rattle.model.specs.Checks.{InRanges};
+ghost use Rattle.model.specs.Judging.{ranges, legal?};
+ghost use Rattle.model.specs.State.{State, putAt};
+ghost use Rattle.model.specs.Screens.{here};
+ghost use Rattle.model.specs.Rules.{printed, control, placed, trackedFar};
+ghost use Rattle.screen.specs.Frame.{Stands, Ready, FrameOf, limitsIn};
+ghost use Rattle.screen.specs.Acts.{Acts, ActsAbove};
+ghost use Rattle.model.specs.OnScreen.{onScreen?};
+ghost use Rattle.screen.specs.Obeys.{Obeys};
+
+// The rows of the shown screen, all of which show text.
+const ROWS: u8 = 8;
+
+// Of the selected screen: its first cell, its lines and columns; the rows of the shown screen and the window's height H; by how
+// many columns the picture shows it further right (mode 2, screen 2); the step of the window, and whether it tracks the cursor.
+pub struct Frame {
+    pub base: usize,
+    pub lines: u8,
+    pub columns: u8,
+    pub rows: u8,
+    pub height: u8,
+    pub shift: u8,
+    pub step: u8,
+    pub tracking: u8,
+}
+
+// The frame of sound settings.
+pub fn frame_of(settings: Settings) -> Frame
+    requires { ⌜ Sound settings ⌝ }
+    ensures { λ r. ⌜ FrameOf settings r ⌝ }
+{
+    if settings.selected == 0 {
+        Frame {
+            base: 0,
+            lines: settings.lines1,
+            columns: settings.columns1,
+            rows: ROWS,
+            height: height_of(settings.mode),
+            shift: 0,
+            step: settings.step,
+            tracking: settings.tracking,
+        }
+    } else {
+        Frame {
+            base: times(settings.lines1, settings.columns1),
+            lines: settings.lines2,
+            columns: settings.columns2,
+            rows: ROWS,
+            height: height_of(settings.mode),
+            shift: shift_of(settings.mode, settings.columns1),
+            step: settings.step,
+            tracking: settings.tracking,
+        }
+    }
+}
+
+// A printed byte, and ESC 37: it is stored, and the cursor moves right.
+pub fn print(frame: Frame, place: Place, code: u8, cells: &mut [u8], layer: &mut [u8]) -> Place
+    requires { ⌜ Ready frame place (now cells) (now layer) ⌝ }
+    ensures { λ r. ⌜ Acts (printed code) frame place r (now (cells .entry)) (now (layer .entry)) (now (cells .exit)) (now (layer .exit)) ⌝ }
+{
+    cursor::store(frame, place, code, cells, layer);
+    let next = cursor::right(frame, place, cells, layer);
+    window::track(frame, next, layer)
+}
+
+// A control code: 8 one column back, 10 one line down, 13 to column 1, 12 as ESC 42; other codes do nothing.
+pub fn control(frame: Frame, place: Place, code: u8, cells: &mut [u8], layer: &mut [u8]) -> Place
+    requires { ⌜ Ready frame place (now cells) (now layer) ⌝ }
+    ensures { λ r. ⌜ Acts (control code) frame place r (now (cells .entry)) (now (layer .entry)) (now (cells .exit)) (now (layer .exit)) ⌝ }
+{
+    match code {
+        8 => {
+            let next = places::put_at(place, place.line, cursor::before(place.column));
+            window::track(frame, next, layer)
+        }
+        10 => {
+            let next = cursor::down(frame, place, cells, layer);
+            window::track(frame, next, layer)
+        }
+        13 => {
+            let next = places::put_at(place, place.line, 1);
+            window::track(frame, next, layer)
+        }
+        12 => lines::clear(frame, place, cells, layer),
+        _ => place,
+    }
+}
+
+// An accepted sequence that acts on the selected screen alone. Any other leaves all as it is.
+pub fn act(frame: Frame, place: Place, q: Sequence, cells: &mut [u8], layer: &mut [u8]) -> Place
+    requires { ⌜ Ready frame place (now cells) (now layer) ⌝ }
+    requires { ⌜ legal? q (limitsIn frame) ≡ true ⌝ }
+    ensures { λ r. ⌜ Obeys q frame place r (now (cells .entry)) (now (layer .entry)) (now (cells .exit)) (now (layer .exit)) ⌝ }
+{
+    match q {
+        Sequence::PrintCode(code) => print(frame, place, code, cells, layer),
+        Sequence::Clear => lines::clear(frame, place, cells, layer),
+        Sequence::Put { line, column } => put(frame, place, line, column, layer),
+        Sequence::EraseLine => {
+            lines::erase_line(frame, place, cells, layer);
+            place
+        }
+        Sequence::EraseRest => {
+            lines::erase_rest(frame, place, cells, layer);
+            place
+        }
+        Sequence::LinesUp { from, count } => {
+            lines::up(frame, place, from, count, cells, layer);
+            place
+        }
+        Sequence::LinesDown { from, count } => {
+            lines::down(frame, place, from, count, cells, layer);
+            place
+        }
+        Sequence::WindowUp => window::turn(frame, place, window::less(frame, place), layer),
+        Sequence::WindowDown => window::turn(frame, place, window::more(frame, place), layer),
+        Sequence::WindowTop => window::turn(frame, place, 1, layer),
+        Sequence::WindowBottom => window::turn(frame, place, window::most(frame), layer),
+        Sequence::WindowCursor => window::turn(frame, place, window::centre(frame, place), layer),
+        _ => place,
+    }
+}
+
+// Whether a sequence is one of these.
+pub fn on_screen(q: Sequence) -> bool
+    ensures { λ r. ⌜ r ≡ onScreen? q ⌝ }
+{
+    match q {
+        Sequence::PrintCode(_) => true,
+        Sequence::Clear => true,
+        Sequence::Put { line: _, column: _ } => true,
+        Sequence::EraseLine => true,
+        Sequence::EraseRest => true,
+        Sequence::LinesUp { from: _, count: _ } => true,
+        Sequence::LinesDown { from: _, count: _ } => true,
+        Sequence::WindowUp => true,
+        Sequence::WindowDown => true,
+        Sequence::WindowTop => true,
+        Sequence::WindowBottom => true,
+        Sequence::WindowCursor => true,
+        _ => false,
+    }
+}
+
+// 61: "bytes m+31, n+31".
+fn put(frame: Frame, place: Place, line: u8, column: u8, layer: &mut [u8]) -> Place
+    requires { ⌜ Stands frame place ⌝ }
+    requires { ⌜ length (now layer) ≡ 1280 ⌝ }
+    requires { ⌜ InRanges (ranges (Sequence.Put line column) (limitsIn frame)) ⌝ }
+    ensures { λ r. ⌜ ActsAbove (λ (st : State). trackedFar (placed (putAt (line - 31) (column - 31) (here st)) st)) frame place r (now (layer .entry)) (now (layer .exit)) ⌝ }
+{
+    let next = places::put_at(place, line - 31, column - 31);
+    window::track_far(frame, next, layer)
+}
+
+// "H is the window's height": the rows, in mode 1 twice as many.
+fn height_of(mode: u8) -> u8
+    ensures { λ r. ⌜ r ≡ cond (eqb mode 1) 16 8 ⌝ }
+{
+    if mode == 1 { 2 * ROWS } else { ROWS }
+}
+
+// In mode 2 the picture shows screen 2 behind screen 1 and the boundary.
+fn shift_of(mode: u8, columns: u8) -> u8
+    requires { ⌜ columns < 255 ⌝ }
+    ensures { λ r. ⌜ r ≡ cond (eqb mode 2) (columns + 1) 0 ⌝ }
+{
+    if mode == 2 { columns + 1 } else { 0 }
+}
+
+// A byte as an index.
+fn wide(x: u8) -> usize
+    ensures { λ r. ⌜ r ≡ x ⌝ }
+{
+    x as usize
+}
+
+// As many lines of so many columns as cells.
+fn times(x: u8, y: u8) -> usize
+    ensures { λ r. ⌜ (r ≡ x * y) × (r < 65536) ⌝ }
+{
+    wide(x) * wide(y)
+}

@@ -1,0 +1,156 @@
+-- The loop's invariant, over what stands, and one turn of it: what is left to do gives the same end.
+use mathlib.Core.Path.{_∙_, _≡_, ap, refl, subst, sym}
+use Prim.Native.Nat.{_+_, _-_, _<_, _≤_, ℕ}
+use native.Mathlib.Omega.{arith}
+use mathlib.Core.Bool.{true}
+use mathlib.Core.List.{List, [], _++_, append-assoc, append-nil}
+use lib.ListN.{drop, getD, length, length-append, length-take, take, take-append-drop}
+use lib.Seq.{drop-at, drop-drop, length-take-le, take-at}
+use Rattle.model.specs.declared.Item.{Item}
+use Rattle.model.specs.declared.Item.the-variants.{Control, Printed, Refused, Sequence}
+use Rattle.model.specs.declared.Outcome.{Outcome}
+use Rattle.model.specs.Bytes.{onPart, put, written}
+use Rattle.model.specs.State.{State, state}
+use Rattle.model.specs.Sound.{Sound}
+use Rattle.model.specs.Judging.{judged, legalItem?, limitsOf}
+use Rattle.model.specs.Reading.{Read, itemOf, ownBytes}
+use Rattle.model.specs.Rules.{applyItem}
+use Rattle.model.specs.Items.{applyAll, blankAnswer, copies, copyOf, counted, countedAll, eventsOf, obeyedBy, printerBytes}
+use Rattle.model.proofs.ByteLaws.{length-put}
+use Rattle.model.proofs.Frames.{Good}
+use Rattle.model.proofs.ItemLaws.{obeyed-item}
+use Rattle.model.proofs.Loop.{answers, answers-turn, ends, ends-turn, prints, prints-turn, readAt, rest, rest-end}
+use Rattle.model.proofs.Patterns.{obeyed-in-message}
+use Rattle.model.proofs.Printing.{length-copy}
+use Rattle.serving.specs.declared.Counts.{Counts}
+use Rattle.serving.specs.Counting.{answerAt, countsWith, noCounts}
+use Rattle.serving.specs.Serves.{Serves}
+
+-- counting an item is counting it
+counted-at : (i : Item) (n at : ℕ) (c : Counts) → counted i n at (answerAt at c) ≡ answerAt (at + n) (countsWith i at c)
+counted-at (Printed b) n at c = refl
+counted-at (Control b) n at c = refl
+counted-at (Sequence q) n at c = refl
+counted-at (Refused k) n at c = refl
+
+printed-with : (i : Item) (at : ℕ) (c : Counts) → countsWith i at c .printed ≡ c .printed + printerBytes i
+printed-with (Printed b) at c = omega arith
+printed-with (Control b) at c = omega arith
+printed-with (Sequence q) at c = refl
+printed-with (Refused k) at c = omega arith
+
+counts-few : (i : Item) (at : ℕ) (c : Counts) → countsWith i at c .accepted + countsWith i at c .refused ≤ c .accepted + c .refused + 1
+counts-few (Printed b) at c = omega arith
+counts-few (Control b) at c = omega arith
+counts-few (Sequence q) at c = omega arith
+counts-few (Refused k) at c = omega arith
+
+-- bytes put behind the first p: the front is those and they, the rest stays
+module _ (p : ℕ) (ys xs : List ℕ) (h : p + length ys ≤ length xs) where
+  front-length : length (take p xs ++ ys) ≡ p + length ys
+  front-length = simp (length-append, length-take) (omega arith)
+
+  put-front : take (p + length ys) (put p ys xs) ≡ take p xs ++ ys
+  unfolding put onPart
+  put-front = ap (take (p + length ys)) (sym (append-assoc (take p xs) ys (drop (p + length ys) xs))) ∙ take-at (take p xs ++ ys) (drop (p + length ys) xs) (p + length ys) front-length
+
+  put-rest : drop (p + length ys) (put p ys xs) ≡ drop (p + length ys) xs
+  unfolding put onPart
+  put-rest = ap (drop (p + length ys)) (sym (append-assoc (take p xs) ys (drop (p + length ys) xs))) ∙ drop-at (take p xs ++ ys) (drop (p + length ys) xs) (p + length ys) front-length
+
+-- the message m, what stood at first and the printer buffer as it came
+module _ (m : List ℕ) (first : State) (buffer : List ℕ) where
+  -- at an offset: what stands, the counts, the printer buffer now
+  pub record Going (at : ℕ) (st : State) (c : Counts) (printer : List ℕ) : Type 0 where
+    pub reached : at ≤ length m
+    pub good : Good st
+    pub few : c .accepted + c .refused ≤ at
+    pub fits : c .printed ≤ length buffer
+    pub same-size : length printer ≡ length buffer
+    pub state-left : ends m at st (length buffer - c .printed) ≡ ends m 0 first (length buffer)
+    pub answer-left : answers m at st (length buffer - c .printed) (answerAt at c) ≡ answers m 0 first (length buffer) (blankAnswer 0)
+    pub printed-done : take (c .printed) printer ++ prints m at st (length buffer - c .printed) ≡ prints m 0 first (length buffer)
+    pub printer-rest : drop (c .printed) printer ≡ drop (c .printed) buffer
+
+  pub start : Good first → Going 0 first noCounts buffer
+  start g =
+      let z : length buffer - 0 ≡ length buffer = omega arith in
+      record {
+        reached = omega arith;
+        good = g;
+        few = omega arith;
+        fits = omega arith;
+        same-size = refl;
+        state-left = ap (ends m 0 first) z;
+        answer-left = ap (λ (n : ℕ). answers m 0 first n (blankAnswer 0)) z;
+        printed-done = ap (prints m 0 first) z;
+        printer-rest = refl;
+      }
+
+  module _ (at : ℕ) (st : State) (c : Counts) (printer : List ℕ) (g : Going at st c printer) (more : at < length m) where
+    abbrev room : ℕ
+    room = length buffer - c .printed
+
+    abbrev item : Item
+    item = judged (itemOf at (ownBytes m at)) (limitsOf (st .settings)) room
+
+    -- an item obeyed, counted, and its copy printed behind those before
+    Turned : Item → Type 0
+    Turned i = (size : ℕ) (st′ : State) (printer′ : List ℕ) → size ≡ length (ownBytes m at) → at + size ≤ length m → legalItem? i (limitsOf (st .settings)) ≡ true → 1 ≤ size → printerBytes i ≤ room
+        → st′ ≡ applyItem (λ o. getD m o 0) i st → printer′ ≡ put (c .printed) (copyOf i st) printer → Going (at + size) st′ (countsWith i at c) printer′
+
+    turned : Turned item
+    unfolding readAt Turned
+    turned size st′ printer′ n inside legal some roomy e w =
+        let ys : List ℕ = copyOf item st in
+        let k : length ys ≡ printerBytes item = length-copy item st in
+        let p : countsWith item at c .printed ≡ c .printed + length ys = printed-with item at c ∙ ap (λ (x : ℕ). c .printed + x) (sym k) in
+        let here : obeyedBy (readAt m at st room) st ≡ st′ = obeyed-in-message m at st room ∙ sym e in
+        let left : room - printerBytes item ≡ length buffer - countsWith item at c .printed = omega (arith, printed-with item at c) in
+        let fit : c .printed + length ys ≤ length printer = omega (arith, g .same-size, g .fits) in
+        let tail : List ℕ = prints m (at + size) st′ (length buffer - countsWith item at c .printed) in
+        record {
+          reached = inside;
+          good = subst Good (sym e) (obeyed-item (λ o. getD m o 0) item st (g .good) legal .good);
+          few = omega (arith, counts-few item at c, g .few);
+          fits = omega (arith, printed-with item at c, g .fits);
+          same-size = ap length w ∙ length-put (c .printed) ys printer fit ∙ g .same-size;
+          state-left = sym (ends-turn m at st room more ∙ (λ i. ends m (at + sym n i) (here i) (left i))) ∙ g .state-left;
+          answer-left = sym (answers-turn m at st room (answerAt at c) more
+              ∙ (λ i. answers m (at + sym n i) (here i) (left i) ((counted-at item (length (ownBytes m at)) at c ∙ ap (λ (x : ℕ). answerAt (at + x) (countsWith item at c)) (sym n)) i))) ∙ g .answer-left;
+          printed-done =
+              (λ i. take (p i) (w i) ++ tail) ∙ ap (λ (l : List ℕ). l ++ tail) (put-front (c .printed) ys printer fit) ∙ append-assoc (take (c .printed) printer) ys tail
+              ∙ ap (λ (l : List ℕ). take (c .printed) printer ++ l) (sym (prints-turn m at st room more ∙ (λ i. ys ++ prints m (at + sym n i) (here i) (left i)))) ∙ g .printed-done;
+          printer-rest =
+              (λ i. drop (p i) (w i)) ∙ put-rest (c .printed) ys printer fit ∙ further (c .printed) (length ys) printer ∙ ap (drop (length ys)) (g .printer-rest) ∙ sym (further (c .printed) (length ys) buffer)
+              ∙ ap (λ (x : ℕ). drop x buffer) (sym p);
+        }
+      where
+        further : (p n : ℕ) (xs : List ℕ) → drop (p + n) xs ≡ drop n (drop p xs)
+        further p n xs = sym (drop-drop n p xs)
+
+    -- the item that is read at the offset
+    pub turn : (i : Item) → i ≡ item → (size : ℕ) (st′ : State) (printer′ : List ℕ) → size ≡ length (ownBytes m at) → at + size ≤ length m → legalItem? i (limitsOf (st .settings)) ≡ true → 1 ≤ size → printerBytes i ≤ room
+        → st′ ≡ applyItem (λ o. getD m o 0) i st → printer′ ≡ put (c .printed) (copyOf i st) printer → Going (at + size) st′ (countsWith i at c) printer′
+    unfolding Turned
+    turn i e = subst Turned (sym e) turned
+
+  -- the end
+  pub finish : (at : ℕ) (st : State) (c : Counts) (printer : List ℕ) → Going at st c printer → length m ≤ at → (r : Outcome) → state (r .settings) (st .cells) (st .layer) ≡ st → r .answer ≡ answerAt at c
+      → Serves m first buffer r (st .cells) (st .layer) printer
+  unfolding rest ends answers prints applyAll countedAll copies written
+  finish at st c printer g h r e a =
+      let none : rest m at st (length buffer - c .printed) ≡ [] = rest-end m at st (length buffer - c .printed) h in
+      let n : length (take (c .printed) printer) ≡ c .printed = length-take-le (c .printed) printer (omega (arith, g .fits, g .same-size)) in
+      let all : take (c .printed) printer ≡ prints m 0 first (length buffer) =
+      sym (append-nil (take (c .printed) printer)) ∙ ap (λ (rs : List Read). take (c .printed) printer ++ copies (eventsOf rs) st) (sym none) ∙ g .printed-done in
+      record {
+        state-is = e ∙ ap (λ (rs : List Read). applyAll (eventsOf rs) st) (sym none) ∙ g .state-left;
+        answer-is = a ∙ ap (λ (rs : List Read). countedAll rs (answerAt at c)) (sym none) ∙ g .answer-left;
+        printer-is =
+            sym (take-append-drop (c .printed) printer) ∙ (λ i. all i ++ g .printer-rest i)
+            ∙ ap (λ (x : ℕ). prints m 0 first (length buffer) ++ drop x buffer) (sym n ∙ ap length all);
+        sound = subst (λ (x : State). Sound (x .settings)) (sym e) (g .good .sound);
+        cells-are = g .good .cells-are;
+        layer-are = g .good .layer-are;
+      }

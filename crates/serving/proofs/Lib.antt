@@ -1,0 +1,4 @@
+pub mod Going
+pub mod Runs
+pub mod Acted
+pub mod Turns

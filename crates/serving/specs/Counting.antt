@@ -1,0 +1,44 @@
+-- The counts while a message is served, and the answer that they make at an offset.
+use Prim.Native.Nat.{ℕ, _+_, _^_, _<_}
+use mathlib.Core.Bool.{Bool, cond}
+use lib.Dec.{eqb}
+use Rattle.model.specs.declared.Answer.{Answer}
+use Rattle.model.specs.declared.Item.{Item}
+use Rattle.model.specs.declared.Item.the-variants.{Printed, Control, Sequence, Refused}
+use Rattle.model.specs.Picture.{copySize}
+use Rattle.model.specs.Items.{printerBytes}
+use Rattle.serving.specs.declared.Counts.{Counts}
+
+-- none yet
+abbrev pub noCounts : Counts
+noCounts = record { accepted = 0; refused = 0; first = 0; offset = 0; printed = 0 }
+
+-- a sequence accepted, with so many printer bytes
+abbrev pub acceptedWith : ℕ → Counts → Counts
+acceptedWith n c = record { accepted = c .accepted + 1; refused = c .refused; first = c .first; offset = c .offset; printed = c .printed + n }
+
+-- a refusal: "number and offset of the first refusal"
+abbrev pub refusedWith : ℕ → ℕ → Counts → Counts
+refusedWith n at c =
+    record { accepted = c .accepted; refused = c .refused + 1; first = cond (eqb (c .refused) 0) n (c .first); offset = cond (eqb (c .refused) 0) at (c .offset); printed = c .printed }
+
+-- one item more, at an offset
+abbrev pub countsWith : Item → ℕ → Counts → Counts
+countsWith (Printed b) at c = c
+countsWith (Control b) at c = c
+countsWith (Sequence q) at c = acceptedWith (printerBytes (Sequence q)) c
+countsWith (Refused n) at c = refusedWith n at c
+
+-- the counts have room for one more
+pub record Countable (c : Counts) (i : Item) (at : ℕ) : Type 0 where
+  pub few : c .accepted + c .refused < 4096
+  pub near : at < 4096
+  pub roomy : c .printed + printerBytes i < 2 ^ 64
+
+pub record Accepting (c : Counts) (copied : Bool) : Type 0 where
+  pub few : c .accepted < 4096
+  pub roomy : c .printed + cond copied copySize 0 < 2 ^ 64
+
+-- the answer when so many bytes are taken
+abbrev pub answerAt : ℕ → Counts → Answer
+answerAt at c = record { number = 0; taken = at; accepted = c .accepted; refused = c .refused; first = c .first; offset = c .offset; printed = c .printed }

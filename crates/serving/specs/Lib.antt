@@ -1,0 +1,3 @@
+pub mod Counting
+pub mod Acting
+pub mod Serves

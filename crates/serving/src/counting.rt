@@ -1,0 +1,97 @@
+// What the answer counts.
+ghost use mathlib.Core.Path.{_≡_};
+ghost use lib.Dec.{eqb};
+ghost use Rattle.model.specs.Sequences.{codeOf};
+ghost use mathlib.Core.Bool.{cond};
+ghost use Prim.Native.Nat.{_<_};
+ghost use Rattle.model.specs.Picture.{copySize};
+ghost use Rattle.serving.specs.Counting.{noCounts, acceptedWith, refusedWith, countsWith, answerAt, Accepting, Countable};
+use crate::Counts;
+use model::Answer;
+use model::Item;
+use model::Sequence;
+
+// None yet.
+pub(crate) fn no_counts() -> Counts
+    ensures { λ r. ⌜ r ≡ noCounts ⌝ }
+{
+    Counts {
+        accepted: 0,
+        refused: 0,
+        first: 0,
+        offset: 0,
+        printed: 0,
+    }
+}
+
+// Whether a sequence is 80.
+pub(crate) fn is_copy(q: Sequence) -> bool
+    ensures { λ r. ⌜ r ≡ eqb (codeOf q) 80 ⌝ }
+{
+    if let Sequence::Copy = q { true } else { false }
+}
+
+// One item more, at an offset: "sequences accepted, sequences refused, number and offset of the first refusal .., printer bytes".
+pub(crate) fn count(counts: Counts, item: Item, at: usize) -> Counts
+    requires { ⌜ Countable counts item at ⌝ }
+    ensures { λ r. ⌜ r ≡ countsWith item at counts ⌝ }
+{
+    match item {
+        Item::Printed(_) => counts,
+        Item::Control(_) => counts,
+        Item::Sequence(q) => accept(counts, is_copy(q)),
+        Item::Refused(n) => refuse(counts, n, at as u32),
+    }
+}
+
+// A sequence accepted, a copy with its bytes.
+fn accept(counts: Counts, copied: bool) -> Counts
+    requires { ⌜ Accepting counts copied ⌝ }
+    ensures { λ r. ⌜ r ≡ acceptedWith (cond copied copySize 0) counts ⌝ }
+{
+    let mut c = counts;
+    c.accepted += 1;
+    if copied {
+        c.printed += 656;
+    }
+    c
+}
+
+// A refusal, the first with its number and offset.
+fn refuse(counts: Counts, number: u8, at: u32) -> Counts
+    requires { ⌜ counts .refused < 4096 ⌝ }
+    ensures { λ r. ⌜ r ≡ refusedWith number at counts ⌝ }
+{
+    if counts.refused == 0 {
+        return Counts {
+            accepted: counts.accepted,
+            refused: 1,
+            first: number,
+            offset: at,
+            printed: counts.printed,
+        };
+    }
+    Counts {
+        accepted: counts.accepted,
+        refused: counts.refused + 1,
+        first: counts.first,
+        offset: counts.offset,
+        printed: counts.printed,
+    }
+}
+
+// The answer when all bytes are taken.
+pub(crate) fn answer_of(counts: Counts, taken: usize) -> Answer
+    requires { ⌜ taken < 5000 ⌝ }
+    ensures { λ r. ⌜ r ≡ answerAt taken counts ⌝ }
+{
+    Answer {
+        number: 0,
+        taken: taken as u32,
+        accepted: counts.accepted,
+        refused: counts.refused,
+        first: counts.first,
+        offset: counts.offset,
+        printed: counts.printed,
+    }
+}

@@ -1,0 +1,4 @@
+pub mod Idle
+pub mod Parts
+pub mod Ranged
+pub mod Rows

@@ -1,0 +1,3 @@
+pub mod Keyed
+pub mod Given
+pub mod Obey

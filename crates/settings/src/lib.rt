@@ -1,0 +1,64 @@
+// Document 01, "What the sequences do": those that change the settings. 208 changes the cells and the layer too, 209 and 210
+// the layer. The others act inside the selected screen, on its cells, cursor and window, and are crate screen's.
+mod flags;
+mod keys;
+mod layer;
+mod modes;
+mod patterns;
+
+ghost use mathlib.Core.Path.{_≡_};
+ghost use Rattle.model.specs.State.{state};
+ghost use Rattle.settings.specs.Obey.{Obeying, settled};
+use model::Sequence;
+use model::Settings;
+
+// Does what an accepted sequence says. The last arm is what changes nothing here: the sequences of crate screen, 80 (the copy is
+// made from the picture), 198, 199 and 246.
+pub fn obey(
+    settings: Settings,
+    q: Sequence,
+    message: &[u8],
+    cells: &mut [u8],
+    layer: &mut [u8],
+) -> Settings
+    requires { ⌜ Obeying settings q (now message) (now cells) (now layer) ⌝ }
+    ensures { λ r. ⌜ state r (now (cells .exit)) (now (layer .exit)) ≡ settled (now (message .entry)) q (state settings (now (cells .entry)) (now (layer .entry))) ⌝ }
+{
+    match q {
+        Sequence::CursorOff => flags::cursor(settings, 0),
+        Sequence::CursorOn => flags::cursor(settings, 1),
+        Sequence::Charset(n) => keys::charset(settings, n),
+        Sequence::SecretOn => flags::secret(settings, 1),
+        Sequence::SecretOff => flags::secret(settings, 0),
+        Sequence::Step(n) => flags::step(settings, n),
+        Sequence::Tracking(n) => flags::tracking(settings, n),
+        Sequence::InsOn => keys::led(settings, 0, 1),
+        Sequence::InsOff => keys::led(settings, 0, 0),
+        Sequence::CapsOn => keys::led(settings, 1, 1),
+        Sequence::CapsOff => keys::led(settings, 1, 0),
+        Sequence::NumOn => keys::led(settings, 2, 1),
+        Sequence::NumOff => keys::led(settings, 2, 0),
+        Sequence::StringsOff => keys::strings(settings, 0),
+        Sequence::StringsOn => keys::strings(settings, 1),
+        Sequence::Mode0 { lines1, lines2 } => modes::mode0(settings, lines1, lines2, cells, layer),
+        Sequence::Mode1 { lines } => modes::mode1(settings, lines, cells, layer),
+        Sequence::Mode2 {
+            lines,
+            columns,
+            boundary,
+        } => modes::mode2(settings, lines, columns, boundary, cells, layer),
+        Sequence::Select(n) => flags::select(settings, n, layer),
+        Sequence::Mark { row, column, code } => layer::mark(settings, row, column, code, layer),
+        Sequence::Display(n) => flags::display(settings, n),
+        Sequence::CursorKind(n) => flags::kind(settings, n),
+        Sequence::Pattern { code, at } => patterns::keep(settings, code, message, at),
+        Sequence::Repeat(n) => keys::repeat(settings, n),
+        Sequence::RepeatDelay(n) => keys::delay(settings, n),
+        Sequence::RepeatInterval(n) => keys::interval(settings, n),
+        Sequence::Arrows1 { c1, c2, c3, c4 } => keys::arrows(settings, 0, c1, c2, c3, c4),
+        Sequence::Arrows2 { c1, c2, c3, c4 } => keys::arrows(settings, 4, c1, c2, c3, c4),
+        Sequence::Arrows3 { c1, c2, c3, c4 } => keys::arrows(settings, 8, c1, c2, c3, c4),
+        Sequence::Shift(n) => keys::shift(settings, n),
+        _ => settings,
+    }
+}

@@ -1,0 +1,93 @@
+-- Comparisons joined from the left, as code joins them, are the test of a list of ranges, which joins pairs from the right.
+use mathlib.Core.Path.{_∙_, _≡_, ap, refl}
+use Prim.Native.Nat.{ℕ, _+_, _-_}
+use native.Mathlib.Omega.{arith}
+use mathlib.Core.Bool.{Bool, true, _&&_, and-assoc, and-true, cond}
+use mathlib.Core.List.{[], _∷_}
+use lib.ListN.{getD}
+use lib.Dec.{eqb, leb}
+use Rattle.model.specs.declared.Keys.{Keys}
+use Rattle.model.specs.declared.Place.{Place}
+use Rattle.model.specs.declared.Settings.{Settings}
+use Rattle.model.specs.Checks.{inRanges?, member, passes, range}
+use Rattle.model.specs.Screens.{columnsOf, height, linesOf, placeOf, textRows}
+use Rattle.model.specs.State.{nowhere}
+use Rattle.model.proofs.Tests.{cond₂}
+use Rattle.model.specs.Sound.{arrayRanges, charsets, inside?, insideRanges, keyRanges, otherRanges, plainRanges, shapeRanges, shifts, sound?}
+
+pub three : (a b c d e f : Bool) → (a && b && c && d && e && f) ≡ ((a && b) && ((c && d) && ((e && f) && true)))
+three a b c d e f = simp (and-assoc, and-true)
+
+pub four : (a b c d e f g h : Bool) → (a && b && c && d && e && f && g && h) ≡ ((a && b) && ((c && d) && ((e && f) && ((g && h) && true))))
+four a b c d e f g h = simp (and-assoc, and-true)
+
+pub five : (a b c d e f g h i j : Bool) → (a && b && c && d && e && f && g && h && i && j) ≡ ((a && b) && ((c && d) && ((e && f) && ((g && h) && ((i && j) && true)))))
+five a b c d e f g h i j = simp (and-assoc, and-true)
+
+-- four ranges, a test, four ranges, a test
+pub keys : (a b c d e f g h s i j k l m n o p t : Bool)
+    → (a && b && c && d && e && f && g && h && s && i && j && k && l && m && n && o && p && t)
+    ≡ ((a && b) && ((c && d) && ((e && f) && ((g && h) && (s && ((i && j) && ((k && l) && ((m && n) && ((o && p) && (t && true))))))))))
+keys a b c d e f g h s i j k l m n o p t = simp (and-assoc, and-true)
+
+-- the whole test: two tests, four ranges and a test, two tests
+pub whole : (x y a b c d e f g h k u v : Bool)
+    → (x && y && a && b && c && d && e && f && g && h && k && u && v) ≡ (true && (x && (y && (((a && b) && ((c && d) && ((e && f) && ((g && h) && k)))) && (u && v)))))
+whole x y a b c d e f g h k u v = simp and-assoc
+
+-- the same of the lists of ranges, over their numbers
+module _ (l1 l2 c1 c2 : ℕ) where
+  pub mode-0 : (left : ℕ) → (leb 80 c1 && leb c1 80 && leb 80 c2 && leb c2 80 && leb 8 l1 && leb l1 48 && leb 8 l2 && leb l2 left) ≡ inRanges? (range 80 c1 80 ∷ range 80 c2 80 ∷ range 8 l1 48 ∷ range 8 l2 left ∷ [])
+  unfolding inRanges? passes
+  mode-0 left = four (leb 80 c1) (leb c1 80) (leb 80 c2) (leb c2 80) (leb 8 l1) (leb l1 48) (leb 8 l2) (leb l2 left)
+
+  pub mode-1 : (leb 39 c1 && leb c1 39 && leb 39 c2 && leb c2 39 && leb 16 l1 && leb l1 48 && leb l1 l2 && leb l2 l1) ≡ inRanges? (range 39 c1 39 ∷ range 39 c2 39 ∷ range 16 l1 48 ∷ range l1 l2 l1 ∷ [])
+  unfolding inRanges? passes
+  mode-1 = four (leb 39 c1) (leb c1 39) (leb 39 c2) (leb c2 39) (leb 16 l1) (leb l1 48) (leb l1 l2) (leb l2 l1)
+
+  pub mode-2 : (m beside : ℕ) → (leb 2 m && leb m 2 && leb 1 c1 && leb c1 78 && leb beside c2 && leb c2 beside && leb 8 l1 && leb l1 48 && leb l1 l2 && leb l2 l1)
+      ≡ inRanges? (range 2 m 2 ∷ range 1 c1 78 ∷ range beside c2 beside ∷ range 8 l1 48 ∷ range l1 l2 l1 ∷ [])
+  unfolding inRanges? passes
+  mode-2 m beside = five (leb 2 m) (leb m 2) (leb 1 c1) (leb c1 78) (leb beside c2) (leb c2 beside) (leb 8 l1) (leb l1 48) (leb l1 l2) (leb l2 l1)
+
+pub window : (lines columns less : ℕ) (p : Place)
+    → (leb 1 (p .line) && leb (p .line) lines && leb 1 (p .column) && leb (p .column) columns && leb 1 (p .top) && leb (p .top) (lines - less)) ≡ inRanges? (insideRanges lines columns (less + 1) p)
+unfolding inRanges? passes insideRanges
+window lines columns less p =
+    let e : lines + 1 - (less + 1) ≡ lines - less = omega arith in
+    rw e (three (leb 1 (p .line)) (leb (p .line) lines) (leb 1 (p .column)) (leb (p .column) columns) (leb 1 (p .top)) (leb (p .top) (lines - less)))
+
+pub stored : (kind : ℕ) (k : Keys) (s t : Bool) → s ≡ member (k .charset) charsets → t ≡ member (k .shift) shifts
+    → (leb 0 kind && leb kind 3 && leb 0 (getD (k .leds) 0 0) && leb (getD (k .leds) 0 0) 1 && leb 0 (getD (k .leds) 1 0) && leb (getD (k .leds) 1 0) 1 && leb 0 (getD (k .leds) 2 0) && leb (getD (k .leds) 2 0) 1 && s
+    && leb 0 (k .strings) && leb (k .strings) 1 && leb 0 (k .repeat) && leb (k .repeat) 1 && leb 1 (k .delay) && leb (k .delay) 127 && leb 1 (k .interval) && leb (k .interval) 127 && t)
+    ≡ inRanges? (keyRanges kind k)
+unfolding inRanges? passes keyRanges
+stored kind k s t e f =
+    rw (← e, ← f) (keys (leb 0 kind) (leb kind 3) (leb 0 (getD (k .leds) 0 0)) (leb (getD (k .leds) 0 0) 1) (leb 0 (getD (k .leds) 1 0)) (leb (getD (k .leds) 1 0) 1) (leb 0 (getD (k .leds) 2 0)) (leb (getD (k .leds) 2 0) 1) s
+    (leb 0 (k .strings)) (leb (k .strings) 1) (leb 0 (k .repeat)) (leb (k .repeat) 1) (leb 1 (k .delay)) (leb (k .delay) 127) (leb 1 (k .interval)) (leb (k .interval) 127) t)
+
+-- the whole test, for settings whose arrays are of their types
+pub all : (s : Settings) (x y k u v : Bool) → inRanges? (arrayRanges s) ≡ true → x ≡ inRanges? (shapeRanges (s .mode) (s .lines1) (s .lines2) (s .columns1) (s .columns2)) → y ≡ inRanges? (otherRanges (s .selected) (s .step) (height s))
+    → k ≡ inRanges? (keyRanges (s .kind) (s .keys)) → u ≡ inside? s 0 → v ≡ inside? s 1
+    → (x && y && leb 0 (s .tracking) && leb (s .tracking) 1 && leb 0 (s .secret) && leb (s .secret) 1 && leb 0 (s .cursor) && leb (s .cursor) 1 && leb 0 (s .display) && leb (s .display) 1 && k && u && v) ≡ sound? s
+unfolding sound? plainRanges inRanges? passes
+all s x y k u v z a b c d e =
+    rw (z, ← a, ← b, ← c, ← d, ← e)
+    (whole x y (leb 0 (s .tracking)) (leb (s .tracking) 1) (leb 0 (s .secret)) (leb (s .secret) 1) (leb 0 (s .cursor)) (leb (s .cursor) 1) (leb 0 (s .display)) (leb (s .display) 1) k u v)
+
+module _ (s : Settings) (less : ℕ) (e : less ≡ cond (eqb (s .mode) 1) 15 7) where
+  -- H from what the code has of it
+  tall : less + 1 ≡ height s
+  unfolding height textRows
+  tall = ap (λ (n : ℕ). n + 1) e ∙ cond₂ (λ (a b : ℕ). a + 1 ≡ b) (eqb (s .mode) 1) (eqb (s .mode) 1) 15 7 16 8 refl (λ t. refl) (λ t. refl)
+
+  pub step-of : inRanges? (otherRanges (s .selected) (s .step) (less + 1)) ≡ inRanges? (otherRanges (s .selected) (s .step) (height s))
+  step-of = ap (λ (n : ℕ). inRanges? (otherRanges (s .selected) (s .step) n)) tall
+
+  pub first-of : inRanges? (insideRanges (s .lines1) (s .columns1) (less + 1) (getD (s .places) 0 nowhere)) ≡ inside? s 0
+  unfolding inside? linesOf columnsOf placeOf
+  first-of = ap (λ (n : ℕ). inRanges? (insideRanges (s .lines1) (s .columns1) n (getD (s .places) 0 nowhere))) tall
+
+  pub second-of : inRanges? (insideRanges (s .lines2) (s .columns2) (less + 1) (getD (s .places) 1 nowhere)) ≡ inside? s 1
+  unfolding inside? linesOf columnsOf placeOf
+  second-of = ap (λ (n : ℕ). inRanges? (insideRanges (s .lines2) (s .columns2) n (getD (s .places) 1 nowhere))) tall

@@ -1,0 +1,178 @@
+// Number 3: whether settings are sound, "each in its range" (model's specs/Sound). One test for each list of ranges there, its
+// comparisons in the same order; the arrays' lengths are those of their types.
+ghost use mathlib.Core.Path.{_≡_};
+ghost use mathlib.Core.Bool.{cond};
+ghost use lib.Dec.{eqb};
+ghost use lib.ListN.{length};
+ghost use Prim.Native.Nat.{_+_, _-_, _≤_};
+ghost use Rattle.model.specs.Checks.{member, inRanges?};
+ghost use Rattle.model.specs.Sound.{charsets, shifts, shapeRanges, insideRanges, otherRanges, keyRanges, plainRanges, sound?};
+use model::Keys;
+use model::Place;
+use model::Settings;
+
+// a − b, 0 where b is greater
+fn minus(a: u8, b: u8) -> u8
+    ensures { λ r. ⌜ r ≡ a - b ⌝ }
+{
+    if b <= a { a - b } else { 0 }
+}
+
+// 67: "one of U F G E D W I S N"
+fn charset(n: u8) -> bool
+    ensures { λ r. ⌜ r ≡ member n charsets ⌝ }
+{
+    (n == 85)
+        | (n == 70)
+        | (n == 71)
+        | (n == 69)
+        | (n == 68)
+        | (n == 87)
+        | (n == 73)
+        | (n == 83)
+        | (n == 78)
+}
+
+// 247: "0, 2, 4, 6, 16, 18, 32, 34, 64, 66"
+fn shift(n: u8) -> bool
+    ensures { λ r. ⌜ r ≡ member n shifts ⌝ }
+{
+    (n == 0)
+        | (n == 2)
+        | (n == 4)
+        | (n == 6)
+        | (n == 16)
+        | (n == 18)
+        | (n == 32)
+        | (n == 34)
+        | (n == 64)
+        | (n == 66)
+}
+
+// the table of modes
+fn shape(mode: u8, lines1: u8, lines2: u8, columns1: u8, columns2: u8) -> bool
+    ensures { λ r. ⌜ r ≡ inRanges? (shapeRanges mode lines1 lines2 columns1 columns2) ⌝ }
+{
+    let left = minus(48, lines1);
+    let beside = minus(79, columns1);
+    if mode == 0 {
+        return (80 <= columns1)
+            & (columns1 <= 80)
+            & (80 <= columns2)
+            & (columns2 <= 80)
+            & (8 <= lines1)
+            & (lines1 <= 48)
+            & (8 <= lines2)
+            & (lines2 <= left);
+    }
+    if mode == 1 {
+        return (39 <= columns1)
+            & (columns1 <= 39)
+            & (39 <= columns2)
+            & (columns2 <= 39)
+            & (16 <= lines1)
+            & (lines1 <= 48)
+            & (lines1 <= lines2)
+            & (lines2 <= lines1);
+    }
+    (2 <= mode)
+        & (mode <= 2)
+        & (1 <= columns1)
+        & (columns1 <= 78)
+        & (beside <= columns2)
+        & (columns2 <= beside)
+        & (8 <= lines1)
+        & (lines1 <= 48)
+        & (lines1 <= lines2)
+        & (lines2 <= lines1)
+}
+
+// a cursor and a window in lines of columns, H tall
+fn inside(lines: u8, columns: u8, less: u8, p: Place) -> bool
+    ensures { λ r. ⌜ r ≡ inRanges? (insideRanges lines columns (less + 1) p) ⌝ }
+{
+    let top = minus(lines, less);
+    (1 <= p.line)
+        & (p.line <= lines)
+        & (1 <= p.column)
+        & (p.column <= columns)
+        & (1 <= p.top)
+        & (p.top <= top)
+}
+
+// selection and step
+fn chosen(selected: u8, step: u8, height: u8) -> bool
+    ensures { λ r. ⌜ r ≡ inRanges? (otherRanges selected step height) ⌝ }
+{
+    (0 <= selected) & (selected <= 1) & (1 <= step) & (step <= height)
+}
+
+// what is only stored of the keyboard, and the cursor's type; the lengths are those of the types
+fn keys_in_range(kind: u8, keys: Keys) -> bool
+    ensures { λ r. ⌜ (r ≡ inRanges? (keyRanges kind keys)) × ((length (keys .leds) ≡ 3) × (length (keys .arrows) ≡ 12)) ⌝ }
+{
+    let ins = keys.leds[0];
+    let caps = keys.leds[1];
+    let num = keys.leds[2];
+    let known = charset(keys.charset);
+    let shifted = shift(keys.shift);
+    (0 <= kind)
+        & (kind <= 3)
+        & (0 <= ins)
+        & (ins <= 1)
+        & (0 <= caps)
+        & (caps <= 1)
+        & (0 <= num)
+        & (num <= 1)
+        & known
+        & (0 <= keys.strings)
+        & (keys.strings <= 1)
+        & (0 <= keys.repeat)
+        & (keys.repeat <= 1)
+        & (1 <= keys.delay)
+        & (keys.delay <= 127)
+        & (1 <= keys.interval)
+        & (keys.interval <= 127)
+        & shifted
+}
+
+// H less one
+fn height_less(mode: u8) -> u8
+    ensures { λ r. ⌜ (r ≡ cond (eqb mode 1) 15 7) × (r ≤ 15) ⌝ }
+{
+    if mode == 1 { 15 } else { 7 }
+}
+
+// "Settings are sound exactly when each lies in the range that the rules give"
+pub fn sound(settings: Settings) -> bool
+    ensures { λ r. ⌜ r ≡ sound? settings ⌝ }
+{
+    let less = height_less(settings.mode);
+    let first = settings.places[0];
+    let second = settings.places[1];
+    let keys = settings.keys;
+    let shaped = shape(
+        settings.mode,
+        settings.lines1,
+        settings.lines2,
+        settings.columns1,
+        settings.columns2,
+    );
+    let other = chosen(settings.selected, settings.step, less + 1);
+    let stored = keys_in_range(settings.kind, keys);
+    let one = inside(settings.lines1, settings.columns1, less, first);
+    let two = inside(settings.lines2, settings.columns2, less, second);
+    shaped
+        & other
+        & (0 <= settings.tracking)
+        & (settings.tracking <= 1)
+        & (0 <= settings.secret)
+        & (settings.secret <= 1)
+        & (0 <= settings.cursor)
+        & (settings.cursor <= 1)
+        & (0 <= settings.display)
+        & (settings.display <= 1)
+        & stored
+        & one
+        & two
+}

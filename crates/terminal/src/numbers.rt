@@ -1,0 +1,50 @@
+// Numbers 0 to 3, in their order.
+ghost use mathlib.Core.Path.{_≡_};
+ghost use Rattle.model.specs.Calls.{Asked, firstOf, reasons, sized, terminal};
+ghost use Rattle.model.specs.Items.{blankAnswer};
+ghost use Rattle.model.specs.Opening.{unopened};
+use model::Answer;
+use model::Settings;
+
+// 1: "a store is not of its size"; here, that all are
+pub(crate) fn stores_sized(cells: &[u8], layer: &[u8], shown: &[u8]) -> bool
+    ensures { λ r. ⌜ r ≡ sized (unopened (now (cells .entry)) (now (layer .entry)) (now (shown .entry))) ⌝ }
+{
+    (cells.len() == 3840) & ((layer.len() == 1280) & (shown.len() == 640))
+}
+
+// "Calls are checked in the order 1, 2, 3": the number of a message call
+pub(crate) fn call_number(
+    settings: Settings,
+    message: &[u8],
+    cells: &[u8],
+    layer: &[u8],
+    shown: &[u8],
+) -> u8
+    ensures { λ r. ⌜ r ≡ firstOf (reasons (terminal settings (now (cells .entry)) (now (layer .entry)) (now (shown .entry))) (Asked.message (now (message .entry)))) ⌝ }
+{
+    if stores_sized(cells, layer, shown) {
+        if message.len() <= 4096 {
+            if soundness::sound(settings) { 0 } else { 3 }
+        } else {
+            2
+        }
+    } else {
+        1
+    }
+}
+
+// "zero counts, its number"
+pub(crate) fn refusal(number: u8) -> Answer
+    ensures { λ r. ⌜ r ≡ blankAnswer number ⌝ }
+{
+    Answer {
+        number,
+        taken: 0,
+        accepted: 0,
+        refused: 0,
+        first: 0,
+        offset: 0,
+        printed: 0,
+    }
+}

@@ -1,0 +1,122 @@
+//! The input of each line, as the top of `main.rs` says.
+
+const ESC: u8 = 27;
+const LETTERS: &[u8] = b"ABCDEFGHIJKLMNOPQRSTUVWXYZ0123456789    ,.";
+const LINES: usize = 24;
+
+#[derive(Clone, Copy)]
+pub enum Kind {
+    Paint,
+    Text,
+    Mixed,
+    Lifts,
+}
+
+/// One line of the benchmark.
+pub struct Case {
+    pub kind: Kind,
+    pub size: usize,
+    pub mode: u8,
+}
+
+impl Case {
+    pub fn name(&self) -> String {
+        let (size, mode) = (self.size, self.mode);
+        match self.kind {
+            Kind::Paint => format!("paint-mode-{mode}"),
+            Kind::Text => format!("text-{size}-mode-{mode}"),
+            Kind::Mixed => format!("mixed-{size}-mode-{mode}"),
+            Kind::Lifts => format!("lifts-{size}-mode-{mode}"),
+        }
+    }
+
+    /// Brings an opened terminal to the start: the mode, text on both
+    /// screens, screen 1 selected, and for lifts the last line.
+    pub fn start(&self) -> Vec<Vec<u8>> {
+        let mode: &[u8] = match self.mode {
+            0 => &[ESC, 208, 0, 24, 24],
+            1 => &[ESC, 208, 1, 24],
+            _ => &[ESC, 208, 2, 24, 39, 124],
+        };
+        let mut random = Random(1);
+        let mut messages = vec![mode.to_vec()];
+        for screen in 0..2 {
+            messages.push(vec![ESC, 209, screen]);
+            messages.push(random.text(1800));
+        }
+        messages.push(vec![ESC, 209, 0]);
+        let home: &[u8] = &[ESC, 61, 32, 32];
+        let bottom: &[u8] = &[ESC, 61, 31 + LINES as u8, 32];
+        messages.push(if matches!(self.kind, Kind::Lifts) { bottom } else { home }.to_vec());
+        messages
+    }
+
+    pub fn messages(&self) -> Vec<Vec<u8>> {
+        let count = if self.size > 1000 { 16 } else { 64 };
+        let mut random = Random(2 + self.size as u64);
+        let mut message = |size: usize| match self.kind {
+            Kind::Paint => Vec::new(),
+            Kind::Text => random.text(size),
+            Kind::Mixed => random.mixed(size),
+            Kind::Lifts => vec![10; size],
+        };
+        (0..count).map(|_| message(self.size)).collect()
+    }
+}
+
+/// A seeded source of numbers (splitmix64), and what is drawn from it.
+struct Random(u64);
+
+impl Random {
+    fn number(&mut self) -> u64 {
+        self.0 = self.0.wrapping_add(0x9e37_79b9_7f4a_7c15);
+        let mut mixed = self.0;
+        mixed = (mixed ^ mixed >> 30).wrapping_mul(0xbf58_476d_1ce4_e5b9);
+        mixed = (mixed ^ mixed >> 27).wrapping_mul(0x94d0_49bb_1331_11eb);
+        mixed ^ mixed >> 31
+    }
+
+    /// 0 to `count` − 1.
+    fn below(&mut self, count: usize) -> usize {
+        (self.number() % count as u64) as usize
+    }
+
+    fn text(&mut self, size: usize) -> Vec<u8> {
+        (0..size).map(|_| LETTERS[self.below(LETTERS.len())]).collect()
+    }
+
+    fn digits(&mut self, size: usize) -> Vec<u8> {
+        (0..size).map(|_| b'0' + self.below(10) as u8).collect()
+    }
+
+    fn placing(&mut self) -> Vec<u8> {
+        vec![ESC, 61, 32 + self.below(LINES) as u8, 32 + self.below(30) as u8]
+    }
+
+    /// An item of a weighing program, by its share in a hundred.
+    fn item(&mut self) -> Vec<u8> {
+        match self.below(100) {
+            0..=39 => [self.placing(), self.digits(6)].concat(),
+            40..=54 => self.digits(6),
+            55..=69 => [self.placing(), vec![ESC, 84]].concat(),
+            70..=79 => vec![ESC, [150, 151, 212, 213, 215][self.below(5)]],
+            80..=87 => vec![ESC, 209, self.below(2) as u8],
+            88..=92 => [vec![ESC, 123], self.digits(6), vec![ESC, 125]].concat(),
+            _ => vec![ESC, 210, 1 + self.below(8) as u8, 1 + self.below(80) as u8, b'*'],
+        }
+    }
+
+    fn mixed(&mut self, size: usize) -> Vec<u8> {
+        let mut message = Vec::new();
+        loop {
+            let item = self.item();
+            if message.len() + item.len() > size {
+                break;
+            }
+            message.extend(item);
+        }
+        let left = size - message.len();
+        message.extend(self.digits(left));
+        message
+    }
+}

@@ -1,0 +1,107 @@
+//! The two sides: the same stores, and the calls of one implementation.
+
+use std::fmt::Debug;
+
+/// The calls of one implementation, on its own type of settings.
+pub trait Calls: Clone {
+    type Settings: Copy + Debug;
+
+    fn opening(cells: &mut [u8], layer: &mut [u8], shown: &mut [u8]) -> Self::Settings;
+
+    /// The settings afterwards, and whether the message was taken whole with
+    /// no refusal.
+    fn message(
+        settings: Self::Settings,
+        message: &[u8],
+        cells: &mut [u8],
+        layer: &mut [u8],
+        shown: &mut [u8],
+    ) -> (Self::Settings, bool);
+}
+
+/// The proved library.
+#[derive(Clone)]
+pub struct Board;
+
+impl Calls for Board {
+    type Settings = px8::Settings;
+
+    fn opening(cells: &mut [u8], layer: &mut [u8], shown: &mut [u8]) -> px8::Settings {
+        px8::opening(cells, layer, shown).0
+    }
+
+    fn message(
+        settings: px8::Settings,
+        message: &[u8],
+        cells: &mut [u8],
+        layer: &mut [u8],
+        shown: &mut [u8],
+    ) -> (px8::Settings, bool) {
+        let (after, answer) = px8::message(settings, message, cells, layer, shown, &mut []);
+        (after, answer.number == 0 && answer.refused == 0)
+    }
+}
+
+/// Plain Rust made fast.
+#[derive(Clone)]
+pub struct Plain;
+
+impl Calls for Plain {
+    type Settings = tuned::Settings;
+
+    fn opening(cells: &mut [u8], layer: &mut [u8], shown: &mut [u8]) -> tuned::Settings {
+        tuned::opening(cells, layer, shown).0
+    }
+
+    fn message(
+        settings: tuned::Settings,
+        message: &[u8],
+        cells: &mut [u8],
+        layer: &mut [u8],
+        shown: &mut [u8],
+    ) -> (tuned::Settings, bool) {
+        let (after, answer) = tuned::message(settings, message, cells, layer, shown, &mut []);
+        (after, answer.number == 0 && answer.refused == 0)
+    }
+}
+
+#[derive(Clone)]
+pub struct Side<C: Calls> {
+    settings: C::Settings,
+    cells: [u8; 3840],
+    layer: [u8; 1280],
+    shown: [u8; 640],
+    /// No message so far was refused, nor a sequence of one.
+    clean: bool,
+}
+
+impl<C: Calls> Side<C> {
+    /// Opened, and brought to the start by these messages.
+    pub fn start(messages: &[Vec<u8>]) -> Side<C> {
+        let (mut cells, mut layer, mut shown) = ([0; 3840], [0; 1280], [0; 640]);
+        let settings = C::opening(&mut cells, &mut layer, &mut shown);
+        let mut side = Side { settings, cells, layer, shown, clean: true };
+        for message in messages {
+            side.message(message);
+        }
+        side
+    }
+
+    pub fn message(&mut self, message: &[u8]) {
+        let Side { settings, cells, layer, shown, .. } = self;
+        let (after, clean) = C::message(*settings, message, cells, layer, shown);
+        self.settings = after;
+        self.clean &= clean;
+    }
+
+    /// Whether both did the same work: the input is meant to be accepted
+    /// whole. Settings are compared by their text, field by field.
+    pub fn same_as<D: Calls>(&self, other: &Side<D>) -> bool {
+        self.clean
+            && other.clean
+            && self.cells == other.cells
+            && self.layer == other.layer
+            && self.shown == other.shown
+            && format!("{:?}", self.settings) == format!("{:?}", other.settings)
+    }
+}

@@ -1,0 +1,149 @@
+//! Deliberately broken copies of the reference. Each is the reference's own
+//! text with one passage replaced; the build writes the copies, and fails
+//! if a passage does not stand exactly once in its file.
+
+pub struct Break {
+    pub name: &'static str,
+    /// file of the reference's sources
+    pub file: &'static str,
+    pub old: &'static str,
+    pub new: &'static str,
+}
+
+const fn entry(name: &'static str, file: &'static str, old: &'static str, new: &'static str) -> Break {
+    Break { name, file, old, new }
+}
+
+#[rustfmt::skip]
+pub const BREAKS: &[Break] = &[
+    entry("window-below-the-last-line-after-213", "apply.rs",
+        "213 => self.set_top(greatest),",
+        "213 => self.set_top(greatest + 1),"),
+    entry("scrolled-region-a-line-short", "apply.rs",
+        "self.move_lines_up(a + 1, a + m);",
+        "self.move_lines_up(a + 1, (a + m - 1).max(a + 1));"),
+    entry("layer-painted-over-secret", "picture.rs",
+        "if settings.secret == 1 {",
+        "if settings.secret == 1 && layer[at] == 0 {"),
+    entry("refused-208-blanks-the-screen", "calls.rs",
+        "standing.apply(&item);",
+        "standing.apply(&item);
+        if matches!(item, Item::Refusal(_)) && message.get(offset + 1) == Some(&208) {
+            standing.cells.fill(BLANK);
+        }"),
+    entry("escape-in-a-parameter-starts-a-sequence", "read.rs",
+        "let parameters = &rest[2..length];",
+        "let parameters = &rest[2..length];
+        if let Some(at) = parameters.iter().position(|&byte| byte == ESC) {
+            return (Item::Refusal(12), 2 + at);
+        }"),
+    entry("209-at-the-end-refused-by-12", "read.rs",
+        "if second == 209 && rest.len() == 2 {",
+        "if false {"),
+    entry("209-to-the-same-screen-keeps-the-layer", "apply.rs",
+        "self.settings.selected = p[0];
+                self.empty_layer();",
+        "if self.settings.selected != p[0] {
+                    self.empty_layer();
+                }
+                self.settings.selected = p[0];"),
+    entry("tracking-after-61-by-the-least-amount", "apply.rs",
+        "self.track(Tracking::Centre);",
+        "self.track(Tracking::Least);"),
+    entry("lift-keeps-the-layer", "apply.rs",
+        "self.move_lines_up(1, self.lines());
+        self.empty_layer();",
+        "self.move_lines_up(1, self.lines());"),
+    entry("byte-after-a-copy-altered", "picture.rs",
+        "debug_assert_eq!(at, COPY);",
+        "if at < room.len() {
+            room[at] ^= 1;
+        }"),
+    entry("13-judged-before-11", "read.rs",
+        "return (Item::Refusal(11), length);",
+        "return (Item::Refusal(if room < COPY { 13 } else { 11 }), length);"),
+    entry("offset-of-the-last-refusal", "calls.rs",
+        "if answer.first == 0 {",
+        "answer.offset = offset as u32;
+            if answer.first == 0 {"),
+    entry("215-half-the-height-off-by-one", "apply.rs",
+        "let half = self.settings.height() / 2;",
+        "let half = self.settings.height() / 2 - 1;"),
+    entry("right-half-of-mode-1-a-line-early", "picture.rs",
+        "line: top(selected) + 7 + row,",
+        "line: top(selected) + 6 + row,"),
+    entry("89-stops-at-the-end-of-the-line", "apply.rs",
+        "if second == 89 {",
+        "if false {"),
+    entry("printing-under-secret-keeps-the-mark", "apply.rs",
+        "if let Some(shown_at) = cursor_place(&self.settings) {",
+        "if let Some(shown_at) = cursor_place(&self.settings).filter(|_| self.settings.secret == 0) {"),
+    entry("emptied-place-keeps-its-code", "apply.rs",
+        "self.layer[MARKS + shown_at] = 0;",
+        ""),
+    entry("right-half-of-mode-1-keeps-its-marks", "picture.rs",
+        "(1, _) if row > 8 => Some(place(row - 8, column + 41)),",
+        "(1, _) if row > 8 => None,"),
+    entry("unmoved-top-empties-the-layer", "apply.rs",
+        "if usize::from(self.here().top) != top {",
+        "{"),
+    entry("208-keeps-the-step", "apply.rs",
+        "settings.step = 1;",
+        ""),
+    entry("208-in-mode-0-resets-the-boundary", "apply.rs",
+        "if p[0] == 2 {
+            settings.boundary = p[3];
+        }",
+        "settings.boundary = if p[0] == 2 { p[3] } else { BLANK };"),
+    entry("11-judged-before-12", "read.rs",
+        "return (Item::Refusal(12), rest.len());",
+        "let bad = second == 61 && rest.get(2).is_some_and(|&byte| byte < 32);
+        return (Item::Refusal(if bad { 11 } else { 12 }), rest.len());"),
+    entry("148-takes-one-beyond-the-height", "read.rs",
+        "148 => (1..=settings.height()).contains(&number(0)),",
+        "148 => (1..=settings.height() + 1).contains(&number(0)),"),
+    entry("unsound-columns-of-mode-0-taken", "sound.rs",
+        "columns == (80, 80)",
+        "columns.0 == 80"),
+    entry("top-just-beyond-taken", "sound.rs",
+        "(1..=s.greatest_top(screen)).contains",
+        "(1..=s.greatest_top(screen) + 1).contains"),
+    entry("3-judged-before-2", "calls.rs",
+        "return refused(2);",
+        "return refused(if sound(&settings) { 2 } else { 3 });"),
+    entry("message-of-4096-refused", "calls.rs",
+        "if message.len() > LONGEST_MESSAGE {",
+        "if message.len() >= LONGEST_MESSAGE {"),
+    entry("42-blanks-both-screens", "apply.rs",
+        "for line in 1..=self.lines() {
+            self.blank_line(line);
+        }",
+        "self.cells.fill(BLANK);"),
+    entry("copy-keeps-codes-below-32", "picture.rs",
+        "picture(settings, cells, layer, row, column).max(BLANK);",
+        "picture(settings, cells, layer, row, column);"),
+    entry("second-copy-judged-by-the-whole-buffer", "calls.rs",
+        "let room = standing.printer.len() - standing.printed;",
+        "let room = standing.printer.len();"),
+    entry("shift-arrows-in-the-place-of-ctrl-arrows", "apply.rs",
+        "244 => keys.arrows[4..8]",
+        "244 => keys.arrows[8..12]"),
+    entry("no-tracking-after-13", "apply.rs",
+        "self.here_mut().column = 1;
+                self.track(Tracking::Least);",
+        "self.here_mut().column = 1;"),
+    entry("tracking-after-209", "apply.rs",
+        "self.settings.selected = p[0];
+                self.empty_layer();",
+        "self.settings.selected = p[0];
+                self.empty_layer();
+                self.track(Tracking::Least);"),
+    entry("screen-2-of-mode-2-by-the-selected-top", "picture.rs",
+        "line: top(1) + row - 1,",
+        "line: top(selected) + row - 1,"),
+    entry("empty-message-not-painted", "calls.rs",
+        "paint(&standing.settings, standing.cells, standing.layer, shown);",
+        "if !message.is_empty() {
+            paint(&standing.settings, standing.cells, standing.layer, shown);
+        }"),
+];

@@ -1,0 +1,89 @@
+//! Comparison of two implementations of document 01 on random lists of
+//! calls. An implementation is anything behind `Terminal`.
+//!
+//! - `random`: the seeded source of numbers
+//! - `generate`: starts, settings, messages and calls
+//! - `play`: plays the lists on both sides and looks for a difference
+//! - `coverage`: counts what the lists reached
+//! - `report`: a whole comparison with its words, for a program's main
+//! - `breaks`: deliberately broken copies, to show that the lists find them
+//! - `vectors`: the named cases
+
+pub mod breaks;
+pub mod coverage;
+pub mod generate;
+pub mod play;
+pub mod random;
+pub mod report;
+pub mod vectors;
+
+use reference::{Answer, Settings};
+
+/// An implementation of the three calls on plain slices.
+pub trait Terminal {
+    fn name(&self) -> &str;
+
+    fn opening(&mut self, cells: &mut [u8], layer: &mut [u8], shown: &mut [u8]) -> (Settings, u8);
+
+    fn message(
+        &mut self,
+        settings: Settings,
+        message: &[u8],
+        cells: &mut [u8],
+        layer: &mut [u8],
+        shown: &mut [u8],
+        printer: &mut [u8],
+    ) -> (Settings, Answer);
+
+    fn printed<'a>(&mut self, buffer: &'a [u8], count: usize) -> &'a [u8];
+}
+
+/// An implementation given by three Rust functions.
+#[derive(Clone, Copy)]
+pub struct Functions {
+    pub name: &'static str,
+    pub opening: OpeningCall,
+    pub message: MessageCall,
+    pub printed: for<'a> fn(&'a [u8], usize) -> &'a [u8],
+}
+
+pub type OpeningCall = fn(&mut [u8], &mut [u8], &mut [u8]) -> (Settings, u8);
+pub type MessageCall = fn(Settings, &[u8], &mut [u8], &mut [u8], &mut [u8], &mut [u8]) -> (Settings, Answer);
+
+pub const REFERENCE: Functions = Functions {
+    name: "reference",
+    opening: reference::opening,
+    message: reference::message,
+    printed: reference::printed,
+};
+
+pub const TUNED: Functions =
+    Functions { name: "tuned", opening: tuned::opening, message: tuned::message, printed: tuned::printed };
+
+include!(concat!(env!("OUT_DIR"), "/broken.rs"));
+
+impl Terminal for Functions {
+    fn name(&self) -> &str {
+        self.name
+    }
+
+    fn opening(&mut self, cells: &mut [u8], layer: &mut [u8], shown: &mut [u8]) -> (Settings, u8) {
+        (self.opening)(cells, layer, shown)
+    }
+
+    fn message(
+        &mut self,
+        settings: Settings,
+        message: &[u8],
+        cells: &mut [u8],
+        layer: &mut [u8],
+        shown: &mut [u8],
+        printer: &mut [u8],
+    ) -> (Settings, Answer) {
+        (self.message)(settings, message, cells, layer, shown, printer)
+    }
+
+    fn printed<'a>(&mut self, buffer: &'a [u8], count: usize) -> &'a [u8] {
+        (self.printed)(buffer, count)
+    }
+}

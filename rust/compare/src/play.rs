@@ -1,0 +1,259 @@
+//! Plays the lists on two implementations and looks for a difference.
+
+use crate::coverage::Coverage;
+use crate::generate::{self, Call, SIZES};
+use crate::random::Random;
+use crate::Terminal;
+use reference::settings::OPENING;
+use reference::{Answer, Settings};
+
+pub struct Plan {
+    pub seed: u64,
+    /// opening and message calls to play
+    pub calls: u64,
+    /// number of the list to begin with
+    pub list: u64,
+    /// print a line every so many calls; 0 for none
+    pub progress: u64,
+}
+
+/// What is needed to see a difference again.
+pub struct Difference {
+    pub seed: u64,
+    pub list: u64,
+    /// its number in the list, from 1
+    pub call: usize,
+    /// calls played in all, this one included
+    pub calls: u64,
+    pub what: String,
+    pub settings: Settings,
+    pub room: usize,
+    pub message: Vec<u8>,
+}
+
+impl std::fmt::Display for Difference {
+    fn fmt(&self, f: &mut std::fmt::Formatter) -> std::fmt::Result {
+        writeln!(f, "difference in {}", self.what)?;
+        writeln!(f, "seed {} list {} call {}", self.seed, self.list, self.call)?;
+        writeln!(f, "again: --seed {} --list {} --calls {}", self.seed, self.list, self.call)?;
+        writeln!(f, "settings {:?}", self.settings)?;
+        writeln!(f, "printer room {}", self.room)?;
+        write!(f, "message {:?}", self.message)
+    }
+}
+
+/// One side's stores and settings.
+#[derive(Clone)]
+struct Side {
+    settings: Settings,
+    stores: [Vec<u8>; 3],
+}
+
+struct Game<'a> {
+    left: &'a mut dyn Terminal,
+    right: &'a mut dyn Terminal,
+    coverage: Option<&'a mut Coverage>,
+    sides: [Side; 2],
+    random: Random,
+    calls: u64,
+}
+
+/// A difference within a list: in what, and the call's settings, printer
+/// room and message.
+type Found = Result<(), Box<(String, Settings, usize, Vec<u8>)>>;
+
+/// Plays lists until the planned number of calls is reached.
+pub fn run(
+    left: &mut dyn Terminal,
+    right: &mut dyn Terminal,
+    coverage: Option<&mut Coverage>,
+    plan: &Plan,
+) -> Result<u64, Box<Difference>> {
+    let side = Side { settings: OPENING, stores: SIZES.map(|size| vec![0; size]) };
+    let sides = [side.clone(), side];
+    let mut game = Game { left, right, coverage, sides, random: Random::of_list(plan.seed, 0), calls: 0 };
+    let mut list = plan.list;
+    let mut next_line = plan.progress;
+    while game.calls < plan.calls {
+        game.list(plan, list)?;
+        list += 1;
+        if plan.progress > 0 && game.calls >= next_line {
+            println!("{} calls, {} lists", game.calls, list - plan.list);
+            next_line += plan.progress;
+        }
+    }
+    Ok(game.calls)
+}
+
+impl Game<'_> {
+    fn list(&mut self, plan: &Plan, list: u64) -> Result<(), Box<Difference>> {
+        self.random = Random::of_list(plan.seed, list);
+        let before = self.calls;
+        let found = self.start().and_then(|()| {
+            for _ in 0..self.random.between(1, 24) {
+                if self.calls >= plan.calls {
+                    break;
+                }
+                self.message_call()?;
+            }
+            Ok(())
+        });
+        let call = (self.calls - before) as usize;
+        found.map_err(|found| {
+            let (what, settings, room, message) = *found;
+            let (seed, calls) = (plan.seed, self.calls);
+            Box::new(Difference { seed, list, call, calls, what, settings, room, message })
+        })
+    }
+
+    /// From an opening, or from sound settings with any bytes in the stores.
+    fn start(&mut self) -> Found {
+        let Game { sides: [left, right], random, .. } = self;
+        let [cells, layer, shown] = &mut left.stores;
+        generate::fill_stores(random, cells, layer, shown);
+        left.settings = generate::settings(random);
+        right.clone_from(left);
+        if random.one_in(2) {
+            return Ok(());
+        }
+        if self.random.one_in(8) {
+            let sizes = generate::wrong_sizes(&mut self.random);
+            self.opening_call(sizes)?;
+        }
+        self.opening_call(SIZES)
+    }
+
+    fn opening_call(&mut self, sizes: [usize; 3]) -> Found {
+        self.calls += 1;
+        let mut given = self.sides.clone().map(|side| resized(&side.stores, sizes));
+        let [left, right] = &mut given;
+        let (settings, number) = opening(self.left, left);
+        let other = opening(self.right, right);
+        let fail = |what: &str| Err(Box::new((format!("opening: {what}"), settings, 0, Vec::new())));
+        if (settings, number) != other {
+            return fail(&format!("settings or number {number} {}", other.1));
+        }
+        if given[0] != given[1] {
+            return fail("stores");
+        }
+        if let Some(coverage) = &mut self.coverage {
+            coverage.opening(sizes, number);
+        }
+        if number == 0 {
+            self.sides = given.map(|stores| Side { settings, stores });
+        }
+        Ok(())
+    }
+
+    fn message_call(&mut self) -> Found {
+        let call = generate::call(&mut self.random, &self.sides[0].settings);
+        self.calls += 1;
+        let settings = call.settings.map_or(self.sides[0].settings, |(_, broken)| broken);
+        let mut printer = vec![0; call.room];
+        self.random.fill(&mut printer);
+        if let Some(coverage) = &mut self.coverage {
+            coverage.remember(&self.sides[0].stores[0], &self.sides[0].stores[1]);
+        }
+        let found = if call.sizes == SIZES {
+            let mut given = self.sides.each_mut().map(|side| std::mem::take(&mut side.stores));
+            let found = self.both(&call, settings, &mut given, printer);
+            let [left, right] = given;
+            (self.sides[0].stores, self.sides[1].stores) = (left, right);
+            found
+        } else {
+            let mut given = self.sides.clone().map(|side| resized(&side.stores, call.sizes));
+            self.both(&call, settings, &mut given, printer)
+        };
+        found.map_err(|what| Box::new((what, settings, call.room, call.message)))
+    }
+
+    /// Makes the call on both sides and compares everything it leaves.
+    fn both(
+        &mut self,
+        call: &Call,
+        settings: Settings,
+        given: &mut [[Vec<u8>; 3]; 2],
+        mut printer: Vec<u8>,
+    ) -> Result<(), String> {
+        let mut other_printer = printer.clone();
+        let [left, right] = given;
+        let answers = [
+            message(self.left, settings, &call.message, left, &mut printer),
+            message(self.right, settings, &call.message, right, &mut other_printer),
+        ];
+        let (after, answer) = answers[0];
+        if answer != answers[1].1 {
+            return Err(format!("answer: {answer:?} and {:?}", answers[1].1));
+        }
+        if after != answers[1].0 {
+            return Err(format!("settings after: {after:?} and {:?}", answers[1].0));
+        }
+        for (store, name) in generate::STORE_NAMES.iter().enumerate() {
+            same(name, &left[store], &right[store])?;
+        }
+        same("printer", &printer, &other_printer)?;
+        self.printer_call(&printer, &other_printer, answer.printed)?;
+        if let Some(coverage) = &mut self.coverage {
+            coverage.call(call, &settings, &answer);
+        }
+        if answer.number == 0 {
+            self.sides[0].settings = after;
+            self.sides[1].settings = after;
+        }
+        Ok(())
+    }
+
+    /// The printer call: the copies, and a count at or beyond the end.
+    fn printer_call(&mut self, left: &[u8], right: &[u8], copied: usize) -> Result<(), String> {
+        let length = left.len();
+        let any = self.random.below(length + 2);
+        let other = self.random.pick(&[0, length, length + 1, usize::MAX, any]);
+        for count in [copied, other] {
+            let parts = [self.left.printed(left, count), self.right.printed(right, count)];
+            same("printer part", parts[0], parts[1])?;
+            // "that first part of the buffer itself"
+            if !parts[1].is_empty() && parts[1].as_ptr() != right.as_ptr() {
+                return Err(format!("printer part of {count}: not the buffer itself"));
+            }
+        }
+        if let Some(coverage) = &mut self.coverage {
+            coverage.printer_call(length, other);
+        }
+        Ok(())
+    }
+}
+
+fn opening(terminal: &mut dyn Terminal, stores: &mut [Vec<u8>; 3]) -> (Settings, u8) {
+    let [cells, layer, shown] = stores;
+    terminal.opening(cells, layer, shown)
+}
+
+fn message(
+    terminal: &mut dyn Terminal,
+    settings: Settings,
+    bytes: &[u8],
+    stores: &mut [Vec<u8>; 3],
+    printer: &mut [u8],
+) -> (Settings, Answer) {
+    let [cells, layer, shown] = stores;
+    terminal.message(settings, bytes, cells, layer, shown, printer)
+}
+
+fn resized(stores: &[Vec<u8>; 3], sizes: [usize; 3]) -> [Vec<u8>; 3] {
+    let mut stores = stores.clone();
+    for (store, size) in stores.iter_mut().zip(sizes) {
+        store.resize(size, 99);
+    }
+    stores
+}
+
+fn same(name: &str, left: &[u8], right: &[u8]) -> Result<(), String> {
+    if left == right {
+        return Ok(());
+    }
+    let at = left.iter().zip(right).position(|(one, other)| one != other);
+    match at {
+        Some(at) => Err(format!("{name} byte {at}: {} and {}", left[at], right[at])),
+        None => Err(format!("{name} length: {} and {}", left.len(), right.len())),
+    }
+}

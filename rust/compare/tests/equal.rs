@@ -1,0 +1,91 @@
+//! The tuned version equals the reference, broken copies do not, a found
+//! difference can be seen again, and the named cases are in order.
+
+use compare::coverage::Coverage;
+use compare::play::{run, Plan};
+use compare::vectors::{cases, play, recording};
+use compare::{Functions, BROKEN, REFERENCE, TUNED};
+use reference::{Answer, Settings};
+use std::collections::BTreeSet;
+
+fn plan(seed: u64, list: u64, calls: u64) -> Plan {
+    Plan { seed, calls, list, progress: 0 }
+}
+
+#[test]
+fn tuned_equals_the_reference() {
+    for seed in 100..104 {
+        let mut coverage = Coverage::new();
+        let found = run(&mut { REFERENCE }, &mut { TUNED }, Some(&mut coverage), &plan(seed, 0, 5_000));
+        if let Err(difference) = found {
+            panic!("{difference}");
+        }
+        assert!(coverage.lines().iter().any(|(name, count)| name == "call 0" && *count > 1_000));
+    }
+}
+
+#[test]
+fn a_difference_is_seen_again() {
+    // a break that needs no guard
+    let broken = BROKEN.iter().find(|broken| broken.name == "209-at-the-end-refused-by-12").unwrap();
+    let found = run(&mut { REFERENCE }, &mut { *broken }, None, &plan(7, 0, 200_000));
+    let Err(first) = found else { panic!("not found") };
+    let again = run(&mut { REFERENCE }, &mut { *broken }, None, &plan(7, first.list, first.call as u64));
+    let Err(second) = again else { panic!("not seen again") };
+    assert_eq!((first.list, first.call, &first.what), (second.list, second.call, &second.what));
+    assert_eq!(first.message, second.message);
+    assert_eq!(&first.message[first.message.len() - 2..], &[27, 209]);
+}
+
+#[test]
+fn named_cases() {
+    let cases = cases();
+    let names: BTreeSet<&str> = cases.iter().map(|case| case.name.as_str()).collect();
+    assert!(cases.len() >= 300);
+    assert_eq!(names.len(), cases.len(), "a name stands twice");
+    assert!(names.iter().all(|name| name.is_ascii() && !name.contains(' ')));
+    let text = play(&recording(&cases)).unwrap();
+    assert_eq!(text.lines().filter(|line| line.starts_with("case ")).count(), cases.len());
+}
+
+/// The messages that build a scene are accepted whole.
+#[test]
+fn scenes_are_built_whole() {
+    let text = play(&recording(&cases())).unwrap();
+    let mut built = 0;
+    for case in text.split("case ").skip(1).filter(|case| case.starts_with("range-mode-")) {
+        for line in case.lines().skip(1).take(2) {
+            assert!(line.contains(" refused 0 "), "{case}");
+            built += 1;
+        }
+    }
+    assert!(built > 300);
+}
+
+/// The named cases, message by message, on both versions.
+#[test]
+fn tuned_equals_the_reference_on_the_named_cases() {
+    for case in cases() {
+        let mut sides = [REFERENCE, TUNED].map(|side| {
+            let mut stores = (vec![1; 3840], vec![1; 1280], vec![1; 640]);
+            let settings = (side.opening)(&mut stores.0, &mut stores.1, &mut stores.2).0;
+            (settings, stores)
+        });
+        for (room, bytes) in &case.messages {
+            let left = play_one(&REFERENCE, &mut sides[0], bytes, *room);
+            let right = play_one(&TUNED, &mut sides[1], bytes, *room);
+            assert_eq!(left, right, "{}", case.name);
+            assert!(sides[0] == sides[1], "{}", case.name);
+        }
+    }
+}
+
+type Side = (Settings, (Vec<u8>, Vec<u8>, Vec<u8>));
+
+fn play_one(terminal: &Functions, side: &mut Side, bytes: &[u8], room: usize) -> (Answer, Vec<u8>) {
+    let (settings, (cells, layer, shown)) = side;
+    let mut printer = vec![7; room];
+    let (after, answer) = (terminal.message)(*settings, bytes, cells, layer, shown, &mut printer);
+    *settings = after;
+    (answer, printer)
+}

@@ -1,0 +1,129 @@
+//! The proved library behind `compare::Terminal`, so that it is compared
+//! with the reference like any other implementation.
+
+use compare::vectors::{play, play_on, recording, Case};
+use compare::Terminal;
+use reference::{Answer, Keys, Place, Settings};
+
+/// The archive's three calls. The types of both sides have the same fields;
+/// they are carried over one by one, so that no layout is taken on trust.
+pub struct Board;
+
+impl Terminal for Board {
+    fn name(&self) -> &str {
+        "board"
+    }
+
+    fn opening(&mut self, cells: &mut [u8], layer: &mut [u8], shown: &mut [u8]) -> (Settings, u8) {
+        let (settings, number) = px8::opening(cells, layer, shown);
+        (settings_from_board(&settings), number)
+    }
+
+    fn message(
+        &mut self,
+        settings: Settings,
+        message: &[u8],
+        cells: &mut [u8],
+        layer: &mut [u8],
+        shown: &mut [u8],
+        printer: &mut [u8],
+    ) -> (Settings, Answer) {
+        let given = settings_to_board(&settings);
+        let (after, answer) = px8::message(given, message, cells, layer, shown, printer);
+        (settings_from_board(&after), answer_from_board(&answer))
+    }
+
+    fn printed<'a>(&mut self, buffer: &'a [u8], count: usize) -> &'a [u8] {
+        px8::printed(buffer, count)
+    }
+}
+
+pub fn settings_to_board(s: &Settings) -> px8::Settings {
+    let place = |p: Place| px8::Place { line: p.line, column: p.column, top: p.top };
+    let keys = &s.keys;
+    px8::Settings {
+        mode: s.mode,
+        lines1: s.lines1,
+        lines2: s.lines2,
+        columns1: s.columns1,
+        columns2: s.columns2,
+        boundary: s.boundary,
+        selected: s.selected,
+        places: s.places.map(place),
+        tracking: s.tracking,
+        step: s.step,
+        secret: s.secret,
+        cursor: s.cursor,
+        display: s.display,
+        kind: s.kind,
+        keys: px8::Keys {
+            leds: keys.leds,
+            charset: keys.charset,
+            strings: keys.strings,
+            repeat: keys.repeat,
+            delay: keys.delay,
+            interval: keys.interval,
+            shift: keys.shift,
+            arrows: keys.arrows,
+        },
+        patterns: s.patterns,
+    }
+}
+
+pub fn settings_from_board(s: &px8::Settings) -> Settings {
+    let place = |p: px8::Place| Place { line: p.line, column: p.column, top: p.top };
+    let keys = &s.keys;
+    Settings {
+        mode: s.mode,
+        lines1: s.lines1,
+        lines2: s.lines2,
+        columns1: s.columns1,
+        columns2: s.columns2,
+        boundary: s.boundary,
+        selected: s.selected,
+        places: s.places.map(place),
+        tracking: s.tracking,
+        step: s.step,
+        secret: s.secret,
+        cursor: s.cursor,
+        display: s.display,
+        kind: s.kind,
+        keys: Keys {
+            leds: keys.leds,
+            charset: keys.charset,
+            strings: keys.strings,
+            repeat: keys.repeat,
+            delay: keys.delay,
+            interval: keys.interval,
+            shift: keys.shift,
+            arrows: keys.arrows,
+        },
+        patterns: s.patterns,
+    }
+}
+
+pub fn answer_from_board(answer: &px8::Answer) -> Answer {
+    Answer {
+        number: answer.number,
+        taken: answer.taken,
+        accepted: answer.accepted,
+        refused: answer.refused,
+        first: answer.first,
+        offset: answer.offset,
+        printed: answer.printed,
+    }
+}
+
+/// Plays a named case on both sides. A difference is told by the first line
+/// of text in which they part.
+pub fn case_difference(terminal: &mut dyn Terminal, case: &Case) -> Option<String> {
+    let bytes = recording(std::slice::from_ref(case));
+    let expected = play(&bytes).expect("a case's recording is good");
+    let found = play_on(terminal, &bytes).expect("a case's recording is good");
+    if expected == found {
+        return None;
+    }
+    let mut pairs = expected.lines().zip(found.lines());
+    let (one, other) = pairs.find(|(one, other)| one != other).unwrap_or(("its end", "its end"));
+    Some(format!("case {}\n  reference: {one}\n  {}: {other}", case.name, terminal.name()))
+}

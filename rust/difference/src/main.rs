@@ -1,0 +1,37 @@
+//! `difference [--calls N] [--seed S] [--list L]`: the proved library
+//! against the reference on random lists of calls.
+//! `difference --vectors`: the same on the named cases.
+
+use compare::report::{command_line, compare};
+use compare::vectors::cases;
+use compare::REFERENCE;
+use difference::{case_difference, Board};
+use std::process::ExitCode;
+
+fn main() -> ExitCode {
+    let good = if std::env::args().skip(1).eq(["--vectors"]) {
+        named_cases()
+    } else {
+        let options = command_line().filter(|options| !options.breaks);
+        let Some(options) = options else {
+            eprintln!("usage: difference [--calls N] [--seed S] [--list L] | --vectors");
+            return ExitCode::from(2);
+        };
+        compare(&mut { REFERENCE }, &mut Board, &options)
+    };
+    if good {
+        ExitCode::SUCCESS
+    } else {
+        ExitCode::FAILURE
+    }
+}
+
+fn named_cases() -> bool {
+    let cases = cases();
+    let found: Vec<String> = cases.iter().filter_map(|case| case_difference(&mut Board, case)).collect();
+    for difference in &found {
+        println!("{difference}");
+    }
+    println!("vectors: {} cases, {} differ", cases.len(), found.len());
+    found.is_empty()
+}

@@ -1,0 +1,48 @@
+//! The proved library equals the reference on short runs; the long run is
+//! the program's. Broken copies show that both ways of looking see something.
+
+use compare::play::{run, Plan};
+use compare::vectors::cases;
+use compare::{BROKEN, REFERENCE};
+use difference::{case_difference, settings_from_board, settings_to_board, Board};
+use reference::settings::OPENING;
+
+#[test]
+fn random_lists() {
+    for seed in 200..204 {
+        let plan = Plan { seed, calls: 5_000, list: 0, progress: 0 };
+        if let Err(difference) = run(&mut { REFERENCE }, &mut Board, None, &plan) {
+            panic!("{difference}");
+        }
+    }
+}
+
+#[test]
+fn named_cases() {
+    for case in cases() {
+        if let Some(difference) = case_difference(&mut Board, &case) {
+            panic!("{difference}");
+        }
+    }
+}
+
+#[test]
+fn named_cases_find_a_broken_copy() {
+    let broken = BROKEN.iter().find(|broken| broken.name == "209-at-the-end-refused-by-12").unwrap();
+    let found = cases().iter().filter_map(|case| case_difference(&mut { *broken }, case)).count();
+    assert!(found > 0);
+}
+
+/// Carrying the settings over and back loses nothing, in either direction.
+#[test]
+fn settings_are_carried_over_whole() {
+    let mut settings = OPENING;
+    for (at, byte) in settings.patterns.iter_mut().enumerate() {
+        *byte = at as u8;
+    }
+    settings.places[1].column = 77;
+    settings.keys.arrows = [1, 2, 3, 4, 5, 6, 7, 8, 9, 10, 11, 12];
+    let board = settings_to_board(&settings);
+    assert_eq!(settings_from_board(&board), settings);
+    assert_eq!(format!("{board:?}"), format!("{settings:?}"));
+}

@@ -1,0 +1,144 @@
+//! The three calls on slices of any length: the boundary to the archive, and
+//! the only place with unsafe code. They are inlined so that settings, which
+//! go by value, are not copied once more on their way.
+
+use crate::types::{Answer, Settings};
+
+#[repr(C)]
+struct Outcome {
+    settings: Settings,
+    answer: Answer,
+}
+
+#[repr(C)]
+struct Opened {
+    settings: Settings,
+    number: u8,
+}
+
+extern "C" {
+    fn px8_opening(
+        cells: *mut u8,
+        cells_length: usize,
+        layer: *mut u8,
+        layer_length: usize,
+        shown: *mut u8,
+        shown_length: usize,
+    ) -> Opened;
+
+    fn px8_message(
+        settings: Settings,
+        message: *const u8,
+        message_length: usize,
+        cells: *mut u8,
+        cells_length: usize,
+        layer: *mut u8,
+        layer_length: usize,
+        shown: *mut u8,
+        shown_length: usize,
+        printer: *mut u8,
+        printer_length: usize,
+    ) -> Outcome;
+
+    fn px8_printed(buffer: *const u8, length: usize, count: usize) -> usize;
+}
+
+/// The opening call: the opening settings, and 0 or 1. Unless the stores are
+/// of their sizes it is refused with 1 and alters nothing.
+///
+/// ```
+/// let (mut cells, mut layer, mut shown) = ([0; px8::CELLS], [1; px8::LAYER], [0; px8::SHOWN]);
+/// let (settings, number) = px8::opening(&mut cells, &mut layer, &mut shown);
+/// assert_eq!((number, settings.lines1, settings.keys.charset), (0, 24, b'U'));
+/// assert!(cells.iter().chain(&shown).all(|&code| code == 32));
+/// assert_eq!(layer, [0; px8::LAYER]);
+///
+/// shown.fill(7);
+/// let (same, number) = px8::opening(&mut cells[1..], &mut layer, &mut shown);
+/// assert_eq!((same, number, shown), (settings, px8::STORE_SIZE, [7; px8::SHOWN]));
+/// ```
+#[inline]
+pub fn opening(cells: &mut [u8], layer: &mut [u8], shown: &mut [u8]) -> (Settings, u8) {
+    // SAFETY: each pointer goes with its own length, and exclusive borrows do
+    // not overlap. The call keeps no pointer.
+    let opened = unsafe {
+        px8_opening(
+            cells.as_mut_ptr(),
+            cells.len(),
+            layer.as_mut_ptr(),
+            layer.len(),
+            shown.as_mut_ptr(),
+            shown.len(),
+        )
+    };
+    (opened.settings, opened.number)
+}
+
+/// The message call: the settings afterwards, and the answer. Copies are
+/// written to `printer` from its start; see [`printed`].
+///
+/// ```
+/// let (mut cells, mut layer, mut shown) = ([0; px8::CELLS], [0; px8::LAYER], [0; px8::SHOWN]);
+/// let (settings, _) = px8::opening(&mut cells, &mut layer, &mut shown);
+/// let (after, answer) =
+///     px8::message(settings, &[65, 27, 27, 66], &mut cells, &mut layer, &mut shown, &mut []);
+/// assert_eq!(answer.to_string(), "answer 0 taken 4 accepted 0 refused 1 first 10 at 1");
+/// assert_eq!((&shown[..3], after.places[0].column), (&b"AB "[..], 3));
+/// ```
+#[inline]
+pub fn message(
+    settings: Settings,
+    message: &[u8],
+    cells: &mut [u8],
+    layer: &mut [u8],
+    shown: &mut [u8],
+    printer: &mut [u8],
+) -> (Settings, Answer) {
+    // SAFETY: each pointer goes with its own length, and exclusive borrows
+    // overlap neither each other nor the message, which is only read. Any
+    // settings may be given, and the call keeps no pointer.
+    let outcome = unsafe {
+        px8_message(
+            settings,
+            message.as_ptr(),
+            message.len(),
+            cells.as_mut_ptr(),
+            cells.len(),
+            layer.as_mut_ptr(),
+            layer.len(),
+            shown.as_mut_ptr(),
+            shown.len(),
+            printer.as_mut_ptr(),
+            printer.len(),
+        )
+    };
+    (outcome.settings, outcome.answer)
+}
+
+/// The printer call: the first `count` bytes of the buffer itself, or its
+/// empty part if it is shorter.
+///
+/// ```
+/// assert_eq!(px8::printed(b"weight", 3), b"wei");
+/// assert_eq!(px8::printed(b"weight", 7), b"");
+/// ```
+#[inline]
+pub fn printed(buffer: &[u8], count: usize) -> &[u8] {
+    // SAFETY: the pointer goes with its own length, and is only read.
+    let length = unsafe { px8_printed(buffer.as_ptr(), buffer.len(), count) };
+    &buffer[..length]
+}
+
+#[cfg(test)]
+mod tests {
+    use super::*;
+    use std::mem::{align_of, offset_of, size_of};
+
+    #[test]
+    fn results_are_laid_out_as_in_the_header() {
+        assert_eq!((size_of::<Outcome>(), align_of::<Outcome>()), (320, 8));
+        assert_eq!((offset_of!(Outcome, settings), offset_of!(Outcome, answer)), (0, 288));
+        assert_eq!((size_of::<Opened>(), align_of::<Opened>()), (289, 1));
+        assert_eq!((offset_of!(Opened, settings), offset_of!(Opened, number)), (0, 288));
+    }
+}

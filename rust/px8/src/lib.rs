@@ -1,0 +1,27 @@
+//! The terminal of a weighing bay for Rust programs: a safe layer over the
+//! proved library's archive, `libboard.a`.
+//!
+//! [`Terminal`] owns its stores and is what most programs want. [`opening`],
+//! [`message`] and [`printed`] are the library's own three calls, on slices
+//! of any length; a wrong length is a refusal and never a fault.
+//!
+//! The archive is looked for in the repository's `target/staticlib`, or in
+//! the folder named by the environment variable `PX8_LIB_DIR`.
+//!
+//! ```
+//! let mut terminal = px8::Terminal::open();
+//! // the load on screen 1, the day's tally on screen 2
+//! terminal.message(b"LOAD kg \x1b\xd1\x01TALLY 12\x1b\xd1\x00");
+//! terminal.message(b"38,500");
+//! assert!(terminal.to_string().starts_with("1 LOAD kg 38,500\n2\n"));
+//! terminal.message(&[27, 209, 1]);
+//! assert!(terminal.to_string().starts_with("1 TALLY 12\n2\n"));
+//! ```
+
+mod calls;
+mod terminal;
+mod types;
+
+pub use calls::{message, opening, printed};
+pub use terminal::{Reply, Terminal};
+pub use types::*;

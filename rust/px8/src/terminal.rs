@@ -1,0 +1,155 @@
+//! A terminal that owns its stores.
+
+use crate::calls;
+use crate::types::{Answer, Settings, CELLS, COPY, LAYER, ROWS, SHOWN, WIDTH};
+
+/// A terminal with its settings and stores.
+///
+/// ```
+/// let mut terminal = px8::Terminal::open();
+/// let reply = terminal.message(b"\x1b=\x23\x2438,500 kg");
+/// assert!(reply.answer.is_clean());
+/// assert_eq!(terminal.to_string(), "1\n2\n3\n4     38,500 kg\n5\n6\n7\n8\n");
+/// ```
+#[derive(Clone, Debug, PartialEq, Eq)]
+pub struct Terminal {
+    settings: Settings,
+    cells: [u8; CELLS],
+    layer: [u8; LAYER],
+    shown: [u8; SHOWN],
+}
+
+/// What a message gives back.
+#[derive(Clone, Debug, PartialEq, Eq)]
+pub struct Reply {
+    pub answer: Answer,
+    /// The printed copies, [`COPY`] bytes each.
+    pub printed: Vec<u8>,
+}
+
+impl Terminal {
+    /// A terminal as the opening call leaves it.
+    pub fn open() -> Terminal {
+        let (mut cells, mut layer, mut shown) = ([0; CELLS], [0; LAYER], [0; SHOWN]);
+        let (settings, number) = calls::opening(&mut cells, &mut layer, &mut shown);
+        // the stores are of their sizes, and nothing else is refused
+        assert_eq!(number, crate::SERVED);
+        Terminal { settings, cells, layer, shown }
+    }
+
+    /// A terminal taken up again from what was saved. Nothing is judged here:
+    /// with settings that are not sound every message is refused with 3. The
+    /// shown screen is painted by the next message.
+    ///
+    /// ```
+    /// let mut terminal = px8::Terminal::open();
+    /// terminal.message(b"tare");
+    /// let (cells, layer, shown) = (*terminal.cells(), *terminal.layer(), *terminal.shown());
+    /// let again = px8::Terminal::resume(*terminal.settings(), cells, layer, shown);
+    /// assert_eq!(again, terminal);
+    /// ```
+    pub fn resume(
+        settings: Settings,
+        cells: [u8; CELLS],
+        layer: [u8; LAYER],
+        shown: [u8; SHOWN],
+    ) -> Terminal {
+        Terminal { settings, cells, layer, shown }
+    }
+
+    /// Reads a message, with printer room for every copy that it asks for.
+    ///
+    /// ```
+    /// let mut terminal = px8::Terminal::open();
+    /// let reply = terminal.message(b"net\x1bP\rtare\x1bP");
+    /// assert_eq!(reply.printed.len(), 2 * px8::COPY);
+    /// assert!(reply.printed.starts_with(b"net "));
+    /// assert!(reply.printed[px8::COPY..].starts_with(b"tare "));
+    /// ```
+    pub fn message(&mut self, message: &[u8]) -> Reply {
+        self.message_with_room(message, COPY * copies_at_most(message))
+    }
+
+    /// Reads a message with just so much printer room.
+    ///
+    /// ```
+    /// let mut terminal = px8::Terminal::open();
+    /// let reply = terminal.message_with_room(&[27, 80], px8::COPY - 1);
+    /// assert_eq!((reply.answer.first, reply.printed.len()), (px8::NO_ROOM, 0));
+    /// ```
+    pub fn message_with_room(&mut self, message: &[u8], room: usize) -> Reply {
+        let mut printer = vec![0; room];
+        let answer = self.message_into(message, &mut printer).0;
+        printer.truncate(answer.printed);
+        Reply { answer, printed: printer }
+    }
+
+    /// Reads a message with a lent printer buffer, and hands back the answer
+    /// and the part of the buffer that holds copies. Nothing is allocated.
+    pub fn message_into<'a>(&mut self, message: &[u8], printer: &'a mut [u8]) -> (Answer, &'a [u8]) {
+        let Terminal { settings, cells, layer, shown } = self;
+        let (after, answer) = calls::message(*settings, message, cells, layer, shown, printer);
+        self.settings = after;
+        (answer, calls::printed(printer, answer.printed))
+    }
+
+    /// The settings that stand.
+    pub fn settings(&self) -> &Settings {
+        &self.settings
+    }
+
+    /// The cells of both screens.
+    pub fn cells(&self) -> &[u8; CELLS] {
+        &self.cells
+    }
+
+    /// The layer: marks, then codes.
+    pub fn layer(&self) -> &[u8; LAYER] {
+        &self.layer
+    }
+
+    /// The shown screen.
+    pub fn shown(&self) -> &[u8; SHOWN] {
+        &self.shown
+    }
+
+    /// The eight rows of the shown screen.
+    ///
+    /// ```
+    /// let mut terminal = px8::Terminal::open();
+    /// terminal.message(b"gross\r\nnet");
+    /// let starts: Vec<&[u8]> = terminal.rows().map(|row| &row[..5]).collect();
+    /// assert_eq!(&starts[..3], &[&b"gross"[..], b"net  ", b"     "]);
+    /// ```
+    pub fn rows(&self) -> impl ExactSizeIterator<Item = &[u8; WIDTH]> {
+        self.shown.as_chunks().0.iter()
+    }
+}
+
+/// An ESC 80 takes two bytes of its own, so there are no more copies than
+/// places where these two stand together.
+fn copies_at_most(message: &[u8]) -> usize {
+    message.windows(2).filter(|pair| *pair == [27, 80]).count()
+}
+
+impl std::fmt::Display for Terminal {
+    /// The eight rows as program `show` prints them: numbered, without
+    /// trailing blanks, codes outside 32 to 126 as a dot.
+    fn fmt(&self, f: &mut std::fmt::Formatter) -> std::fmt::Result {
+        for (number, row) in (1..=ROWS).zip(self.rows()) {
+            let end = row.iter().rposition(|&code| code != 32).map_or(0, |last| last + 1);
+            let text: String = row[..end].iter().map(|&code| letter(code)).collect();
+            // the blank after the number is a trailing one in an empty row
+            writeln!(f, "{}", format!("{number} {text}").trim_end_matches(' '))?;
+        }
+        Ok(())
+    }
+}
+
+fn letter(code: u8) -> char {
+    if (32..=126).contains(&code) {
+        char::from(code)
+    } else {
+        '.'
+    }
+}

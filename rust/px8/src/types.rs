@@ -1,0 +1,148 @@
+//! The plain types, laid out as the archive has them, the sizes of the
+//! stores, and the numbers.
+
+/// Rows of the shown screen.
+pub const ROWS: usize = 8;
+/// Places in a row of the shown screen.
+pub const WIDTH: usize = 80;
+/// Bytes of the cells.
+pub const CELLS: usize = 3840;
+/// Bytes of the layer: 640 marks, then 640 codes.
+pub const LAYER: usize = 1280;
+/// Bytes of the shown screen.
+pub const SHOWN: usize = ROWS * WIDTH;
+/// The longest message that is taken.
+pub const MESSAGE_MOST: usize = 4096;
+/// Bytes of a printed copy: 8 rows of 80, each followed by 13 and 10.
+pub const COPY: usize = ROWS * (WIDTH + 2);
+/// Bytes of the patterns: 31 codes of 8 rows.
+pub const PATTERNS: usize = 248;
+
+/// The call was served.
+pub const SERVED: u8 = 0;
+/// A store is not of its size; the whole call is refused.
+pub const STORE_SIZE: u8 = 1;
+/// The message is longer than [`MESSAGE_MOST`]; the whole call is refused.
+pub const TOO_LONG: u8 = 2;
+/// A setting is outside its range; the whole call is refused.
+pub const UNSOUND: u8 = 3;
+/// First refusal: the byte after ESC is not in the list.
+pub const NOT_LISTED: u8 = 10;
+/// First refusal: a parameter is outside its range.
+pub const OUT_OF_RANGE: u8 = 11;
+/// First refusal: the message ends inside a sequence.
+pub const CUT: u8 = 12;
+/// First refusal: ESC 80 with less than [`COPY`] of printer room left.
+pub const NO_ROOM: u8 = 13;
+/// First refusal: ESC 208 with mode 3.
+pub const MODE_3: u8 = 14;
+
+/// What each of the two screens has of its own.
+#[repr(C)]
+#[derive(Clone, Copy, Debug, PartialEq, Eq)]
+pub struct Place {
+    /// Cursor line, 1 to the screen's lines.
+    pub line: u8,
+    /// Cursor column, 1 to the screen's columns.
+    pub column: u8,
+    /// The window's first line, 1 to lines − H + 1.
+    pub top: u8,
+}
+
+/// The keyboard's settings: stored for the board, and nothing else in the
+/// library depends on them.
+#[repr(C)]
+#[derive(Clone, Copy, Debug, PartialEq, Eq)]
+pub struct Keys {
+    /// INS, CAPS, NUM; 1 is on (160 to 165).
+    pub leds: [u8; 3],
+    /// One of the letters U F G E D W I S N (67).
+    pub charset: u8,
+    /// 1 where function keys send strings, 0 codes (177, 176).
+    pub strings: u8,
+    /// Key repeat, 1 is on (240).
+    pub repeat: u8,
+    /// Its start time, 1 to 127, in 1/64 second (241).
+    pub delay: u8,
+    /// Its interval, 1 to 127, in 1/256 second (242).
+    pub interval: u8,
+    /// 0, 2, 4, 6, 16, 18, 32, 34, 64 or 66 (247).
+    pub shift: u8,
+    /// Four codes each of 243, 244 and 245.
+    pub arrows: [u8; 12],
+}
+
+/// The settings. H is the window's height: 16 in mode 1, else 8. They are
+/// sound when every field lies in the range given here.
+#[repr(C)]
+#[derive(Clone, Copy, Debug, PartialEq, Eq)]
+pub struct Settings {
+    /// 0, 1 or 2 (208).
+    pub mode: u8,
+    /// Lines of screen 1. Mode 0: each screen at least 8, together at most
+    /// 48. Mode 1: equal, 16 to 48. Mode 2: equal, 8 to 48.
+    pub lines1: u8,
+    /// Lines of screen 2.
+    pub lines2: u8,
+    /// Columns of screen 1. Mode 0: 80 and 80. Mode 1: 39 and 39. Mode 2: m
+    /// and 79 − m, with m 1 to 78.
+    pub columns1: u8,
+    /// Columns of screen 2.
+    pub columns2: u8,
+    /// Any byte: mode 2 shows it in column m + 1.
+    pub boundary: u8,
+    /// 0 is screen 1, 1 is screen 2 (209).
+    pub selected: u8,
+    /// Of screen 1 and of screen 2.
+    pub places: [Place; 2],
+    /// 1 where the window follows the cursor (149, sent the other way round).
+    pub tracking: u8,
+    /// Lines that 150 and 151 move by, 1 to H (148).
+    pub step: u8,
+    /// 1 where every place is shown blank (123, 125).
+    pub secret: u8,
+    /// 1 is on (51, 50).
+    pub cursor: u8,
+    /// Key display as sent, 0 or 1 (211).
+    pub display: u8,
+    /// The cursor's type, 0 to 3 (214).
+    pub kind: u8,
+    pub keys: Keys,
+    /// 31 patterns of 8 rows, for the codes 224 to 254 (224).
+    pub patterns: [u8; PATTERNS],
+}
+
+/// The answer to a message.
+#[repr(C)]
+#[derive(Clone, Copy, Debug, PartialEq, Eq)]
+pub struct Answer {
+    /// [`SERVED`], or why the whole call was refused: 1, 2 or 3.
+    pub number: u8,
+    /// Bytes taken: all of the message, if served.
+    pub taken: u32,
+    /// Sequences accepted.
+    pub accepted: u32,
+    /// Sequences refused.
+    pub refused: u32,
+    /// Number of the first refusal, 10 to 14; 0 if there is none.
+    pub first: u8,
+    /// Where its ESC stands in the message, from 0; 0 if there is none.
+    pub offset: u32,
+    /// Bytes of printed copies, a multiple of [`COPY`].
+    pub printed: usize,
+}
+
+impl Answer {
+    /// Served, and no sequence of it refused.
+    pub fn is_clean(&self) -> bool {
+        self.number == SERVED && self.refused == 0
+    }
+}
+
+impl std::fmt::Display for Answer {
+    /// The answer's line, as program `show` prints it.
+    fn fmt(&self, f: &mut std::fmt::Formatter) -> std::fmt::Result {
+        write!(f, "answer {} taken {} accepted {} ", self.number, self.taken, self.accepted)?;
+        write!(f, "refused {} first {} at {}", self.refused, self.first, self.offset)
+    }
+}

@@ -1,0 +1,56 @@
+//! Sizes and offsets of the types, as the C header has them.
+
+use px8::{Answer, Keys, Place, Settings};
+use std::mem::{align_of, offset_of, size_of};
+
+#[test]
+fn place() {
+    assert_eq!((size_of::<Place>(), align_of::<Place>()), (3, 1));
+    assert_eq!([offset_of!(Place, line), offset_of!(Place, column), offset_of!(Place, top)], [0, 1, 2]);
+}
+
+#[test]
+fn keys() {
+    assert_eq!((size_of::<Keys>(), align_of::<Keys>()), (21, 1));
+    assert_eq!(offset_of!(Keys, leds), 0);
+    assert_eq!(offset_of!(Keys, charset), 3);
+    assert_eq!(offset_of!(Keys, strings), 4);
+    assert_eq!(offset_of!(Keys, repeat), 5);
+    assert_eq!(offset_of!(Keys, delay), 6);
+    assert_eq!(offset_of!(Keys, interval), 7);
+    assert_eq!(offset_of!(Keys, shift), 8);
+    assert_eq!(offset_of!(Keys, arrows), 9);
+}
+
+#[test]
+fn settings() {
+    assert_eq!((size_of::<Settings>(), align_of::<Settings>()), (288, 1));
+    assert_eq!(offset_of!(Settings, mode), 0);
+    assert_eq!(offset_of!(Settings, lines1), 1);
+    assert_eq!(offset_of!(Settings, lines2), 2);
+    assert_eq!(offset_of!(Settings, columns1), 3);
+    assert_eq!(offset_of!(Settings, columns2), 4);
+    assert_eq!(offset_of!(Settings, boundary), 5);
+    assert_eq!(offset_of!(Settings, selected), 6);
+    assert_eq!(offset_of!(Settings, places), 7);
+    assert_eq!(offset_of!(Settings, tracking), 13);
+    assert_eq!(offset_of!(Settings, step), 14);
+    assert_eq!(offset_of!(Settings, secret), 15);
+    assert_eq!(offset_of!(Settings, cursor), 16);
+    assert_eq!(offset_of!(Settings, display), 17);
+    assert_eq!(offset_of!(Settings, kind), 18);
+    assert_eq!(offset_of!(Settings, keys), 19);
+    assert_eq!(offset_of!(Settings, patterns), 40);
+}
+
+#[test]
+fn answer() {
+    assert_eq!((size_of::<Answer>(), align_of::<Answer>()), (32, 8));
+    assert_eq!(offset_of!(Answer, number), 0);
+    assert_eq!(offset_of!(Answer, taken), 4);
+    assert_eq!(offset_of!(Answer, accepted), 8);
+    assert_eq!(offset_of!(Answer, refused), 12);
+    assert_eq!(offset_of!(Answer, first), 16);
+    assert_eq!(offset_of!(Answer, offset), 20);
+    assert_eq!(offset_of!(Answer, printed), 24);
+}

@@ -1,0 +1,169 @@
+//! Refused calls and sequences, and what stays as it was: settings, stores,
+//! the printer buffer, and the bytes around all of them.
+
+use px8::{Answer, Settings, Terminal, CELLS, COPY, LAYER, MESSAGE_MOST, SHOWN};
+
+const GUARD: usize = 64;
+
+/// A store between two guards; every byte is unlike its neighbours.
+fn guarded(size: usize) -> Vec<u8> {
+    (0..size + 2 * GUARD).map(|at| (at % 251) as u8).collect()
+}
+
+fn inner(store: &mut [u8]) -> &mut [u8] {
+    let end = store.len() - GUARD;
+    &mut store[GUARD..end]
+}
+
+/// Makes the call on guarded stores of these sizes, and returns its results
+/// and whether every byte of every buffer stayed.
+fn call(settings: Settings, message: &[u8], sizes: [usize; 4]) -> (Settings, Answer, bool) {
+    let mut stores = sizes.map(guarded);
+    let before = stores.clone();
+    let [cells, layer, shown, printer] = &mut stores;
+    let (after, answer) =
+        px8::message(settings, message, inner(cells), inner(layer), inner(shown), inner(printer));
+    (after, answer, stores == before)
+}
+
+fn refused(settings: Settings, message: &[u8], sizes: [usize; 4], number: u8) {
+    let (after, answer, unaltered) = call(settings, message, sizes);
+    let expected = Answer { number, taken: 0, accepted: 0, refused: 0, first: 0, offset: 0, printed: 0 };
+    assert_eq!(answer, expected);
+    assert_eq!(after, settings);
+    assert!(unaltered);
+}
+
+fn opening_settings() -> Settings {
+    *Terminal::open().settings()
+}
+
+const SIZES: [usize; 4] = [CELLS, LAYER, SHOWN, COPY];
+
+#[test]
+fn stores_of_a_wrong_size() {
+    let settings = opening_settings();
+    for store in 0..3 {
+        for size in [0, 1, SIZES[store] - 1, SIZES[store] + 1] {
+            let mut sizes = SIZES;
+            sizes[store] = size;
+            refused(settings, b"text\x1bP", sizes, px8::STORE_SIZE);
+            let mut stores = sizes.map(guarded);
+            let before = stores.clone();
+            let [cells, layer, shown, _] = &mut stores;
+            let opened = px8::opening(inner(cells), inner(layer), inner(shown));
+            assert_eq!(opened, (settings, px8::STORE_SIZE));
+            assert_eq!(stores, before);
+        }
+    }
+}
+
+#[test]
+fn message_too_long() {
+    refused(opening_settings(), &[65; MESSAGE_MOST + 1], SIZES, px8::TOO_LONG);
+    let (_, answer, unaltered) = call(opening_settings(), &[65; MESSAGE_MOST], SIZES);
+    assert_eq!((answer.number, answer.taken, unaltered), (0, 4096, false));
+}
+
+/// One field after the other just outside its range.
+#[test]
+fn settings_not_sound() {
+    let changes: [fn(&mut Settings); 26] = [
+        |s| s.mode = 3,
+        |s| s.mode = 255,
+        |s| s.lines1 = 7,
+        |s| s.lines2 = 25,
+        |s| s.columns1 = 79,
+        |s| s.columns2 = 81,
+        |s| s.selected = 2,
+        |s| s.places[0].line = 0,
+        |s| s.places[0].line = 25,
+        |s| s.places[0].column = 81,
+        |s| s.places[0].top = 18,
+        |s| s.places[1].line = 25,
+        |s| s.places[1].column = 0,
+        |s| s.places[1].top = 0,
+        |s| s.tracking = 2,
+        |s| s.step = 9,
+        |s| s.secret = 2,
+        |s| s.cursor = 2,
+        |s| s.display = 2,
+        |s| s.kind = 4,
+        |s| s.keys.leds[2] = 2,
+        |s| s.keys.charset = b'A',
+        |s| s.keys.strings = 2,
+        |s| s.keys.repeat = 2,
+        |s| s.keys.delay = 0,
+        |s| s.keys.interval = 128,
+    ];
+    for change in changes {
+        let mut settings = opening_settings();
+        change(&mut settings);
+        refused(settings, b"text\x1bP", SIZES, px8::UNSOUND);
+    }
+    let mut settings = opening_settings();
+    settings.keys.shift = 1;
+    refused(settings, b"", SIZES, px8::UNSOUND);
+}
+
+/// "Calls are checked in the order 1, 2, 3".
+#[test]
+fn order_of_the_numbers() {
+    let mut settings = opening_settings();
+    settings.step = 0;
+    refused(settings, &[65; 5000], [CELLS, LAYER, SHOWN + 1, 0], px8::STORE_SIZE);
+    refused(settings, &[65; 5000], SIZES, px8::TOO_LONG);
+    refused(settings, &[65; 50], SIZES, px8::UNSOUND);
+}
+
+/// Each number of a refused sequence, its offset, and the bytes taken.
+#[test]
+fn refused_sequences() {
+    let rows: [(&[u8], usize, u8, u32); 7] = [
+        (&[65, 27, 27, 66], 0, px8::NOT_LISTED, 1),
+        (&[65, 66, 27, 61, 56, 32], 0, px8::OUT_OF_RANGE, 2),
+        (&[27, 51, 27], 0, px8::CUT, 2),
+        (&[27, 80], 655, px8::NO_ROOM, 0),
+        (&[27, 80, 27, 80], 1311, px8::NO_ROOM, 2),
+        (&[27, 208, 3, 67], 0, px8::MODE_3, 0),
+        (&[27, 209, 65], 0, px8::OUT_OF_RANGE, 0),
+    ];
+    for (bytes, room, first, offset) in rows {
+        let answer = Terminal::open().message_with_room(bytes, room).answer;
+        assert_eq!((answer.number, answer.taken), (0, bytes.len() as u32), "{bytes:?}");
+        assert_eq!((answer.refused, answer.first, answer.offset), (1, first, offset), "{bytes:?}");
+    }
+}
+
+/// A served call writes the three stores and the copies, and nothing else.
+#[test]
+fn served_calls_stay_inside() {
+    let mut stores = [CELLS, LAYER, SHOWN, COPY + 10].map(guarded);
+    let before = stores.clone();
+    let [cells, layer, shown, printer] = &mut stores;
+    let (settings, _) = px8::opening(inner(cells), inner(layer), inner(shown));
+    let bytes = [&[10; 60][..], &[27, 210, 8, 80, 42, 27, 80]].concat();
+    let (_, answer) =
+        px8::message(settings, &bytes, inner(cells), inner(layer), inner(shown), inner(printer));
+    assert_eq!((answer.number, answer.accepted, answer.printed), (0, 2, COPY));
+    for (store, was) in stores.iter().zip(&before) {
+        let end = was.len() - GUARD;
+        assert_eq!((&store[..GUARD], &store[end..]), (&was[..GUARD], &was[end..]));
+    }
+    // past the copy the printer buffer stays
+    assert_eq!(stores[3][GUARD + COPY..], before[3][GUARD + COPY..]);
+    assert_eq!(&stores[3][GUARD + COPY - 3..GUARD + COPY], &[42, 13, 10]);
+}
+
+#[test]
+fn printer_call() {
+    let buffer = [1, 2, 3];
+    for count in 0..=3 {
+        let part = px8::printed(&buffer, count);
+        assert_eq!((part, part.as_ptr()), (&buffer[..count], buffer.as_ptr()));
+    }
+    for count in [4, usize::MAX] {
+        assert!(px8::printed(&buffer, count).is_empty());
+    }
+    assert!(px8::printed(&[], 0).is_empty() && px8::printed(&[], 1).is_empty());
+}

@@ -1,0 +1,344 @@
+//! What each item does: "each in turn changes what stands as its rule says,
+//! with tracking, and a refusal changes nothing".
+
+use super::picture::{copy, cursor_place, place};
+use super::read::Item;
+use super::settings::{Place, Settings, BLANK, COPY, HOME, MARKS};
+
+/// What stands, and the printer buffer of the call.
+pub struct Standing<'a> {
+    pub settings: Settings,
+    pub cells: &'a mut [u8],
+    pub layer: &'a mut [u8],
+    pub printer: &'a mut [u8],
+    pub printed: usize,
+}
+
+/// How tracking moves a window that misses the cursor's line.
+enum Tracking {
+    Least,
+    Centre,
+}
+
+impl Standing<'_> {
+    pub fn apply(&mut self, item: &Item) {
+        match *item {
+            Item::Printed(byte) => {
+                self.print(byte);
+                self.track(Tracking::Least);
+            }
+            Item::Code(code) => self.code(code),
+            Item::Sequence { second, parameters } => self.sequence(second, parameters),
+            Item::Refusal(_) => {}
+        }
+    }
+
+    /// "8 one column back, staying at column 1; 10 one line down; 13 to
+    /// column 1; 12 as ESC 42; other codes below 32 but 27 do nothing."
+    fn code(&mut self, code: u8) {
+        match code {
+            8 => {
+                let column = self.here().column;
+                self.here_mut().column = if column > 1 { column - 1 } else { 1 };
+                self.track(Tracking::Least);
+            }
+            10 => {
+                self.line_down();
+                self.track(Tracking::Least);
+            }
+            12 => self.clear_screen(),
+            13 => {
+                self.here_mut().column = 1;
+                self.track(Tracking::Least);
+            }
+            _ => {}
+        }
+    }
+
+    /// The sequences, one group of rules after the other.
+    fn sequence(&mut self, second: u8, p: &[u8]) {
+        match second {
+            37 => {
+                self.print(p[0]);
+                self.track(Tracking::Least);
+            }
+            42 => self.clear_screen(),
+            61 => {
+                self.here_mut().line = p[0] - 31;
+                self.here_mut().column = p[1] - 31;
+                self.track(Tracking::Centre);
+            }
+            80 => self.append_copy(),
+            84 | 89 => self.blank_from_cursor(second),
+            144 | 145 => self.scroll(second, usize::from(p[0]), usize::from(p[1])),
+            150 | 151 | 212 | 213 | 215 => self.move_window(second),
+            208 => self.set_mode(p),
+            209 => {
+                self.settings.selected = p[0];
+                self.empty_layer();
+            }
+            210 => self.mark(usize::from(p[0]), usize::from(p[1]), p[2]),
+            // "198, 199: no operation ... 246: no effect."
+            198 | 199 | 246 => {}
+            _ => self.store(second, p),
+        }
+    }
+
+    /// The sequences that only store a setting.
+    fn store(&mut self, second: u8, p: &[u8]) {
+        let settings = &mut self.settings;
+        match second {
+            50 => settings.cursor = 0,
+            51 => settings.cursor = 1,
+            123 => settings.secret = 1,
+            125 => settings.secret = 0,
+            148 => settings.step = p[0],
+            // "149: 0 tracking, 1 not."
+            149 => settings.tracking = 1 - p[0],
+            211 => settings.display = p[0],
+            214 => settings.kind = p[0],
+            224 => {
+                let start = 8 * usize::from(p[0] - 224);
+                settings.patterns[start..start + 8].copy_from_slice(&p[1..9]);
+            }
+            _ => self.store_key(second, p),
+        }
+    }
+
+    fn store_key(&mut self, second: u8, p: &[u8]) {
+        let keys = &mut self.settings.keys;
+        match second {
+            67 => keys.charset = p[0],
+            160 => keys.leds[0] = 1,
+            161 => keys.leds[0] = 0,
+            162 => keys.leds[1] = 1,
+            163 => keys.leds[1] = 0,
+            164 => keys.leds[2] = 1,
+            165 => keys.leds[2] = 0,
+            176 => keys.strings = 0,
+            177 => keys.strings = 1,
+            240 => keys.repeat = p[0],
+            241 => keys.delay = p[0],
+            242 => keys.interval = p[0],
+            243 => keys.arrows[0..4].copy_from_slice(p),
+            244 => keys.arrows[4..8].copy_from_slice(p),
+            245 => keys.arrows[8..12].copy_from_slice(p),
+            247 => keys.shift = p[0],
+            _ => unreachable!("a sequence is read only with a byte of the list"),
+        }
+    }
+
+    // ---- the selected screen ----
+
+    fn screen(&self) -> usize {
+        usize::from(self.settings.selected)
+    }
+
+    fn here(&self) -> Place {
+        self.settings.places[self.screen()]
+    }
+
+    fn here_mut(&mut self) -> &mut Place {
+        let screen = self.screen();
+        &mut self.settings.places[screen]
+    }
+
+    /// R, the lines of the selected screen.
+    fn lines(&self) -> usize {
+        self.settings.lines(self.screen())
+    }
+
+    fn columns(&self) -> usize {
+        self.settings.columns(self.screen())
+    }
+
+    fn cell(&self, line: usize, column: usize) -> usize {
+        self.settings.cell(self.screen(), line, column)
+    }
+
+    fn blank_line(&mut self, line: usize) {
+        for column in 1..=self.columns() {
+            let at = self.cell(line, column);
+            self.cells[at] = BLANK;
+        }
+    }
+
+    fn copy_line(&mut self, from: usize, to: usize) {
+        for column in 1..=self.columns() {
+            let (source, target) = (self.cell(from, column), self.cell(to, column));
+            self.cells[target] = self.cells[source];
+        }
+    }
+
+    // ---- printing and moving the cursor ----
+
+    /// "Printing stores the byte, empties the layer at the place where the
+    /// picture without secret and layer shows that cell, if any, and moves
+    /// right. From the last column it goes to column 1 of the next line."
+    fn print(&mut self, byte: u8) {
+        let here = self.here();
+        let at = self.cell(usize::from(here.line), usize::from(here.column));
+        self.cells[at] = byte;
+        if let Some(shown_at) = cursor_place(&self.settings) {
+            // "emptying writes 0 in both"
+            self.layer[shown_at] = 0;
+            self.layer[MARKS + shown_at] = 0;
+        }
+        if usize::from(here.column) < self.columns() {
+            self.here_mut().column = here.column + 1;
+        } else {
+            self.here_mut().column = 1;
+            self.line_down();
+        }
+    }
+
+    /// "Going below the last line moves the screen's lines up one and blanks
+    /// the last." A lifted screen empties the whole layer.
+    fn line_down(&mut self) {
+        if usize::from(self.here().line) < self.lines() {
+            self.here_mut().line += 1;
+            return;
+        }
+        self.move_lines_up(1, self.lines());
+        self.empty_layer();
+    }
+
+    /// "While tracking is on, ... a window that misses the cursor's line
+    /// moves: for 61 as 215 does, else by the least amount."
+    fn track(&mut self, how: Tracking) {
+        let line = usize::from(self.here().line);
+        let top = usize::from(self.here().top);
+        let height = self.settings.height();
+        if self.settings.tracking == 0 || (top <= line && line < top + height) {
+            return;
+        }
+        match how {
+            Tracking::Centre => self.centre(),
+            Tracking::Least if line < top => self.set_top(line),
+            Tracking::Least => self.set_top(line - height + 1),
+        }
+    }
+
+    // ---- the window ----
+
+    fn move_window(&mut self, second: u8) {
+        let top = usize::from(self.here().top);
+        let step = usize::from(self.settings.step);
+        let greatest = self.settings.greatest_top(self.screen());
+        match second {
+            150 => self.set_top(top.saturating_sub(step).max(1)),
+            151 => self.set_top((top + step).min(greatest)),
+            212 => self.set_top(1),
+            213 => self.set_top(greatest),
+            _ => self.centre(),
+        }
+    }
+
+    /// "215: top = cursor line − H/2, held in range."
+    fn centre(&mut self) {
+        let line = usize::from(self.here().line);
+        let half = self.settings.height() / 2;
+        let greatest = self.settings.greatest_top(self.screen());
+        self.set_top(line.saturating_sub(half).clamp(1, greatest));
+    }
+
+    /// "a top that changes empties the whole layer"
+    fn set_top(&mut self, top: usize) {
+        if usize::from(self.here().top) != top {
+            self.here_mut().top = top as u8;
+            self.empty_layer();
+        }
+    }
+
+    // ---- blanking and scrolling ----
+
+    /// "42: blanks the screen, cursor home, top 1, layer empty."
+    fn clear_screen(&mut self) {
+        for line in 1..=self.lines() {
+            self.blank_line(line);
+        }
+        *self.here_mut() = HOME;
+        self.empty_layer();
+    }
+
+    /// "84: blanks from the cursor to the end of its line. 89: to the end of
+    /// the screen. Both take in the cursor's cell."
+    fn blank_from_cursor(&mut self, second: u8) {
+        let line = usize::from(self.here().line);
+        for column in usize::from(self.here().column)..=self.columns() {
+            let at = self.cell(line, column);
+            self.cells[at] = BLANK;
+        }
+        if second == 89 {
+            for below in line + 1..=self.lines() {
+                self.blank_line(below);
+            }
+        }
+        self.empty_layer();
+    }
+
+    /// "Within lines a+1 to a+m, contents move up (144) or down (145) by one"
+    fn scroll(&mut self, second: u8, a: usize, m: usize) {
+        if second == 144 {
+            self.move_lines_up(a + 1, a + m);
+        } else {
+            self.move_lines_down(a + 1, a + m);
+        }
+        self.empty_layer();
+    }
+
+    fn move_lines_up(&mut self, first: usize, last: usize) {
+        for line in first..last {
+            self.copy_line(line + 1, line);
+        }
+        self.blank_line(last);
+    }
+
+    fn move_lines_down(&mut self, first: usize, last: usize) {
+        for line in (first + 1..=last).rev() {
+            self.copy_line(line - 1, line);
+        }
+        self.blank_line(first);
+    }
+
+    // ---- the layer, the printed copy, the mode ----
+
+    fn empty_layer(&mut self) {
+        self.layer.fill(0);
+    }
+
+    /// "Marking a place writes 1 and its code"
+    fn mark(&mut self, row: usize, column: usize, code: u8) {
+        self.layer[place(row, column)] = 1;
+        self.layer[MARKS + place(row, column)] = code;
+    }
+
+    fn append_copy(&mut self) {
+        let room = &mut self.printer[self.printed..];
+        copy(&self.settings, self.cells, self.layer, room);
+        self.printed += COPY;
+    }
+
+    /// "An accepted 208 blanks all cells, empties the layer, puts cursors and
+    /// tops at 1, selects screen 1, sets step 1 and tracking on. Other
+    /// settings stay, save the boundary in mode 2."
+    fn set_mode(&mut self, p: &[u8]) {
+        self.cells.fill(BLANK);
+        self.empty_layer();
+        let settings = &mut self.settings;
+        settings.mode = p[0];
+        settings.lines1 = p[1];
+        (settings.lines2, settings.columns1, settings.columns2) = match p[0] {
+            0 => (p[2], 80, 80),
+            1 => (p[1], 39, 39),
+            _ => (p[1], p[2], 79 - p[2]),
+        };
+        if p[0] == 2 {
+            settings.boundary = p[3];
+        }
+        settings.places = [HOME, HOME];
+        settings.selected = 0;
+        settings.step = 1;
+        settings.tracking = 1;
+    }
+}

@@ -1,0 +1,25 @@
+//! Document 01 in plain Rust, clear before clever: the independent program
+//! that the library's results are compared with.
+//!
+//! - `settings`: the plain types and the screens' measures
+//! - `sound`: which settings are sound
+//! - `read`: a message into items
+//! - `apply`: what each item does to what stands
+//! - `picture`: the picture, the shown screen, the printed copy
+//! - `calls`: the three calls
+//! - `text`: the words of the programs `show` and `replay`
+
+#![forbid(unsafe_code)]
+
+pub mod apply;
+pub mod calls;
+pub mod picture;
+pub mod read;
+pub mod settings;
+pub mod sound;
+pub mod text;
+
+pub use calls::{message, opening, printed};
+pub use picture::picture;
+pub use settings::{Answer, Keys, Place, Settings};
+pub use sound::sound;

@@ -1,0 +1,56 @@
+//! Which settings are sound.
+
+use super::settings::{Keys, Settings, CHARSETS, SHIFTS};
+
+/// "Settings are sound exactly when each lies in the range that the rules
+/// below give, cursors and windows are inside their screens, and step is 1
+/// to H."
+pub fn sound(settings: &Settings) -> bool {
+    // The measures come first: the others are worked out from them.
+    measures_sound(settings)
+        && place_sound(settings, 0)
+        && place_sound(settings, 1)
+        && switches_sound(settings)
+        && keys_sound(&settings.keys)
+}
+
+/// The table of modes; the columns stand as the mode gives them.
+fn measures_sound(s: &Settings) -> bool {
+    let (lines1, lines2) = (u32::from(s.lines1), u32::from(s.lines2));
+    let columns = (s.columns1, s.columns2);
+    match s.mode {
+        0 => lines1 >= 8 && lines2 >= 8 && lines1 + lines2 <= 48 && columns == (80, 80),
+        1 => lines1 == lines2 && (16..=48).contains(&lines1) && columns == (39, 39),
+        2 => {
+            lines1 == lines2
+                && (8..=48).contains(&lines1)
+                && (1..=78).contains(&s.columns1)
+                && s.columns2 == 79 - s.columns1
+        }
+        _ => false,
+    }
+}
+
+/// "Inside means: cursor line 1 to lines, cursor column 1 to columns, top 1
+/// to lines−H+1, each of its own screen".
+fn place_sound(s: &Settings, screen: usize) -> bool {
+    let place = s.places[screen];
+    (1..=s.lines(screen)).contains(&usize::from(place.line))
+        && (1..=s.columns(screen)).contains(&usize::from(place.column))
+        && (1..=s.greatest_top(screen)).contains(&usize::from(place.top))
+}
+
+fn switches_sound(s: &Settings) -> bool {
+    let flags = [s.selected, s.tracking, s.secret, s.cursor, s.display];
+    flags.iter().all(|&flag| flag <= 1) && (1..=s.height()).contains(&usize::from(s.step)) && s.kind <= 3
+}
+
+fn keys_sound(keys: &Keys) -> bool {
+    keys.leds.iter().all(|&led| led <= 1)
+        && CHARSETS.contains(&keys.charset)
+        && keys.strings <= 1
+        && keys.repeat <= 1
+        && (1..=127).contains(&keys.delay)
+        && (1..=127).contains(&keys.interval)
+        && SHIFTS.contains(&keys.shift)
+}

@@ -1,0 +1,181 @@
+//! The words of the programs `show` and `replay`.
+
+use super::calls::{message, opening};
+use super::picture::place;
+use super::settings::{Answer, Settings, CELLS, COPY, LAYER, OPENING, ROWS, SHOWN, WIDTH};
+use std::fmt::Write;
+
+/// A recording holds at most this many bytes in all.
+pub const LONGEST_RECORDING: usize = 60_000;
+/// The printer room of each call of a recording: two copies.
+pub const REPLAY_ROOM: usize = 2 * COPY;
+/// The kind of a record that is a message.
+pub const MESSAGE: u16 = 1;
+
+/// The stores with what stands, and the printer bytes of all calls so far.
+pub struct Session {
+    pub settings: Settings,
+    pub cells: Vec<u8>,
+    pub layer: Vec<u8>,
+    pub shown: Vec<u8>,
+    pub printed: Vec<u8>,
+}
+
+impl Session {
+    pub fn open() -> Session {
+        let mut session = Session {
+            settings: OPENING,
+            cells: vec![0; CELLS],
+            layer: vec![0; LAYER],
+            shown: vec![0; SHOWN],
+            printed: Vec::new(),
+        };
+        let stores = (&mut session.cells, &mut session.layer, &mut session.shown);
+        session.settings = opening(stores.0, stores.1, stores.2).0;
+        session
+    }
+
+    pub fn play(&mut self, bytes: &[u8], room: usize) -> Answer {
+        let mut printer = vec![0; room];
+        let stores = (&mut self.cells, &mut self.layer, &mut self.shown);
+        let (settings, answer) = message(self.settings, bytes, stores.0, stores.1, stores.2, &mut printer);
+        self.settings = settings;
+        self.printed.extend_from_slice(&printer[..answer.printed]);
+        answer
+    }
+
+    /// What stands, in the words of `replay`: settings, sums and rows.
+    pub fn text(&self) -> String {
+        settings_text(&self.settings) + &self.sums() + &rows(&self.shown)
+    }
+
+    fn sums(&self) -> String {
+        format!(
+            "sums cells {} layer {} patterns {} printer {}\n",
+            adler32(&self.cells),
+            adler32(&self.layer),
+            adler32(&self.settings.patterns),
+            adler32(&self.printed)
+        )
+    }
+}
+
+/// Program "show": the answer and the rows.
+pub fn show(bytes: &[u8]) -> String {
+    let mut session = Session::open();
+    let answer = session.play(bytes, COPY);
+    format!("{}\n{}", answer_text(&answer), rows(&session.shown))
+}
+
+/// Program "replay": a line a record, then what stands.
+pub fn replay(recording: &[u8]) -> String {
+    let mut session = Session::open();
+    let mut text = String::new();
+    let mut offset = 0;
+    let mut number = 0;
+    while offset < recording.len() {
+        number += 1;
+        match record(recording, offset) {
+            Some((MESSAGE, body)) if offset + 4 + body.len() <= LONGEST_RECORDING => {
+                let answer = session.play(body, REPLAY_ROOM);
+                text += &numbered_answer(number, &answer);
+                offset += 4 + body.len();
+            }
+            _ => {
+                writeln!(text, "{number} bad record").unwrap();
+                break;
+            }
+        }
+    }
+    text + &session.text()
+}
+
+/// The record at `offset`: "body length and kind, two bytes each,
+/// little-endian, then the body"; none if it is cut.
+pub fn record(recording: &[u8], offset: usize) -> Option<(u16, &[u8])> {
+    let head = recording.get(offset..offset + 4)?;
+    let length = usize::from(u16::from_le_bytes([head[0], head[1]]));
+    let kind = u16::from_le_bytes([head[2], head[3]]);
+    let body = recording.get(offset + 4..offset + 4 + length)?;
+    Some((kind, body))
+}
+
+pub fn answer_text(answer: &Answer) -> String {
+    format!(
+        "answer {} taken {} accepted {} refused {} first {} at {}",
+        answer.number, answer.taken, answer.accepted, answer.refused, answer.first, answer.offset
+    )
+}
+
+/// A message's line in a replay.
+pub fn numbered_answer(number: usize, answer: &Answer) -> String {
+    format!("{number} {} printed {}\n", answer_text(answer), answer.printed)
+}
+
+pub fn settings_text(s: &Settings) -> String {
+    let keys = &s.keys;
+    let mut text = format!(
+        "mode {} lines {} {} columns {} {} selected {}\n",
+        s.mode,
+        s.lines1,
+        s.lines2,
+        s.columns1,
+        s.columns2,
+        s.selected + 1
+    );
+    for (screen, place) in s.places.iter().enumerate() {
+        let number = screen + 1;
+        text += &format!("screen {number} line {} column {} top {}\n", place.line, place.column, place.top);
+    }
+    text += &format!(
+        "tracking {} step {} cursor {} type {} boundary {} secret {} leds {} {} {} set {}\n",
+        s.tracking,
+        s.step,
+        s.cursor,
+        s.kind,
+        s.boundary,
+        s.secret,
+        keys.leds[0],
+        keys.leds[1],
+        keys.leds[2],
+        keys.charset
+    );
+    text += &format!(
+        "strings {} display {} repeat {} {} {} shift {}\narrows",
+        keys.strings, s.display, keys.repeat, keys.delay, keys.interval, keys.shift
+    );
+    for code in keys.arrows {
+        write!(text, " {code}").unwrap();
+    }
+    text + "\n"
+}
+
+/// The eight rows without trailing blanks, codes outside 32 to 126 as a dot.
+pub fn rows(shown: &[u8]) -> String {
+    let mut text = String::new();
+    for row in 1..=ROWS {
+        let start = place(row, 1);
+        let codes = &shown[start..start + WIDTH];
+        let line: String = codes.iter().map(|&code| letter(code)).collect();
+        text += format!("{row} {line}").trim_end_matches(' ');
+        text += "\n";
+    }
+    text
+}
+
+fn letter(code: u8) -> char {
+    if (32..=126).contains(&code) {
+        char::from(code)
+    } else {
+        '.'
+    }
+}
+
+pub fn adler32(bytes: &[u8]) -> u32 {
+    let (mut low, mut high) = (1u32, 0u32);
+    for &byte in bytes {
+        low = (low + u32::from(byte)) % 65_521;
+        high = (high + low) % 65_521;
+    }
+    high << 16 | low
+}

@@ -1,0 +1,288 @@
+//! The stores, the selected screen's measures, text, windows and painting.
+
+use reference::{Answer, Place, Settings};
+
+pub struct Stores<'a> {
+    pub cells: &'a mut [u8; 3840],
+    pub marks: &'a mut [u8; 640],
+    pub codes: &'a mut [u8; 640],
+}
+
+impl<'a> Stores<'a> {
+    pub fn new(cells: &'a mut [u8], layer: &'a mut [u8]) -> Option<Stores<'a>> {
+        let layer: &mut [u8; 1280] = layer.try_into().ok()?;
+        let (marks, codes) = layer.split_at_mut(640);
+        Some(Stores {
+            cells: cells.try_into().ok()?,
+            marks: marks.try_into().ok()?,
+            codes: codes.try_into().ok()?,
+        })
+    }
+}
+
+pub struct Engine<'a> {
+    pub settings: Settings,
+    pub stores: Stores<'a>,
+    pub printer: &'a mut [u8],
+    pub printed: usize,
+    /// The layer is known to hold zeros only.
+    empty: bool,
+    /// The selected screen: its first cell, its measures, its place.
+    base: usize,
+    pub lines: usize,
+    pub columns: usize,
+    pub height: usize,
+    pub line: usize,
+    pub column: usize,
+    pub top: usize,
+}
+
+impl<'a> Engine<'a> {
+    pub fn new(settings: Settings, stores: Stores<'a>, printer: &'a mut [u8]) -> Engine<'a> {
+        let mut engine = Engine {
+            settings,
+            stores,
+            printer,
+            printed: 0,
+            empty: false,
+            base: 0,
+            lines: 0,
+            columns: 0,
+            height: 0,
+            line: 0,
+            column: 0,
+            top: 0,
+        };
+        engine.load();
+        engine
+    }
+
+    /// Takes the selected screen's measures and place out of the settings.
+    pub fn load(&mut self) {
+        let s = &self.settings;
+        let second = s.selected == 1;
+        let first_size = usize::from(s.lines1) * usize::from(s.columns1);
+        self.base = if second { first_size } else { 0 };
+        self.lines = usize::from(if second { s.lines2 } else { s.lines1 });
+        self.columns = usize::from(if second { s.columns2 } else { s.columns1 });
+        self.height = if s.mode == 1 { 16 } else { 8 };
+        let place = s.places[usize::from(second)];
+        self.line = usize::from(place.line);
+        self.column = usize::from(place.column);
+        self.top = usize::from(place.top);
+    }
+
+    /// Puts the selected screen's place back into the settings.
+    pub fn save(&mut self) {
+        self.settings.places[usize::from(self.settings.selected == 1)] =
+            Place { line: self.line as u8, column: self.column as u8, top: self.top as u8 };
+    }
+
+    pub fn finish(mut self) -> Settings {
+        self.save();
+        self.settings
+    }
+
+    pub fn serve(&mut self, message: &[u8], answer: &mut Answer) {
+        let mut at = 0;
+        while at < message.len() {
+            match message[at] {
+                27 => at += self.escape(message, at, answer),
+                32.. => {
+                    let end = at + text_length(&message[at..]);
+                    self.text(&message[at..end]);
+                    at = end;
+                }
+                code => {
+                    self.control(code);
+                    at += 1;
+                }
+            }
+        }
+        answer.taken = message.len() as u32;
+        answer.printed = self.printed;
+    }
+
+    fn control(&mut self, code: u8) {
+        match code {
+            8 => self.column -= usize::from(self.column > 1),
+            10 => self.down(),
+            13 => self.column = 1,
+            12 => return self.clear(),
+            _ => return,
+        }
+        self.follow();
+    }
+
+    /// Stores a run of printed bytes, a line's part at a time.
+    pub fn text(&mut self, mut run: &[u8]) {
+        while !run.is_empty() {
+            let space = self.columns - self.column + 1;
+            let (now, later) = run.split_at(run.len().min(space));
+            let at = self.cursor_cell();
+            self.stores.cells[at..at + now.len()].copy_from_slice(now);
+            self.unmark(now.len());
+            if now.len() < space {
+                self.column += now.len();
+            } else {
+                // All but the last of these bytes left the cursor on this
+                // line, and the window followed it here first.
+                if now.len() > 1 {
+                    self.follow();
+                }
+                self.column = 1;
+                self.down();
+            }
+            self.follow();
+            run = later;
+        }
+    }
+
+    pub fn cursor_cell(&self) -> usize {
+        self.base + (self.line - 1) * self.columns + self.column - 1
+    }
+
+    /// The cells of lines `from` to before `to`, counted from 0.
+    pub fn block(&self, from: usize, to: usize) -> std::ops::Range<usize> {
+        self.base + from * self.columns..self.base + to * self.columns
+    }
+
+    /// Empties the layer where the next `count` cells of the line are shown.
+    fn unmark(&mut self, count: usize) {
+        let row = self.line.wrapping_sub(self.top);
+        if self.empty || row >= self.height {
+            return;
+        }
+        let left = match (self.settings.mode, self.settings.selected) {
+            (2, 1) => usize::from(self.settings.columns1) + 1,
+            (1, _) if row >= 8 => 41,
+            _ => 0,
+        };
+        let at = row % 8 * 80 + left + self.column - 1;
+        self.stores.marks[at..at + count].fill(0);
+        self.stores.codes[at..at + count].fill(0);
+    }
+
+    fn down(&mut self) {
+        if self.line < self.lines {
+            self.line += 1;
+            return;
+        }
+        let (moved, last) = (self.block(1, self.lines), self.block(self.lines - 1, self.lines));
+        self.stores.cells.copy_within(moved, self.base);
+        self.stores.cells[last].fill(b' ');
+        self.wipe();
+    }
+
+    pub fn follow(&mut self) {
+        if self.settings.tracking == 0 {
+            return;
+        }
+        if self.line < self.top {
+            self.move_top(self.line);
+        } else if self.line >= self.top + self.height {
+            self.move_top(self.line - self.height + 1);
+        }
+    }
+
+    pub fn move_top(&mut self, top: usize) {
+        if top != self.top {
+            self.top = top;
+            self.wipe();
+        }
+    }
+
+    pub fn wipe(&mut self) {
+        if !self.empty {
+            self.stores.marks.fill(0);
+            self.stores.codes.fill(0);
+            self.empty = true;
+        }
+    }
+
+    pub fn mark(&mut self, at: usize, code: u8) {
+        self.stores.marks[at] = 1;
+        self.stores.codes[at] = code;
+        self.empty = false;
+    }
+
+    pub fn clear(&mut self) {
+        let all = self.block(0, self.lines);
+        self.stores.cells[all].fill(b' ');
+        (self.line, self.column, self.top) = (1, 1, 1);
+        self.wipe();
+    }
+
+    pub fn paint(&self, picture: &mut [u8; 640]) {
+        if self.settings.secret == 1 {
+            picture.fill(b' ');
+            return;
+        }
+        match self.settings.mode {
+            0 => picture.copy_from_slice(&self.stores.cells[self.block(self.top - 1, self.top + 7)]),
+            1 => self.paint_halves(picture),
+            _ => self.paint_both(picture),
+        }
+        if !self.empty {
+            let (marks, codes) = (&*self.stores.marks, &*self.stores.codes);
+            // without a branch, so that many places are done at once
+            for at in 0..640 {
+                let keep = u8::from(marks[at] != 0).wrapping_sub(1);
+                picture[at] = picture[at] & keep | codes[at] & !keep;
+            }
+        }
+    }
+
+    fn paint_halves(&self, picture: &mut [u8; 640]) {
+        let window = &self.stores.cells[self.block(self.top - 1, self.top + 15)];
+        let (left, right) = window.split_at(8 * 39);
+        let halves = left.chunks_exact(39).zip(right.chunks_exact(39));
+        for (row, (left, right)) in picture.chunks_exact_mut(80).zip(halves) {
+            row[..39].copy_from_slice(left);
+            row[39..41].fill(b' ');
+            row[41..].copy_from_slice(right);
+        }
+    }
+
+    fn paint_both(&self, picture: &mut [u8; 640]) {
+        let s = &self.settings;
+        let m = usize::from(s.columns1);
+        let mut tops = [usize::from(s.places[0].top), usize::from(s.places[1].top)];
+        tops[usize::from(s.selected == 1)] = self.top;
+        let second = usize::from(s.lines1) * m;
+        let left = self.stores.cells[(tops[0] - 1) * m..].chunks_exact(m);
+        let right = self.stores.cells[second + (tops[1] - 1) * (79 - m)..].chunks_exact(79 - m);
+        for ((row, left), right) in picture.chunks_exact_mut(80).zip(left).zip(right) {
+            row[..m].copy_from_slice(left);
+            row[m] = s.boundary;
+            row[m + 1..].copy_from_slice(right);
+        }
+    }
+
+    /// Appends a copy of the picture; there is room.
+    pub fn copy_out(&mut self) {
+        let mut picture = [0; 640];
+        self.paint(&mut picture);
+        let room = &mut self.printer[self.printed..self.printed + 656];
+        for (out, row) in room.chunks_exact_mut(82).zip(picture.chunks_exact(80)) {
+            for (to, &code) in out.iter_mut().zip(row) {
+                *to = code.max(b' ');
+            }
+            out[80..].copy_from_slice(&[13, 10]);
+        }
+        self.printed += 656;
+    }
+}
+
+/// How many bytes from the start print: whole blocks first, then the rest.
+fn text_length(bytes: &[u8]) -> usize {
+    let mut length = 0;
+    for block in bytes.chunks_exact(16) {
+        if block.iter().fold(false, |code, &byte| code | (byte < 32)) {
+            break;
+        }
+        length += 16;
+    }
+    let rest = &bytes[length..];
+    length + rest.iter().position(|&byte| byte < 32).unwrap_or(rest.len())
+}

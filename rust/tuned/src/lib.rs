@@ -1,0 +1,127 @@
+//! Document 01 made fast: text is stored in runs, lines move as blocks, the
+//! selected screen's measures are worked out once, and an empty layer is
+//! not emptied again. All 640 places are painted in each message call.
+//!
+//! The types are the reference's; the workings are this file's own.
+
+#![forbid(unsafe_code)]
+
+mod engine;
+mod sequences;
+
+use engine::{Engine, Stores};
+pub use reference::{Answer, Keys, Place, Settings};
+
+const START: Settings = Settings {
+    mode: 0,
+    lines1: 24,
+    lines2: 24,
+    columns1: 80,
+    columns2: 80,
+    boundary: b' ',
+    selected: 0,
+    places: [Place { line: 1, column: 1, top: 1 }; 2],
+    tracking: 1,
+    step: 1,
+    secret: 0,
+    cursor: 1,
+    display: 1,
+    kind: 0,
+    keys: Keys {
+        leds: [0; 3],
+        charset: b'U',
+        strings: 1,
+        repeat: 1,
+        delay: 32,
+        interval: 16,
+        shift: 0,
+        arrows: [0; 12],
+    },
+    patterns: [0; 248],
+};
+
+pub fn opening(cells: &mut [u8], layer: &mut [u8], shown: &mut [u8]) -> (Settings, u8) {
+    if (cells.len(), layer.len(), shown.len()) != (3840, 1280, 640) {
+        return (START, 1);
+    }
+    cells.fill(b' ');
+    layer.fill(0);
+    shown.fill(b' ');
+    (START, 0)
+}
+
+pub fn message(
+    settings: Settings,
+    message: &[u8],
+    cells: &mut [u8],
+    layer: &mut [u8],
+    shown: &mut [u8],
+    printer: &mut [u8],
+) -> (Settings, Answer) {
+    let mut answer = Answer::default();
+    // Arrays of fixed size let the compiler drop most bounds checks.
+    let stores = Stores::new(cells, layer);
+    let picture: Option<&mut [u8; 640]> = shown.try_into().ok();
+    let (Some(stores), Some(picture)) = (stores, picture) else {
+        answer.number = 1;
+        return (settings, answer);
+    };
+    if message.len() > 4096 {
+        answer.number = 2;
+        return (settings, answer);
+    }
+    if !sound(&settings) {
+        answer.number = 3;
+        return (settings, answer);
+    }
+    let mut engine = Engine::new(settings, stores, printer);
+    engine.serve(message, &mut answer);
+    engine.paint(picture);
+    (engine.finish(), answer)
+}
+
+pub fn printed(buffer: &[u8], count: usize) -> &[u8] {
+    buffer.get(..count).unwrap_or(&buffer[..0])
+}
+
+fn sound(s: &Settings) -> bool {
+    let (a, b) = (s.lines1, s.lines2);
+    let shape = match s.mode {
+        0 => a >= 8 && b >= 8 && a <= 40 && b <= 48 - a && s.columns1 == 80 && s.columns2 == 80,
+        1 => a == b && (16..=48).contains(&a) && s.columns1 == 39 && s.columns2 == 39,
+        2 => {
+            let m = s.columns1;
+            a == b && (8..=48).contains(&a) && (1..=78).contains(&m) && s.columns2 == 79 - m
+        }
+        _ => false,
+    };
+    if !shape {
+        return false;
+    }
+    let height = if s.mode == 1 { 16 } else { 8 };
+    let inside = |p: &Place, lines: u8, columns: u8| {
+        p.line.wrapping_sub(1) < lines
+            && p.column.wrapping_sub(1) < columns
+            && p.top.wrapping_sub(1) <= lines - height
+    };
+    let k = &s.keys;
+    let flags = s.selected
+        | s.tracking
+        | s.secret
+        | s.cursor
+        | s.display
+        | k.leds[0]
+        | k.leds[1]
+        | k.leds[2]
+        | k.strings
+        | k.repeat;
+    inside(&s.places[0], a, s.columns1)
+        && inside(&s.places[1], b, s.columns2)
+        && flags <= 1
+        && s.step.wrapping_sub(1) < height
+        && s.kind < 4
+        && k.delay.wrapping_sub(1) < 127
+        && k.interval.wrapping_sub(1) < 127
+        && sequences::is_charset(k.charset)
+        && sequences::is_shift(k.shift)
+}

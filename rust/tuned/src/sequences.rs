@@ -1,0 +1,233 @@
+//! The sequences: one table of lengths, one judgement, one dispatch.
+
+use crate::engine::Engine;
+use reference::{Answer, Place};
+
+/// Length by second byte, 0 for none. 208 stands with its shortest.
+const LENGTHS: [u8; 256] = lengths();
+
+const fn lengths() -> [u8; 256] {
+    let groups: [(u8, &[u8]); 8] = [
+        (2, &[42, 50, 51, 80, 84, 89, 123, 125, 150, 151, 160, 161, 162, 163, 164, 165]),
+        (2, &[176, 177, 212, 213, 215, 246]),
+        (3, &[37, 67, 148, 149, 208, 209, 211, 214, 240, 241, 242, 247]),
+        (4, &[61, 144, 145]),
+        (5, &[210]),
+        (6, &[199, 243, 244, 245]),
+        (11, &[224]),
+        (13, &[198]),
+    ];
+    let mut table = [0; 256];
+    let mut group = 0;
+    while group < groups.len() {
+        let mut at = 0;
+        while at < groups[group].1.len() {
+            table[groups[group].1[at] as usize] = groups[group].0;
+            at += 1;
+        }
+        group += 1;
+    }
+    table
+}
+
+pub fn is_charset(letter: u8) -> bool {
+    matches!(letter, b'D'..=b'G' | b'I' | b'N' | b'S' | b'U' | b'W')
+}
+
+pub fn is_shift(number: u8) -> bool {
+    matches!(number, 0 | 2 | 4 | 6 | 16 | 18 | 32 | 34 | 64 | 66)
+}
+
+/// `byte` lies in `low` to `high`.
+fn within(byte: u8, low: usize, high: usize) -> bool {
+    usize::from(byte) >= low && usize::from(byte) <= high
+}
+
+impl Engine<'_> {
+    /// Serves the sequence at `at` and returns its bytes.
+    pub fn escape(&mut self, message: &[u8], at: usize, answer: &mut Answer) -> usize {
+        let rest = &message[at..];
+        let (number, length) = self.judge(rest);
+        if number == 0 {
+            answer.accepted += 1;
+            // 27, 209 at the very end stands for 27, 209, 0.
+            let parameters = if rest.len() == 2 && rest[1] == 209 { &[0][..] } else { &rest[2..length] };
+            self.obey(rest[1], parameters);
+        } else {
+            if answer.refused == 0 {
+                answer.first = number;
+                answer.offset = at as u32;
+            }
+            answer.refused += 1;
+        }
+        length
+    }
+
+    /// 0 or the refusal's number, and the bytes.
+    fn judge(&self, rest: &[u8]) -> (u8, usize) {
+        let Some(&second) = rest.get(1) else {
+            return (12, 1);
+        };
+        let mut length = usize::from(LENGTHS[usize::from(second)]);
+        if length == 0 {
+            return (10, 2);
+        }
+        if rest.len() == 2 && second == 209 {
+            return (0, 2);
+        }
+        if second == 208 && rest.len() > 2 {
+            length = [5, 4, 6, 3][usize::from(rest[2].min(3))];
+        }
+        if rest.len() < length {
+            return (12, rest.len());
+        }
+        let number = match second {
+            208 if rest[2] == 3 => 14,
+            80 if self.printer.len() - self.printed < 656 => 13,
+            _ if self.fits(second, &rest[2..length]) => 0,
+            _ => 11,
+        };
+        (number, length)
+    }
+
+    fn fits(&self, second: u8, p: &[u8]) -> bool {
+        match second {
+            61 => within(p[0], 32, self.lines + 31) && within(p[1], 32, self.columns + 31),
+            67 => is_charset(p[0]),
+            144 | 145 => {
+                let (a, m) = (usize::from(p[0]), usize::from(p[1]));
+                m > 0 && a + m <= self.lines
+            }
+            148 => within(p[0], 1, self.height),
+            149 | 209 | 211 | 240 => p[0] < 2,
+            208 => match p[0] {
+                0 => within(p[1], 8, 40) && within(p[2], 8, 48 - usize::from(p[1])),
+                1 => within(p[1], 16, 48),
+                2 => within(p[1], 8, 48) && within(p[2], 1, 78),
+                _ => false,
+            },
+            210 => within(p[0], 1, 8) && within(p[1], 1, 80),
+            214 => p[0] < 4,
+            224 => within(p[0], 224, 254),
+            241 | 242 => within(p[0], 1, 127),
+            247 => is_shift(p[0]),
+            _ => true,
+        }
+    }
+
+    fn obey(&mut self, second: u8, p: &[u8]) {
+        match second {
+            37 => self.text(p),
+            42 => self.clear(),
+            61 => self.put_cursor(usize::from(p[0]) - 31, usize::from(p[1]) - 31),
+            80 => self.copy_out(),
+            84 => self.blank_to(self.line),
+            89 => self.blank_to(self.lines),
+            144 | 145 => self.scroll(second == 144, usize::from(p[0]), usize::from(p[1])),
+            150 => self.move_top(self.top.saturating_sub(self.settings.step.into()).max(1)),
+            151 => self.move_top((self.top + usize::from(self.settings.step)).min(self.last_top())),
+            212 => self.move_top(1),
+            213 => self.move_top(self.last_top()),
+            215 => self.centre(),
+            208 => self.set_mode(p),
+            209 => {
+                self.save();
+                self.settings.selected = p[0];
+                self.load();
+                self.wipe();
+            }
+            210 => self.mark(usize::from(p[0]) * 80 + usize::from(p[1]) - 81, p[2]),
+            _ => self.keep(second, p),
+        }
+    }
+
+    /// The sequences that keep a number for later; 198, 199, 246 keep none.
+    fn keep(&mut self, second: u8, p: &[u8]) {
+        let s = &mut self.settings;
+        match second {
+            50 | 51 => s.cursor = second - 50,
+            123 => s.secret = 1,
+            125 => s.secret = 0,
+            148 => s.step = p[0],
+            149 => s.tracking = p[0] ^ 1,
+            211 => s.display = p[0],
+            214 => s.kind = p[0],
+            224 => {
+                let at = usize::from(p[0] - 224) * 8;
+                s.patterns[at..at + 8].copy_from_slice(&p[1..]);
+            }
+            67 => s.keys.charset = p[0],
+            160..=165 => s.keys.leds[usize::from(second - 160) / 2] = (second & 1) ^ 1,
+            176 | 177 => s.keys.strings = second - 176,
+            240 => s.keys.repeat = p[0],
+            241 => s.keys.delay = p[0],
+            242 => s.keys.interval = p[0],
+            243..=245 => {
+                let at = usize::from(second - 243) * 4;
+                s.keys.arrows[at..at + 4].copy_from_slice(p);
+            }
+            247 => s.keys.shift = p[0],
+            _ => {}
+        }
+    }
+
+    fn last_top(&self) -> usize {
+        self.lines - self.height + 1
+    }
+
+    fn centre(&mut self) {
+        let wanted = self.line.saturating_sub(self.height / 2);
+        self.move_top(wanted.max(1).min(self.last_top()));
+    }
+
+    fn put_cursor(&mut self, line: usize, column: usize) {
+        (self.line, self.column) = (line, column);
+        let missed = line < self.top || line >= self.top + self.height;
+        if missed && self.settings.tracking == 1 {
+            self.centre();
+        }
+    }
+
+    /// Blanks from the cursor's cell to the end of line `last`.
+    fn blank_to(&mut self, last: usize) {
+        let end = self.block(0, last).end;
+        let start = self.cursor_cell();
+        self.stores.cells[start..end].fill(b' ');
+        self.wipe();
+    }
+
+    fn scroll(&mut self, up: bool, a: usize, m: usize) {
+        let (region, upper, lower) =
+            (self.block(a, a + m), self.block(a, a + m - 1), self.block(a + 1, a + m));
+        let width = self.columns;
+        let cells = &mut *self.stores.cells;
+        if up {
+            cells.copy_within(lower, region.start);
+            cells[region.end - width..region.end].fill(b' ');
+        } else {
+            cells.copy_within(upper, region.start + width);
+            cells[region.start..region.start + width].fill(b' ');
+        }
+        self.wipe();
+    }
+
+    fn set_mode(&mut self, p: &[u8]) {
+        let s = &mut self.settings;
+        s.mode = p[0];
+        s.lines1 = p[1];
+        s.lines2 = if p[0] == 0 { p[2] } else { p[1] };
+        (s.columns1, s.columns2) = match p[0] {
+            0 => (80, 80),
+            1 => (39, 39),
+            _ => (p[2], 79 - p[2]),
+        };
+        if let [2, _, _, boundary] = *p {
+            s.boundary = boundary;
+        }
+        s.places = [Place { line: 1, column: 1, top: 1 }; 2];
+        (s.selected, s.step, s.tracking) = (0, 1, 1);
+        self.stores.cells.fill(b' ');
+        self.wipe();
+        self.load();
+    }
+}
