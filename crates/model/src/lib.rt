@@ -21,8 +21,8 @@ pub struct Keys {
     pub arrows: [u8; 12],
 }
 
-// The settings. `selected` is 0 for screen 1 and 1 for screen 2, and picks the place. `cursor` is whether the cursor is on, `kind` its
-// type, `display` the key display; a flag is 1 when on.
+// The settings. `selected` is 0 for screen 1 and 1 for screen 2, and picks the place. `cursor` is whether the cursor is on (1), `kind` its
+// type, `display` the key display as sent.
 #[repr(C)]
 pub struct Settings {
     pub mode: u8,

@@ -9,7 +9,10 @@ ghost use Rattle.model.specs.Bytes.{put};
 ghost use Rattle.model.specs.State.{state};
 ghost use Rattle.model.specs.Picture.{painting, copied};
 ghost use Rattle.paint.specs.Paintable.{Paintable};
+ghost use Rattle.paint.specs.Painted.{laid, painted};
+ghost use Rattle.paint.specs.Panes.{Framed, seen};
 use model::Settings;
+use view::View;
 
 // "It always ends by painting all 640 places."
 pub fn paint(settings: Settings, cells: &[u8], layer: &[u8], shown: &mut [u8])
@@ -22,6 +25,15 @@ pub fn paint(settings: Settings, cells: &[u8], layer: &[u8], shown: &mut [u8])
         return;
     }
     let panes = view::view_of(settings);
+    paint_view(panes, cells, layer, shown);
+}
+
+// The panes row by row, and the layer over all of them. It is handed the view alone, so that no settings are copied for it.
+fn paint_view(panes: View, cells: &[u8], layer: &[u8], shown: &mut [u8])
+    requires { ⌜ Framed panes ⌝ }
+    requires { ⌜ (length (now cells) ≡ 3840) × ((length (now layer) ≡ 1280) × (length (now shown) ≡ 640)) ⌝ }
+    ensures { λ _. ⌜ now (shown .exit) ≡ painted 0 640 (laid (now (layer .entry)) (seen panes (now (cells .entry)))) (now (shown .entry)) ⌝ }
+{
     // Counted by the screen's length: a count of eight would be written out eight times by the compiler.
     let mut row = 0;
     while row * 80 < shown.len() {

@@ -7,4 +7,6 @@ pub mod Moves
 pub mod Regions
 pub mod Windows
 pub mod Sequences
+pub mod Rows
+pub mod Chunks
 pub mod Runs

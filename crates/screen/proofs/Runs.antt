@@ -1,90 +1,95 @@
--- A run of printed bytes, byte by byte.
-use mathlib.Core.Path.{_∙_, _≡_, ap, refl, subst, sym}
-use Prim.Native.Nat.{_+_, _-_, _<_, _≤_, suc, ℕ}
-use native.Mathlib.Numerals.{add-one}
+-- A run of printed bytes, part by part.
+use mathlib.Core.Path.{_≡_, refl, subst}
+use Prim.Native.Nat.{_+_, _-_, _<_, _≤_, ℕ}
 use native.Mathlib.Omega.{arith}
-use mathlib.Core.Bool.{Bool, false, true}
+use mathlib.Core.Bool.{Bool, _&&_, false, true}
 use mathlib.Core.List.{List, [], _++_, _∷_}
-use lib.ListN.{drop, getD, length, length-drop, take}
-use lib.Dec.{ltb}
-use borrow.Author.Tests.{ltb-false, ltb-true}
-use lib.Seq.{drop-cons, getD-drop, take-suc}
+use lib.ListN.{drop, getD, length, take}
+use lib.Dec.{leb, ltb}
+use borrow.Author.Tests.{leb-true, ltb-false, ltb-true}
+use lib.Seq.{drop-cons, drop-drop, take-add}
 use Rattle.model.specs.declared.Place.{Place}
-use Rattle.model.specs.State.{State, state}
+use Rattle.model.specs.State.{State}
 use Rattle.model.specs.Rules.{printed}
+use Rattle.model.proofs.Tests.{and-left, and-right}
 use Rattle.screen.specs.declared.Frame.{Frame}
 use Rattle.screen.specs.declared.run.Run.{Run}
 use Rattle.screen.specs.Frame.{Ready}
 use Rattle.screen.specs.Acts.{Acts}
-use Rattle.screen.specs.Run.{Prints, Ran, printedAll}
+use Rattle.screen.specs.Run.{Part, Printing, Prints, Ran, printedAll}
 use Rattle.screen.proofs.Acting.{likewise, still, then}
 
-all-last : (xs : List ℕ) (b : ℕ) (st : State) → printedAll (xs ++ (b ∷ [])) st ≡ printed b (printedAll xs st)
+-- bytes behind others
+all-more : (xs ys : List ℕ) (st : State) → printedAll (xs ++ ys) st ≡ printedAll ys (printedAll xs st)
 unfolding printedAll
-all-last [] b st = refl
-all-last (x ∷ xs) b st = all-last xs b (printed x st)
+all-more [] ys st = refl
+all-more (x ∷ xs) ys st = all-more xs ys (printed x st)
 
 -- the bytes of m from an offset on, as far as another
-bytes-next : (m : List ℕ) (from at : ℕ) → from ≤ at → at < length m → take (at + 1 - from) (drop from m) ≡ take (at - from) (drop from m) ++ (getD m at 0 ∷ [])
-bytes-next m from at l h =
-    let n : at + 1 - from ≡ suc (at - from) = omega arith in
-    let k : from + (at - from) ≡ at = omega arith in
-    ap (λ (x : ℕ). take x (drop from m)) n ∙ take-suc (drop from m) (at - from) 0 (omega (arith, length-drop from m))
-    ∙ ap (λ (b : ℕ). take (at - from) (drop from m) ++ (b ∷ [])) (getD-drop from m (at - from) 0 ∙ ap (λ (x : ℕ). getD m x 0) k)
+bytes-more : (m : List ℕ) (from at to : ℕ) → from ≤ at → at ≤ to → take (to - from) (drop from m) ≡ take (at - from) (drop from m) ++ take (to - at) (drop at m)
+bytes-more m from at to h k =
+    let n : to - from ≡ (at - from) + (to - at) = omega arith in
+    let d : from + (at - from) ≡ at = omega arith in
+    rw (n, take-add (at - from) (to - at) (drop from m), drop-drop (at - from) from m, d)
 
--- the bytes from an offset up to `at` print, and were printed
+-- bytes that print, and those behind them
+pub printing-more : {m : List ℕ} {at to end : ℕ} → Printing m at to → Printing m to end → Printing m at end
+printing-more {m} {at} {to} {end} h k = record { some = omega (arith, h .some, k .some); inside = k .inside; print = λ j u v. go j u v (ltb j to) refl }
+  where
+    go : (j : ℕ) → at ≤ j → j < end → (b : Bool) → ltb j to ≡ b → 32 ≤ getD m j 0
+    go j u v true e = h .print j u (ltb-true j to e)
+    go j u v false e = k .print j (ltb-false j to e) v
+
+pub printing-one : {m : List ℕ} {at : ℕ} → Prints m at → Printing m at (at + 1)
+printing-one {m} {at} h = record {
+  some = omega arith;
+  inside = omega (arith, h .inside);
+  print = λ j u v. let z : at ≡ j = omega (arith, u, v) in subst (λ (n : ℕ). 32 ≤ getD m n 0) z (h .prints);
+}
+
+-- a block of bytes: whether all so far print, and one more
+module _ (m : List ℕ) (at : ℕ) where
+  abbrev pub Upto : Bool → ℕ → Type 0
+  Upto all k = all ≡ true → (j : ℕ) → at ≤ j → j < at + k → 32 ≤ getD m j 0
+
+  pub upto-more : (all : Bool) (k : ℕ) → Upto all k → Upto (all && leb 32 (getD m (at + k) 0)) (k + 1)
+  upto-more all k h e j u v = go (ltb j (at + k)) refl
+    where
+      one : leb 32 (getD m (at + k) 0) ≡ true
+      one = and-right all (leb 32 (getD m (at + k) 0)) e
+
+      go : (b : Bool) → ltb j (at + k) ≡ b → 32 ≤ getD m j 0
+      go true i = h (and-left all (leb 32 (getD m (at + k) 0)) e) j u (ltb-true j (at + k) i)
+      go false i = let z : at + k ≡ j = omega (arith, v, ltb-false j (at + k) i) in subst (λ (n : ℕ). 32 ≤ getD m n 0) z (leb-true 32 (getD m (at + k) 0) one)
+
+-- the bytes from an offset up to `at` were printed
 pub record Along (m : List ℕ) (f : Frame) (from : ℕ) (p : Place) (c l : List ℕ) (at : ℕ) (q : Place) (c′ l′ : List ℕ) : Type 0 where
   pub low : from ≤ at
-  pub inside : at ≤ length m
-  pub print : (j : ℕ) → from ≤ j → j < at → 32 ≤ getD m j 0
   pub acts : Acts (printedAll (take (at - from) (drop from m))) f p q c l c′ l′
 
--- what holds of each number of a range, and of the next behind it or the one before it
-upto : (P : ℕ → Type 0) (from at : ℕ) → ((j : ℕ) → from ≤ j → j < at → P j) → P at → (j : ℕ) → from ≤ j → j < at + 1 → P j
-upto P from at f p j u v = go (ltb j at) refl
-  where
-    go : (b : Bool) → ltb j at ≡ b → P j
-    go true e = f j u (ltb-true j at e)
-    go false e = let z : at ≡ j = omega (arith, v, ltb-false j at e) in subst P z p
-
-since : (P : ℕ → Type 0) (from at : ℕ) → P from → ((j : ℕ) → from + 1 ≤ j → j < at → P j) → (j : ℕ) → from ≤ j → j < at → P j
-since P from at p f j u v = go (ltb from j) refl
-  where
-    go : (b : Bool) → ltb from j ≡ b → P j
-    go true e = f j (omega (arith, ltb-true from j e)) v
-    go false e = let z : from ≡ j = omega (arith, u, ltb-false from j e) in subst P z p
-
 module _ {m : List ℕ} {f : Frame} {p : Place} {c l : List ℕ} where
-  pub along-none : (from : ℕ) → from ≤ length m → Ready f p c l → Along m f from p c l from p c l
+  pub along-none : (from : ℕ) → Ready f p c l → Along m f from p c l from p c l
   unfolding printedAll
-  along-none from h r = record {
-    low = omega arith;
-    inside = h;
-    print = λ j u v. absurd (omega arith);
-    acts = let z : from - from ≡ 0 = omega arith in likewise (λ s e k. ap (λ (n : ℕ). printedAll (take n (drop from m)) (state s c l)) z) (still r);
+  along-none from r = record { low = omega arith; acts = let z : from - from ≡ 0 = omega arith in likewise (λ s e k. rw z) (still r) }
+
+  -- a part of one byte, of as many as stay in the line
+  module _ {at to : ℕ} {r : Run} {c₁ l₁ : List ℕ} where
+    pub part-one : {b : ℕ} → at < to → to ≤ length m → r .at ≡ at + 1 → b ≡ getD m at 0 → Acts (printed b) f p (r .place) c l c₁ l₁ → Part m at to f p r c l c₁ l₁
+    unfolding printedAll
+    part-one h k e i a = record {
+      some = omega arith;
+      most = omega arith;
+      acts = let n : r .at - at ≡ 1 = omega (arith, e) in likewise (λ s x y. rw (n, drop-cons m at 0 (omega arith))) (rw i at a);
+    }
+
+    pub part-many : {n : ℕ} → 1 ≤ n → at + n ≤ to → r .at ≡ at + n → Acts (printedAll (take n (drop at m))) f p (r .place) c l c₁ l₁ → Part m at to f p r c l c₁ l₁
+    part-many {n} h k e a = let z : r .at - at ≡ n = omega (arith, e) in record { some = omega arith; most = omega arith; acts = rw z a }
+
+  pub along-part : {from at to : ℕ} {q : Place} {r : Run} {c₁ l₁ c₂ l₂ : List ℕ} → Along m f from p c l at q c₁ l₁ → Part m at to f q r c₁ l₁ c₂ l₂ → Along m f from p c l (r .at) (r .place) c₂ l₂
+  along-part {from} {at} {r = r} a w = record {
+    low = omega (arith, a .low, w .some);
+    acts = likewise (λ s i k. rw (bytes-more m from at (r .at) (a .low) (omega (arith, w .some))) (all-more _ _ _)) (then (a .acts) (w .acts));
   }
 
-  module _ {q : Place} {c₁ l₁ c₂ l₂ : List ℕ} {at b : ℕ} (h : Prints m at) (e : b ≡ getD m at 0) where
-    pub along-more : {from : ℕ} {r : Place} → Along m f from p c l at q c₁ l₁ → Acts (printed b) f q r c₁ l₁ c₂ l₂ → Along m f from p c l (at + 1) r c₂ l₂
-    along-more {from} {r} a w = record {
-      low = omega (arith, a .low);
-      inside = omega (arith, h .inside);
-      print = upto (λ j. 32 ≤ getD m j 0) from at (a .print) (h .prints);
-      acts =
-          likewise (λ s i k. ap (λ (bs : List ℕ). printedAll bs (state s c l)) (bytes-next m from at (a .low) (h .inside)) ∙ all-last (take (at - from) (drop from m)) (getD m at 0) (state s c l))
-          (then (a .acts) (subst (λ (x : ℕ). Acts (printed x) f q r c₁ l₁ c₂ l₂) e w));
-    }
-
-    pub along-first : {t : Run} → Acts (printed b) f p q c l c₁ l₁ → Along m f (at + 1) q c₁ l₁ (t .at) (t .place) c₂ l₂ → Ran m at f p t c l c₂ l₂
-    unfolding printedAll
-    along-first {t} w a = record {
-      some = omega (arith, a .low);
-      inside = a .inside;
-      print = since (λ j. 32 ≤ getD m j 0) at (t .at) (h .prints) (a .print);
-      acts = likewise (λ s i k. ap (λ (bs : List ℕ). printedAll bs (state s c l)) bytes-first) (then (subst (λ (x : ℕ). Acts (printed x) f p q c l c₁ l₁) e w) (a .acts));
-    }
-      where
-        bytes-first : take (t .at - at) (drop at m) ≡ getD m at 0 ∷ take (t .at - (at + 1)) (drop (at + 1) m)
-        bytes-first =
-            let n : t .at - at ≡ suc (t .at - (at + 1)) = omega (arith, a .low) in
-            ap (λ (x : ℕ). take x (drop at m)) n ∙ ap (take (suc (t .at - (at + 1)))) (drop-cons m at 0 (h .inside)) ∙ ap (λ (x : ℕ). getD m at 0 ∷ take (t .at - (at + 1)) (drop x m)) (sym (add-one at))
+  pub along-all : {at to : ℕ} {r : Run} {c₁ l₁ : List ℕ} → Printing m at to → r .at ≡ to → Along m f at p c l (r .at) (r .place) c₁ l₁ → Ran m at f p r c l c₁ l₁
+  along-all h e a = record { some = omega (arith, h .some); inside = omega (arith, h .inside); print = λ j u v. h .print j u (omega (arith, v)); acts = a .acts }

@@ -1,18 +1,20 @@
 -- The place that shows the cursor's cell, by the frame: the window is as tall as the rows or, in mode 1, twice as tall.
-use mathlib.Core.Path.{_∙_, _≡_}
-use Prim.Native.Nat.{_*_, _+_, _-_, _<_, _≤_, ℕ}
+use mathlib.Core.Path.{_∙_, _≡_, ap, refl, sym}
+use Prim.Native.Nat.{_*_, _+_, _-_, _<_, _≤_, min, suc, ℕ}
 use native.Mathlib.Omega.{arith}
 use mathlib.Core.Bool.{Bool, _&&_, cond, false, true}
 use lib.Dec.{eqb, leb, ltb}
 use borrow.Author.Tests.{le-leb, le-ltb, lt-leb, lt-ltb}
 use Rattle.model.specs.declared.Place.{Place}
-use Rattle.model.specs.State.{State}
+use Rattle.model.specs.State.{State, putAt, state}
 use Rattle.model.specs.Screens.{height, here}
 use Rattle.model.specs.Rules.{shownAt}
+use Rattle.model.proofs.Tests.{by-test}
 use Rattle.screen.specs.declared.Frame.{Frame}
 use Rattle.screen.specs.Frame.{Framed}
-use Rattle.screen.specs.Acts.{Reads}
+use Rattle.screen.specs.Acts.{Reads, withPlace}
 use Rattle.screen.specs.Here.{shownHere}
+use Rattle.screen.proofs.Acting.{framed-placed, placed-there}
 
 -- line l under a window of top t over r rows: a where the rows show it, b where mode 1 shows it in the right half
 spot : Bool → ℕ → ℕ → ℕ → ℕ → ℕ → ℕ
@@ -59,3 +61,31 @@ module _ {f : Frame} {p : Place} where
 
   pub shown-below : p .top ≤ p .line → f .rows ≤ p .line - p .top → f .height ≤ p .line - p .top → Reads shownHere f p 640
   shown-below k j h st e i = spot-is st e i ∙ below _ _ _ _ _ _ k j (rw (height-by st e) at h)
+
+-- a column further it is the next place, where it is one
+next-spot : (m : Bool) (t l r a b : ℕ) → min 640 (spot m t l r (suc a) (suc b)) ≡ min 640 (suc (spot m t l r a b))
+unfolding spot
+next-spot m t l r a b =
+    by-test (λ (x : Bool). min 640 (cond x (suc a) (cond (m && leb t l && ltb (l - t) (2 * r)) (suc b) 640)) ≡ min 640 (suc (cond x a (cond (m && leb t l && ltb (l - t) (2 * r)) b 640))))
+    (leb t l && ltb (l - t) r) refl
+    (by-test (λ (x : Bool). min 640 (cond x (suc b) 640) ≡ min 640 (suc (cond x b 640))) (m && leb t l && ltb (l - t) (2 * r)) refl refl)
+
+-- the place that shows the cursor's cell is n; from 640 on n is none
+pub record Spot (f : Frame) (p : Place) (n : ℕ) : Type 0 where
+  pub is : Reads (λ (st : State). min 640 (shownHere st)) f p (min 640 n)
+
+pub spot-of : {f : Frame} {p : Place} {n : ℕ} → Reads shownHere f p n → Spot f p n
+spot-of h = record { is = λ st e i. ap (min 640) (h st e i) }
+
+pub spot-next : {f : Frame} {p : Place} {n : ℕ} → 1 ≤ p .column → Spot f p n → Spot f (putAt (p .line) (suc (p .column)) p) (suc n)
+spot-next {f} {p} {n} low h = record { is = further }
+  where
+    further : Reads (λ (st : State). min 640 (shownHere st)) f (putAt (p .line) (suc (p .column)) p) (min 640 (suc n))
+    further st e i =
+        let s : State = state (withPlace (st .settings) p) (st .cells) (st .layer) in
+        let e′ = framed-placed p e in
+        let i′ = placed-there p e in
+        let k : min 640 (shownHere s) ≡ min 640 n = h .is s e′ i′ in
+        let a : (p .line - p .top) * 80 + (suc (p .column) - 1) + f .shift ≡ suc ((p .line - p .top) * 80 + (p .column - 1) + f .shift) = omega (arith, low) in
+        let b : (p .line - p .top - f .rows) * 80 + suc (p .column) + 40 ≡ suc ((p .line - p .top - f .rows) * 80 + p .column + 40) = omega arith in
+        ap (min 640) (spot-is st e i) ∙ rw (a, b) (next-spot _ _ _ _ _ _) ∙ ap (λ (x : ℕ). min 640 (suc x)) (sym (spot-is s e′ i′)) ∙ omega (arith, k)

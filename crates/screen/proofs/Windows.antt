@@ -1,5 +1,5 @@
 -- The window: where its top goes, worked out from a frame and a place, and turning it there.
-use mathlib.Core.Path.{_∙_, _≡_, ap}
+use mathlib.Core.Path.{_∙_, _≡_, ap, sym}
 use Prim.Native.Nat.{_+_, _-_, _/_, _≤_, max, min, ℕ}
 use native.Mathlib.Omega.{arith}
 use mathlib.Core.Bool.{_&&_, _||_, Bool, cond, false, true}
@@ -8,14 +8,14 @@ use lib.ListN.{length, replicate}
 use lib.Dec.{eqb, leb, ltb}
 use borrow.Author.Tests.{eq-eqb, ne-eqb}
 use Rattle.model.specs.declared.Place.{Place}
-use Rattle.model.specs.State.{State, topAt}
+use Rattle.model.specs.State.{State, putAt, state, topAt}
 use Rattle.model.specs.Screens.{here}
 use Rattle.model.specs.Rules.{centred, emptied, held, missed, nearest, placed, topped}
 use Rattle.screen.specs.declared.Frame.{Frame}
 use Rattle.screen.specs.Frame.{Stands}
-use Rattle.screen.specs.Acts.{Acts, ActsAbove, Reads, Top}
+use Rattle.screen.specs.Acts.{Acts, ActsAbove, Reads, Top, withPlace}
 use Rattle.screen.specs.Here.{earlier, greatest, later, lost}
-use Rattle.screen.proofs.Acting.{at-value, still, then, when-false, when-true}
+use Rattle.screen.proofs.Acting.{at-value, framed-placed, placed-there, still, then, when-false, when-true}
 use Rattle.screen.proofs.Steps.{emptied-acts, here-is, moved, placed-acts}
 
 -- where the top goes
@@ -52,6 +52,14 @@ module _ {f : Frame} {p : Place} {r : ℕ} where
 pub lost-is : {f : Frame} {p : Place} → Reads lost f p (eqb (f .tracking) 1 && (ltb (p .line) (p .top) || leb (p .top + f .height) (p .line)))
 unfolding missed
 lost-is st e i = rw (i, ← e .height-is, ← e .tracking-is)
+
+-- in another column of its line it is as much in the window
+pub lost-next : {f : Frame} {p : Place} {b : Bool} (column : ℕ) → Reads lost f p b → Reads lost f (putAt (p .line) column p) b
+lost-next {p = p} column h st e i =
+    let s : State = state (withPlace (st .settings) p) (st .cells) (st .layer) in
+    let e′ = framed-placed p e in
+    let i′ = placed-there p e in
+    lost-is st e i ∙ sym (lost-is s e′ i′) ∙ h s e′ i′
 
 -- a test: a top is the window's
 top-test : {f : Frame} {p : Place} {b : Bool} (t : ℕ) → eqb t (p .top) ≡ b → Reads (λ (st : State). eqb t (here st .top)) f p b

@@ -1,10 +1,10 @@
 -- A run of printed bytes of a message.
-use Prim.Native.Nat.{ℕ, _-_, _≤_, _<_}
+use Prim.Native.Nat.{ℕ, zero, suc, _-_, _≤_, _<_}
 use mathlib.Core.List.{List, [], _∷_}
 use lib.ListN.{length, getD, take, drop}
 use Rattle.model.specs.declared.Place.{Place}
 use Rattle.model.specs.State.{State}
-use Rattle.model.specs.Rules.{printed}
+use Rattle.model.specs.Rules.{printed, unmark}
 use Rattle.screen.specs.declared.Frame.{Frame}
 use Rattle.screen.specs.declared.run.Run.{Run}
 use Rattle.screen.specs.Acts.{Acts}
@@ -25,3 +25,20 @@ pub record Ran (m : List ℕ) (at : ℕ) (f : Frame) (p : Place) (r : Run) (cell
 pub record Prints (m : List ℕ) (at : ℕ) : Type 0 where
   pub inside : at < length m
   pub prints : 32 ≤ getD m at 0
+
+-- the bytes of m from an offset up to another print; there is at least one
+pub record Printing (m : List ℕ) (at to : ℕ) : Type 0 where
+  pub some : at < to
+  pub inside : to ≤ length m
+  pub print : (j : ℕ) → at ≤ j → j < to → 32 ≤ getD m j 0
+
+-- of the bytes of m from an offset up to another the first are printed, at least one
+pub record Part (m : List ℕ) (at to : ℕ) (f : Frame) (p : Place) (r : Run) (cells layer cells′ layer′ : List ℕ) : Type 0 where
+  pub some : at < r .at
+  pub most : r .at ≤ to
+  pub acts : Acts (printedAll (take (r .at - at) (drop at m))) f p (r .place) cells layer cells′ layer′
+
+-- "emptying writes 0 in both": so many places in a row
+unfoldable pub unmarked : ℕ → ℕ → List ℕ → List ℕ
+unmarked p zero l = l
+unmarked p (suc n) l = unmarked (suc p) n (unmark p l)

@@ -1,7 +1,11 @@
-// The layer over the picture: emptied whole, or at a place.
+// The layer over the picture: emptied whole, at a place, or at places in a row.
+use super::least;
 ghost use mathlib.Core.Path.{_≡_};
+ghost use Prim.Native.Nat.{_+_, _≤_};
 ghost use lib.ListN.{length, replicate};
+ghost use Rattle.model.specs.Bytes.{put};
 ghost use Rattle.model.specs.Rules.{unmark};
+ghost use Rattle.screen.specs.Run.{unmarked};
 
 // "Empties the whole layer."
 pub(crate) fn empty(layer: &mut [u8])
@@ -20,4 +24,25 @@ pub(crate) fn empty_at(shown: usize, layer: &mut [u8])
         layer[shown] = 0;
         layer[640 + shown] = 0;
     }
+}
+
+// The same of so many places in a row, as far as there are places.
+pub(crate) fn empty_from(shown: usize, count: usize, layer: &mut [u8])
+    requires { ⌜ length (now layer) ≡ 1280 ⌝ }
+    ensures { λ _. ⌜ now (layer .exit) ≡ unmarked shown count (now (layer .entry)) ⌝ }
+{
+    if shown < 640 {
+        let n = least(count, 640 - shown);
+        zero(layer, shown, n);
+        zero(layer, 640 + shown, n);
+    }
+}
+
+// So many bytes from an index on.
+fn zero(layer: &mut [u8], from: usize, count: usize)
+    requires { ⌜ from + count ≤ length (now layer) ⌝ }
+    ensures { λ _. ⌜ now (layer .exit) ≡ put from (replicate count 0) (now (layer .entry)) ⌝ }
+{
+    let to = from + count;
+    store::fill(&mut layer[from..to], 0);
 }

@@ -1,11 +1,25 @@
-// A run of printed bytes: the cursor goes over them with no settings at hand.
+// A run of printed bytes: the cursor goes over them with no settings at hand, and as many as stay in its line are copied at once.
 ghost use mathlib.Core.Path.{_≡_};
-ghost use mathlib.Core.Bool.{true};
+ghost use Prim.Native.Nat.{_+_, _<_, _≤_};
+ghost use mathlib.Core.Bool.{false, true};
+ghost use lib.ListN.{drop, length, take};
 ghost use Rattle.screen.specs.Frame.{Ready};
-ghost use Rattle.screen.specs.Run.{Prints, Ran};
+ghost use Rattle.screen.specs.Acts.{Acts, Reads};
+ghost use Rattle.screen.specs.Here.{lost};
+ghost use Rattle.screen.specs.Run.{Part, Printing, Prints, Ran, printedAll};
 use crate::Frame;
+use crate::cursor;
+use crate::least;
+use crate::lines;
+use crate::marks;
+use crate::places;
 use crate::print;
+use crate::wide;
+use crate::window;
 use model::Place;
+
+// Printable bytes are looked for in blocks of so many.
+const BLOCK: usize = 16;
 
 // Where a run ends: the place, and the offset of the byte behind it.
 pub struct Run {
@@ -24,6 +38,90 @@ fn prints(message: &[u8], at: usize) -> bool
     }
 }
 
+// Whether BLOCK bytes are there, and all print. The loop never stops early, so that a compiler tests them all at once.
+fn block_prints(message: &[u8], at: usize) -> bool
+    requires { ⌜ at ≤ length (now message) ⌝ }
+    ensures { λ r. ⌜ (r ≡ true → Printing (now (message .entry)) at (at + 16)) ⌝ }
+{
+    if message.len() - at < BLOCK {
+        return false;
+    }
+    let mut all = true;
+    let mut k = 0;
+    while k < BLOCK {
+        all = all & (message[at + k] >= 32);
+        k += 1;
+    }
+    all
+}
+
+// The offset behind a byte that prints and those behind it that print.
+fn run_end(message: &[u8], at: usize) -> usize
+    requires { ⌜ Prints (now message) at ⌝ }
+    ensures { λ r. ⌜ Printing (now (message .entry)) at r ⌝ }
+{
+    let mut i = at + 1;
+    while block_prints(message, i) {
+        i += BLOCK;
+    }
+    while prints(message, i) {
+        i += 1;
+    }
+    i
+}
+
+// Bytes that stay in the cursor's line, while the window does not move: they are copied, and the places that show them emptied.
+fn print_chunk(
+    frame: Frame,
+    place: Place,
+    message: &[u8],
+    at: usize,
+    count: usize,
+    cells: &mut [u8],
+    layer: &mut [u8],
+) -> Place
+    requires { ⌜ Ready frame place (now cells) (now layer) ⌝ }
+    requires { ⌜ Reads lost frame place false ⌝ }
+    requires { ⌜ (place .column + count ≤ frame .columns) × (at + count ≤ length (now message)) ⌝ }
+    ensures { λ r. ⌜ Acts (printedAll (take count (drop at (now (message .entry))))) frame place r (now (cells .entry)) (now (layer .entry)) (now (cells .exit)) (now (layer .exit)) ⌝ }
+{
+    let from = lines::cell(frame, place);
+    store::copy_in(cells, from, message, at, count);
+    marks::empty_from(cursor::shown(frame, place), count, layer);
+    places::put_at(place, place.line, place.column + (count as u8))
+}
+
+// The bytes up to `end` as far as they stay in the cursor's line short of its last column, or one byte where the cursor or the
+// window is about to leave.
+fn print_part(
+    frame: Frame,
+    place: Place,
+    message: &[u8],
+    at: usize,
+    end: usize,
+    cells: &mut [u8],
+    layer: &mut [u8],
+) -> Run
+    requires { ⌜ Ready frame place (now cells) (now layer) ⌝ }
+    requires { ⌜ (at < end) × (end ≤ length (now message)) ⌝ }
+    ensures { λ r. ⌜ Part (now (message .entry)) at end frame place r (now (cells .entry)) (now (layer .entry)) (now (cells .exit)) (now (layer .exit)) ⌝ }
+{
+    let count = least(end - at, wide(frame.columns - place.column));
+    if (count < 1) | window::misses(frame, place) {
+        let next = print(frame, place, message[at], cells, layer);
+        Run {
+            place: next,
+            at: at + 1,
+        }
+    } else {
+        let next = print_chunk(frame, place, message, at, count, cells, layer);
+        Run {
+            place: next,
+            at: at + count,
+        }
+    }
+}
+
 // The byte at an offset, and those behind it that print.
 pub fn print_run(
     frame: Frame,
@@ -37,11 +135,13 @@ pub fn print_run(
     requires { ⌜ Prints (now message) at ⌝ }
     ensures { λ r. ⌜ Ran (now (message .entry)) at frame place r (now (cells .entry)) (now (layer .entry)) (now (cells .exit)) (now (layer .exit)) ⌝ }
 {
-    let mut p = print(frame, place, message[at], cells, layer);
-    let mut i = at + 1;
-    while prints(message, i) {
-        p = print(frame, p, message[i], cells, layer);
-        i += 1;
+    let end = run_end(message, at);
+    let mut p = place;
+    let mut i = at;
+    while i < end {
+        let part = print_part(frame, p, message, i, end, cells, layer);
+        p = part.place;
+        i = part.at;
     }
     Run { place: p, at: i }
 }

@@ -1,6 +1,6 @@
 // An item obeyed: on the selected screen by its place alone, else by the settings.
 ghost use mathlib.Core.Path.{_≡_};
-ghost use Prim.Native.Nat.{_+_, _≤_};
+ghost use Prim.Native.Nat.{_+_, _<_, _≤_};
 ghost use lib.ListN.{length};
 ghost use Rattle.model.specs.Bytes.{put};
 ghost use Rattle.model.specs.State.{state};
@@ -8,14 +8,31 @@ ghost use Rattle.model.specs.Items.{copyOf, printerBytes};
 ghost use Rattle.model.specs.OnScreen.{staysOnScreen?};
 ghost use mathlib.Core.Bool.{true};
 ghost use Rattle.model.specs.Judging.{legalItem?};
+ghost use Rattle.reader.specs.Reading.{ReadAt};
 ghost use Rattle.screen.specs.Frame.{Ready, limitsIn};
 ghost use Rattle.paint.specs.Paintable.{Paintable};
 ghost use Rattle.serving.specs.Acting.{Moves, Applying, applied};
 use crate::counting::is_copy;
 use model::Item;
+use model::Limits;
 use model::Place;
 use model::Settings;
+use reader::Reading;
 use screen::Frame;
+
+// The item at an offset, judged by the selected screen's limits.
+pub(crate) fn read_at(frame: Frame, room: usize, message: &[u8], at: usize) -> Reading
+    requires { ⌜ at < length (now message) ⌝ }
+    requires { ⌜ length (now message) ≤ 4096 ⌝ }
+    ensures { λ r. ⌜ ReadAt (now (message .entry)) at (limitsIn frame) room r ⌝ }
+{
+    let limits = Limits {
+        lines: frame.lines,
+        columns: frame.columns,
+        height: frame.height,
+    };
+    reader::read_item(limits, room, message, at)
+}
 
 // Whether an item needs none of the settings but the selected screen's place.
 pub(crate) fn stays(item: Item) -> bool

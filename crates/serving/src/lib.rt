@@ -7,11 +7,11 @@ ghost use Rattle.serving.specs.Serves.{Servable, Serves};
 use acting::act;
 use acting::apply;
 use acting::print_copy;
+use acting::read_at;
 use acting::stays;
 use counting::answer_of;
 use counting::count;
 use counting::no_counts;
-use model::Limits;
 use model::Outcome;
 use model::Settings;
 
@@ -50,13 +50,8 @@ pub fn serve(
             at = run.at;
             continue;
         }
-        let limits = Limits {
-            lines: frame.lines,
-            columns: frame.columns,
-            height: frame.height,
-        };
         let printed = counts.printed;
-        let read = reader::read_item(limits, printer.len() - printed, message, at);
+        let read = read_at(frame, printer.len() - printed, message, at);
         let item = read.item;
         let size = read.length;
         counts = count(counts, item, at);

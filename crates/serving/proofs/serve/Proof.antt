@@ -54,21 +54,21 @@ loop-again : tie.Need-loop-again Inv-loop μ-loop
 unfolding placeOf
 loop-again c = ran _ _ _ _ _ (c .before .before .before .before .before .before .before .before .before .before .before .before .loop .inv) (c .before .before .before .before .before .print-run .result) _ (c .before .before .before .before .before .print-run .ensures) refl
 
-sub-read-item : tie.Need-sub-read-item Inv-loop μ-loop
-sub-read-item c = omega (arith, c .before .before .before .before .loop .inv .going .fits, c .before .before .before .before .loop .inv .going .same-size)
+sub-read-at : tie.Need-sub-read-at Inv-loop μ-loop
+sub-read-at c = omega (arith, c .before .before .before .before .loop .inv .going .fits, c .before .before .before .before .loop .inv .going .same-size)
 
-read-item-requires : tie.Need-read-item-requires Inv-loop μ-loop
-read-item-requires c κs = (c .before .before .before .loop-test .taken, c .before .before .before .before .loop .inv .short)
+read-at-requires : tie.Need-read-at-requires Inv-loop μ-loop
+read-at-requires c κs = (c .before .before .before .loop-test .taken, c .before .before .before .before .loop .inv .short)
 
 count-requires : tie.Need-count-requires Inv-loop μ-loop
-count-requires c κs = countable _ _ _ _ _ (c .before .before .before .before .before .loop .inv) (c .before .before .before .before .loop-test .taken) (c .read-item .result) (c .read-item .ensures) (omega (arith, c .before .before .before .before .before .loop .inv .going .same-size, c .before .before .before .before .before .before .before .before .before .before .before .before .good .1 .1 .1 .1 .0))
+count-requires c κs = countable _ _ _ _ _ (c .before .before .before .before .before .loop .inv) (c .before .before .before .before .loop-test .taken) (c .read-at .result) (c .read-at .ensures) (omega (arith, c .before .before .before .before .before .loop .inv .going .same-size, c .before .before .before .before .before .before .before .before .before .before .before .before .good .1 .1 .1 .1 .0))
 
 stays-requires : tie.Need-stays-requires Inv-loop μ-loop
 stays-requires c κs = tt
 
 act-requires : tie.Need-act-requires Inv-loop μ-loop
 unfolding placeOf
-act-requires c κs = (ready _ _ _ _ _ (c .before .before .before .before .before .before .before .before .before .before .loop .inv), c .before .before .before .before .before .read-item .ensures .legal)
+act-requires c κs = (ready _ _ _ _ _ (c .before .before .before .before .before .before .before .before .before .before .loop .inv), c .before .before .before .before .before .read-at .ensures .legal)
 
 mul-next-2 : tie.Need-mul-next-2 Inv-loop μ-loop
 mul-next-2 c = omega (arith, c .before .before .before .before .before .before .before .before .before .before .before .before .before .before .before .loop .inv .going .good .sound .selected)
@@ -77,37 +77,37 @@ element-set-from-next-2 : tie.Need-element-set-from-next-2 Inv-loop μ-loop
 element-set-from-next-2 c = omega (arith, c .before .before .before .before .before .before .before .before .before .before .before .before .before .before .before .loop .inv .going .good .sound .selected)
 
 add-at : tie.Need-add-at Inv-loop μ-loop
-add-at c = omega (arith, c .before .before .before .before .before .before .before .before .before .before .read-item .ensures .inside, c .before .before .before .before .before .before .before .before .before .before .before .before .before .before .before .loop .inv .short)
+add-at c = omega (arith, c .before .before .before .before .before .before .before .before .before .before .read-at .ensures .inside, c .before .before .before .before .before .before .before .before .before .before .before .before .before .before .before .loop .inv .short)
 
 loop-less-2 : tie.Need-loop-less-2 Inv-loop μ-loop
-loop-less-2 c = omega (arith, c .before .before .before .before .before .before .before .before .before .before .read-item .ensures .inside, c .before .before .before .before .before .before .before .before .before .before .read-item .ensures .some)
+loop-less-2 c = omega (arith, c .before .before .before .before .before .before .before .before .before .before .read-at .ensures .inside, c .before .before .before .before .before .before .before .before .before .before .read-at .ensures .some)
 
 loop-again-2 : tie.Need-loop-again-2 Inv-loop μ-loop
 unfolding placeOf
 loop-again-2 c =
-    acted _ _ _ _ _ (c .before .before .before .before .before .before .before .before .before .before .before .before .before .before .before .loop .inv) (c .before .before .before .before .before .before .before .before .before .before .before .before .before .before .loop-test .taken) (c .before .before .before .before .before .before .before .before .before .before .read-item .result) (c .before .before .before .before .before .before .before .before .before .before .read-item .ensures) (c .before .before .before .before .act .result) _ _ (sym (c .before .before .before .before .before .before .before .before .stays .ensures) ∙ c .before .before .before .before .before .before .before .if2 .taken)
+    acted _ _ _ _ _ (c .before .before .before .before .before .before .before .before .before .before .before .before .before .before .before .loop .inv) (c .before .before .before .before .before .before .before .before .before .before .before .before .before .before .loop-test .taken) (c .before .before .before .before .before .before .before .before .before .before .read-at .result) (c .before .before .before .before .before .before .before .before .before .before .read-at .ensures) (c .before .before .before .before .act .result) _ _ (sym (c .before .before .before .before .before .before .before .before .stays .ensures) ∙ c .before .before .before .before .before .before .before .if2 .taken)
     (c .before .before .before .before .act .ensures) refl (c .before .before .before .before .before .before .before .before .before .count .ensures)
 
 print-copy-requires : tie.Need-print-copy-requires Inv-loop μ-loop
 print-copy-requires c κs =
     let g = c .before .before .before .before .before .before .before .before .before .before .before .loop .inv in
-    (record { sound = g .going .good .sound; cells-are = g .going .good .cells-are; layer-are = g .going .good .layer-are }, roomy _ _ _ _ _ g (c .before .before .before .before .before .before .before .before .before .before .loop-test .taken) (c .before .before .before .before .before .before .read-item .result) (c .before .before .before .before .before .before .read-item .ensures))
+    (record { sound = g .going .good .sound; cells-are = g .going .good .cells-are; layer-are = g .going .good .layer-are }, roomy _ _ _ _ _ g (c .before .before .before .before .before .before .before .before .before .before .loop-test .taken) (c .before .before .before .before .before .before .read-at .result) (c .before .before .before .before .before .before .read-at .ensures))
 
 apply-requires : tie.Need-apply-requires Inv-loop μ-loop
-apply-requires c κs = applying _ _ _ _ _ (c .before .before .before .before .before .before .before .before .before .before .before .before .before .before .before .before .loop .inv) (c .before .before .before .before .before .before .before .before .before .before .before .before .before .before .before .loop-test .taken) (c .before .before .before .before .before .before .before .before .before .before .before .read-item .result) (c .before .before .before .before .before .before .before .before .before .before .before .read-item .ensures)
+apply-requires c κs = applying _ _ _ _ _ (c .before .before .before .before .before .before .before .before .before .before .before .before .before .before .before .before .loop .inv) (c .before .before .before .before .before .before .before .before .before .before .before .before .before .before .before .loop-test .taken) (c .before .before .before .before .before .before .before .before .before .before .before .read-at .result) (c .before .before .before .before .before .before .before .before .before .before .before .read-at .ensures)
 
 frame-of-requires-2 : tie.Need-frame-of-requires-2 Inv-loop μ-loop
-frame-of-requires-2 c κs = sound-then _ _ _ _ _ (c .before .before .before .before .before .before .before .before .before .before .before .before .before .before .before .before .before .before .before .before .before .loop .inv) (c .before .before .before .before .before .before .before .before .before .before .before .before .before .before .before .before .before .before .before .before .loop-test .taken) (c .before .before .before .before .before .before .before .before .before .before .before .before .before .before .before .before .read-item .result) (c .before .before .before .before .before .before .before .before .before .before .before .before .before .before .before .before .read-item .ensures) (sym (c .before .before .before .before .before .before .before .before .before .before .before .before .before .before .stays .ensures) ∙ c .before .before .before .before .before .before .before .before .before .before .before .before .before .if2 .left) (c .before .before .before .before .apply .ensures)
+frame-of-requires-2 c κs = sound-then _ _ _ _ _ (c .before .before .before .before .before .before .before .before .before .before .before .before .before .before .before .before .before .before .before .before .before .loop .inv) (c .before .before .before .before .before .before .before .before .before .before .before .before .before .before .before .before .before .before .before .before .loop-test .taken) (c .before .before .before .before .before .before .before .before .before .before .before .before .before .before .before .before .read-at .result) (c .before .before .before .before .before .before .before .before .before .before .before .before .before .before .before .before .read-at .ensures) (sym (c .before .before .before .before .before .before .before .before .before .before .before .before .before .before .stays .ensures) ∙ c .before .before .before .before .before .before .before .before .before .before .before .before .before .if2 .left) (c .before .before .before .before .apply .ensures)
 
 add-at-2 : tie.Need-add-at-2 Inv-loop μ-loop
-add-at-2 c = omega (arith, c .before .before .before .before .before .before .before .before .before .before .before .before .before .before .before .before .before .read-item .ensures .inside, c .before .before .before .before .before .before .before .before .before .before .before .before .before .before .before .before .before .before .before .before .before .before .loop .inv .short)
+add-at-2 c = omega (arith, c .before .before .before .before .before .before .before .before .before .before .before .before .before .before .before .before .before .read-at .ensures .inside, c .before .before .before .before .before .before .before .before .before .before .before .before .before .before .before .before .before .before .before .before .before .before .loop .inv .short)
 
 loop-less-3 : tie.Need-loop-less-3 Inv-loop μ-loop
-loop-less-3 c = omega (arith, c .before .before .before .before .before .before .before .before .before .before .before .before .before .before .before .before .before .read-item .ensures .inside, c .before .before .before .before .before .before .before .before .before .before .before .before .before .before .before .before .before .read-item .ensures .some)
+loop-less-3 c = omega (arith, c .before .before .before .before .before .before .before .before .before .before .before .before .before .before .before .before .before .read-at .ensures .inside, c .before .before .before .before .before .before .before .before .before .before .before .before .before .before .before .before .before .read-at .ensures .some)
 
 loop-again-3 : tie.Need-loop-again-3 Inv-loop μ-loop
 loop-again-3 c =
-    changed _ _ _ _ _ (c .before .before .before .before .before .before .before .before .before .before .before .before .before .before .before .before .before .before .before .before .before .before .loop .inv) (c .before .before .before .before .before .before .before .before .before .before .before .before .before .before .before .before .before .before .before .before .before .loop-test .taken) (c .before .before .before .before .before .before .before .before .before .before .before .before .before .before .before .before .before .read-item .result) (c .before .before .before .before .before .before .before .before .before .before .before .before .before .before .before .before .before .read-item .ensures) (sym (c .before .before .before .before .before .before .before .before .before .before .before .before .before .before .before .stays .ensures) ∙ c .before .before .before .before .before .before .before .before .before .before .before .before .before .before .if2 .left) (c .before .before .before .before .before .apply .ensures)
+    changed _ _ _ _ _ (c .before .before .before .before .before .before .before .before .before .before .before .before .before .before .before .before .before .before .before .before .before .before .loop .inv) (c .before .before .before .before .before .before .before .before .before .before .before .before .before .before .before .before .before .before .before .before .before .loop-test .taken) (c .before .before .before .before .before .before .before .before .before .before .before .before .before .before .before .before .before .read-at .result) (c .before .before .before .before .before .before .before .before .before .before .before .before .before .before .before .before .before .read-at .ensures) (sym (c .before .before .before .before .before .before .before .before .before .before .before .before .before .before .before .stays .ensures) ∙ c .before .before .before .before .before .before .before .before .before .before .before .before .before .before .if2 .left) (c .before .before .before .before .before .apply .ensures)
     (c .frame-of2 .ensures) (c .before .before .before .before .before .before .before .before .before .before .print-copy .ensures) (c .before .before .before .before .before .before .before .before .before .before .before .before .before .before .before .before .count .ensures)
 
 answer-of-requires : tie.Need-answer-of-requires Inv-loop μ-loop
@@ -143,8 +143,8 @@ serve-spec =
     element-set-from-next
     loop-less
     loop-again
-    sub-read-item
-    read-item-requires
+    sub-read-at
+    read-at-requires
     count-requires
     stays-requires
     act-requires

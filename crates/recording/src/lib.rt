@@ -1,0 +1,83 @@
+// Recordings of messages, read record by record from standard input and played: body length and kind, two bytes each,
+// little-endian, then the body.
+use libc::STDIN_FILENO;
+use model::Settings;
+
+// What stands at the input: its end, a record that is cut, or a whole record, whose body is in the caller's buffer.
+pub enum Record {
+    End,
+    Cut,
+    Whole { kind: u16, length: u16 },
+}
+
+// The settings as the last call left them, and the sum of the printer bytes of all calls.
+pub struct Played {
+    pub settings: Settings,
+    pub printer: u32,
+}
+
+// The next record; the start of `body` is its body. Callers lend 65,536 bytes, in which every body fits.
+pub fn next_record(body: &mut [u8]) -> Record {
+    let mut head = [0u8; 4];
+    let came = io::read_full(STDIN_FILENO, &mut head);
+    if came == 0 {
+        return Record::End;
+    }
+    if came < 4 {
+        return Record::Cut;
+    }
+    let length = little(head[0], head[1]);
+    let kind = little(head[2], head[3]);
+    let start: usize = 0;
+    let end = length as usize;
+    if end > body.len() {
+        return Record::Cut;
+    }
+    let filled = io::read_full(STDIN_FILENO, &mut body[start..end]);
+    if filled < end {
+        return Record::Cut;
+    }
+    Record::Whole { kind, length }
+}
+
+// Two bytes, little-endian.
+pub fn little(low: u8, high: u8) -> u16 {
+    (high as u16) * 256 + low as u16
+}
+
+// From an opening; no printer bytes yet.
+pub fn open(cells: &mut [u8], layer: &mut [u8], shown: &mut [u8]) -> Played {
+    let opened = terminal::opening(cells, layer, shown);
+    let settings = opened.settings;
+    Played {
+        settings,
+        printer: 1,
+    }
+}
+
+// One message call, and its line: `K answer A taken T accepted C refused R first F at O printed P`.
+pub fn play(
+    number: u64,
+    played: Played,
+    message: &[u8],
+    cells: &mut [u8],
+    layer: &mut [u8],
+    shown: &mut [u8],
+    printer: &mut [u8],
+) -> Played {
+    let before = played.settings;
+    let outcome = terminal::message(before, message, cells, layer, shown, printer);
+    let settings = outcome.settings;
+    let answer = outcome.answer;
+    let count = answer.printed;
+    report::say_number(b"", number);
+    report::say(b" ");
+    report::say_answer(answer);
+    report::say_number(b" printed ", count as u64);
+    report::say(b"\n");
+    let sum = report::adler32(played.printer, terminal::printed(printer, count));
+    Played {
+        settings,
+        printer: sum,
+    }
+}

@@ -1,0 +1,93 @@
+// What stands: the settings in six lines, a line of sums, and the rows.
+use crate::adler::adler32;
+use crate::rows::say_rows;
+use crate::say;
+use crate::say_byte;
+use crate::say_number;
+use model::Keys;
+use model::Place;
+use model::Settings;
+
+// `printer` is the sum of all printer bytes so far.
+pub fn say_standing(
+    settings: Settings,
+    cells: &[u8],
+    layer: &[u8],
+    shown: &[u8; 640],
+    printer: u32,
+) {
+    let places = settings.places;
+    let keys = settings.keys;
+    let patterns = settings.patterns;
+    say_screens(settings);
+    say_place(b"screen 1", places[0]);
+    say_place(b"screen 2", places[1]);
+    say_cursor(settings);
+    say_keys(keys, settings.display);
+    say_number(b"sums cells ", adler32(1, cells) as u64);
+    say_number(b" layer ", adler32(1, layer) as u64);
+    say_number(b" patterns ", patterns_sum(&patterns) as u64);
+    say_number(b" printer ", printer as u64);
+    say(b"\n");
+    say_rows(shown);
+}
+
+fn patterns_sum(patterns: &[u8; 248]) -> u32 {
+    adler32(1, patterns)
+}
+
+// `selected` is told as the screen's number, 1 or 2.
+fn say_screens(settings: Settings) {
+    say_byte(b"mode ", settings.mode);
+    say_byte(b" lines ", settings.lines1);
+    say_byte(b" ", settings.lines2);
+    say_byte(b" columns ", settings.columns1);
+    say_byte(b" ", settings.columns2);
+    say_number(b" selected ", settings.selected as u64 + 1);
+    say(b"\n");
+}
+
+fn say_place(screen: &[u8], place: Place) {
+    say(screen);
+    say_byte(b" line ", place.line);
+    say_byte(b" column ", place.column);
+    say_byte(b" top ", place.top);
+    say(b"\n");
+}
+
+fn say_cursor(settings: Settings) {
+    let keys = settings.keys;
+    let leds = keys.leds;
+    say_byte(b"tracking ", settings.tracking);
+    say_byte(b" step ", settings.step);
+    say_byte(b" cursor ", settings.cursor);
+    say_byte(b" type ", settings.kind);
+    say_byte(b" boundary ", settings.boundary);
+    say_byte(b" secret ", settings.secret);
+    say_byte(b" leds ", leds[0]);
+    say_byte(b" ", leds[1]);
+    say_byte(b" ", leds[2]);
+    say_byte(b" set ", keys.charset);
+    say(b"\n");
+}
+
+fn say_keys(keys: Keys, display: u8) {
+    let arrows = keys.arrows;
+    say_byte(b"strings ", keys.strings);
+    say_byte(b" display ", display);
+    say_byte(b" repeat ", keys.repeat);
+    say_byte(b" ", keys.delay);
+    say_byte(b" ", keys.interval);
+    say_byte(b" shift ", keys.shift);
+    say(b"\narrows");
+    say_arrows(&arrows);
+}
+
+fn say_arrows(arrows: &[u8; 12]) {
+    let mut i: usize = 0;
+    while i < 12 {
+        say_byte(b" ", arrows[i]);
+        i += 1;
+    }
+    say(b"\n");
+}

@@ -1,0 +1,66 @@
+-- Bytes printed in the cursor's line short of its end, while the window stays: each is stored, the cursor moves a column, and
+-- tracking does nothing. So they are all stored at once, and as many places emptied.
+use mathlib.Core.Path.{_∙_, _≡_, refl}
+use Prim.Native.Nat.{_+_, _<_, _≤_, suc, ℕ}
+use native.Mathlib.Numerals.{add-one}
+use native.Mathlib.Omega.{arith}
+use mathlib.Core.Bool.{false}
+use mathlib.Core.List.{List, [], _∷_}
+use lib.ListN.{drop, length, length-drop, length-set, length-take, set, take}
+use lib.Seq.{sets}
+use Rattle.model.specs.declared.Place.{Place}
+use Rattle.model.specs.Bytes.{put}
+use Rattle.model.specs.State.{putAt, state}
+use Rattle.model.specs.Rules.{nearest, printed, stored, tracked, unmark}
+use Rattle.model.proofs.Steps.{length-unmark}
+use Rattle.screen.specs.declared.Frame.{Frame}
+use Rattle.screen.specs.Frame.{Ready}
+use Rattle.screen.specs.Acts.{Acts, Reads}
+use Rattle.screen.specs.Here.{cellIn, lost, shownHere}
+use Rattle.screen.specs.Run.{printedAll, unmarked}
+use Rattle.screen.proofs.Acting.{likewise, stays, still, then, then-above}
+use Rattle.screen.proofs.Cells.{cell-room}
+use Rattle.screen.proofs.Steps.{cell-is}
+use Rattle.screen.proofs.Moves.{right-steps}
+use Rattle.screen.proofs.Shown.{Spot, spot-next, spot-of}
+use Rattle.screen.proofs.Windows.{lost-next, lost-still}
+use Rattle.screen.proofs.Rows.{put-sets, unmark-none}
+
+module _ {f : Frame} where
+  stored-spot : {p : Place} {c l : List ℕ} {n : ℕ} (b : ℕ) → Ready f p c l → Spot f p n → Acts (stored b) f p p c l (set c (cellIn f p) b) (unmark n l)
+  unfolding stored
+  stored-spot {p} {c} {l} {n} b h k =
+      stays (record { stands = h .stands; cells-are = length-set c (cellIn f p) b ∙ h .cells-are; layer-are = length-unmark n l ∙ h .layer-are })
+      (λ s e i. rw (cell-is (state s c l) e i, ← unmark-none (shownHere (state s c l)) l, k .is (state s c l) e i, unmark-none n l))
+
+  -- one byte
+  printed-spot : {p : Place} {c l : List ℕ} {n : ℕ} (b : ℕ) → Ready f p c l → p .column < f .columns → Reads lost f p false → Spot f p n
+      → Acts (printed b) f p (putAt (p .line) (suc (p .column)) p) c l (set c (cellIn f p) b) (unmark n l)
+  unfolding printed tracked
+  printed-spot {p} b h k j i =
+      let a = stored-spot b h i in
+      let r = right-steps {r = putAt (p .line) (suc (p .column)) p} (a .ready) k (rw add-one) in
+      then-above (then a r) (lost-still nearest (r .ready .stands) (r .ready .layer-are) (lost-next (suc (p .column)) j) refl)
+
+  -- all of them
+  chunk-acts : (bs : List ℕ) {p r : Place} {c l c′ l′ : List ℕ} {n : ℕ} → Ready f p c l → p .column + length bs ≤ f .columns → Reads lost f p false → Spot f p n
+      → r ≡ putAt (p .line) (p .column + length bs) p → c′ ≡ sets c (cellIn f p) bs → l′ ≡ unmarked n (length bs) l → Acts (printedAll bs) f p r c l c′ l′
+  unfolding printedAll unmarked
+  chunk-acts [] {p} {n = n} h room j i a b d =
+      let z : p .column + 0 ≡ p .column = omega arith in
+      rw (a, b, d, z) (likewise (λ s e k. refl) (still h))
+  chunk-acts (x ∷ xs) {p} {n = n} h room j i a b d =
+      let w = printed-spot x h (omega arith) j i in
+      let z : p .column + suc (length xs) ≡ suc (p .column) + length xs = omega arith in
+      let y : cellIn f (putAt (p .line) (suc (p .column)) p) ≡ suc (cellIn f p) = omega (arith, h .stands .fits .column-low) in
+      likewise (λ s e k. refl)
+      (then w (chunk-acts xs (w .ready) (omega arith) (lost-next (suc (p .column)) j) (spot-next (h .stands .fits .column-low) i) (rw z at a) (rw y b) d))
+
+  -- so a part of a message copied to where the cursor stands
+  pub copied-acts : {p r : Place} {c l c′ l′ : List ℕ} {k n : ℕ} (m : List ℕ) (at count : ℕ) → Ready f p c l → at + count ≤ length m → p .column + count ≤ f .columns → Reads lost f p false
+      → n ≡ cellIn f p → c′ ≡ put n (take count (drop at m)) c → Reads shownHere f p k → l′ ≡ unmarked k count l → r ≡ putAt (p .line) (p .column + count) p
+      → Acts (printedAll (take count (drop at m))) f p r c l c′ l′
+  copied-acts {p} {c = c} m at count h inside room j a b d e i =
+      let bs : List ℕ = take count (drop at m) in
+      let z : length bs ≡ count = simp (length-take, length-drop) (omega arith) in
+      chunk-acts bs h (omega arith) j (spot-of d) (rw z i) (rw (b, a) (put-sets (cellIn f p) bs c (omega (arith, cell-room (h .stands), h .cells-are)))) (rw z e)

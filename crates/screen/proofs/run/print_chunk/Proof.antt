@@ -1,0 +1,28 @@
+-- `print_chunk` meets its contract: as many cells from the cursor's on, as many places from the one that shows it.
+use native.Mathlib.Omega.{arith}
+use borrow.Author.Needs.{needs}
+use Rattle.screen.proofs.Cells.{cell-room}
+use Rattle.screen.proofs.Chunks.{copied-acts}
+use Rattle.screen.proofs.run.print_chunk.Statement.{statement}
+use Rattle.screen.proofs.run.print_chunk.Tie as tie
+
+returns : tie.Need-returns
+returns c =
+    let a = c .before .before .before .before .before .before .before .before .before .before .before .before .before .before .before .args in
+    let h = c .before .before .before .before .before .before .before .before .before .before .before .before .before .before .before .pre in
+    copied-acts (a .message .now) (a .at) (a .count) (h .0) (h .1 .1 .1) (h .1 .1 .0) (h .1 .0) (c .before .before .before .before .before .before .before .before .before .before .before .cell .ensures) (c .before .before .before .before .before .before .before .before .before .copy-in .ensures) (c .before .before .before .before .before .before .shown .ensures) (c .before .before .before .before .empty-from .ensures) (c .put-at .ensures)
+
+pub print-chunk-spec : {M : Type 1} → statement M
+print-chunk-spec =
+    tie.close
+    (tie.spec
+    (λ c κs. search needs)
+    (λ c κs. (omega (arith, cell-room (c .before .before .before .before .before .pre .0 .stands)), search needs))
+    (λ c κs. search needs)
+    (λ c κs. search needs)
+    (λ c. search needs)
+    (λ c. search needs)
+    (λ c κs. search needs)
+    (λ c. search needs)
+    (λ c. search needs)
+    returns)
