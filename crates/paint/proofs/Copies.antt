@@ -13,6 +13,7 @@ use Rattle.model.proofs.ByteLaws.{getD-listFrom, length-listFrom, same-listFrom
 use Rattle.store.proofs.Laws.{put-then}
 use Rattle.paint.specs.Copy.{printed, rowCopied}
 
+-- a row has 82 bytes
 length-rows : (f : ℕ → ℕ) (r n : ℕ) → length (copiedRows f r n) ≡ n * 82
 unfolding copiedRows
 length-rows f r zero = refl
@@ -39,6 +40,7 @@ copied-more from n xs buffer {l} {l′} {b} e e′ g h =
     let next : copiedRows (λ p. getD xs p 0) 0 (n + 1) ≡ copiedRows (λ p. getD xs p 0) 0 n ++ rowCopied xs (n * 80) = rw (add-one, rows-more xs 0 n, zero-add) in
     e′ ∙ put-then from (copiedRows (λ p. getD xs p 0) 0 n) buffer (omega arith) b (rowCopied xs (n * 80)) e (omega arith) ∙ ap (λ (ys : List ℕ). put from ys buffer) (sym next)
 
+-- rows of two pictures that agree
 same-rows : (f g : ℕ → ℕ) (r n : ℕ) → ((p : ℕ) → p < (r + n) * 80 → f p ≡ g p) → copiedRows f r n ≡ copiedRows g r n
 unfolding copiedRows
 same-rows f g r zero h = refl
@@ -47,6 +49,8 @@ same-rows f g r (suc n) h =
     ++ (13 ∷ 10 ∷ same-rows f g (suc r) n (λ p a. h p (omega arith)) i)
 
 -- eight rows of the painted picture
-pub copied-all : (st : State) (xs : List ℕ) → xs ≡ painting st → copiedRows (λ p. getD xs p 0) 0 8 ≡ copied st
+pub copied-all : (st : State) (xs : List ℕ) (n : ℕ) → xs ≡ painting st → n ≡ 8 → copiedRows (λ p. getD xs p 0) 0 n ≡ copied st
 unfolding copied painting
-copied-all st xs e = same-rows (λ p. getD xs p 0) (picture st) 0 8 (λ p h. ap (λ (l : List ℕ). getD l p 0) e ∙ getD-listFrom (picture st) 640 0 p (omega arith) ∙ ap (picture st) (zero-add p))
+copied-all st xs n e h =
+    same-rows (λ p. getD xs p 0) (picture st) 0 n (λ p l. ap (λ (l : List ℕ). getD l p 0) e ∙ getD-listFrom (picture st) 640 0 p (omega arith) ∙ ap (picture st) (zero-add p))
+    ∙ ap (copiedRows (picture st) 0) h

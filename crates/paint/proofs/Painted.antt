@@ -4,14 +4,15 @@ use Prim.Native.Nat.{_+_, _-_, _<_, _≤_, suc, zero, ℕ}
 use native.Mathlib.Nat.{add-zero, zero-add}
 use native.Mathlib.Omega.{arith}
 use mathlib.Core.List.{List, _++_, _∷_}
-use lib.ListN.{getD, length, set}
+use lib.ListN.{getD, getD-replicate, length, replicate, set}
 use lib.Seq.{ext-getD}
 use Rattle.model.specs.Bytes.{listFrom, put}
 use Rattle.model.proofs.ByteLaws.{getD-listFrom, length-listFrom, same-listFrom}
 use Rattle.store.proofs.Laws.{put-inside, put-more, put-none, put-over, put-then}
 use Rattle.paint.specs.Painted.{laid, marked, painted}
 
-pub listFrom-then : (f : ℕ → ℕ) (i n m : ℕ) → listFrom f i (n + m) ≡ listFrom f i n ++ listFrom f (i + n) m
+-- n bytes and m behind them
+listFrom-then : (f : ℕ → ℕ) (i n m : ℕ) → listFrom f i (n + m) ≡ listFrom f i n ++ listFrom f (i + n) m
 listFrom-then f i zero m = rw (zero-add, add-zero)
 listFrom-then f i (suc n) m =
     let e : suc n + m ≡ suc (n + m) = omega arith in
@@ -29,7 +30,7 @@ pub listed-more : (a i n : ℕ) (f : ℕ → ℕ) (xs : List ℕ) {l : List ℕ}
 listed-more a i n f xs e g w h =
     put-more a (listFrom f i n) (f (i + n)) xs e (omega (arith, length-listFrom f i n)) w (listFrom-then f i n 1) h
 
--- painted: nothing, one place more, and a row behind those before it
+-- painted: nothing, one place more, and m places behind n
 module _ (a : ℕ) (f : ℕ → ℕ) (xs : List ℕ) where
   pub painted-none : xs ≡ painted a 0 f xs
   unfolding painted
@@ -39,14 +40,15 @@ module _ (a : ℕ) (f : ℕ → ℕ) (xs : List ℕ) where
   unfolding painted
   painted-more n e g w h = listed-more a a n f xs e g w h
 
-  pub painted-next : (n m : ℕ) {b : ℕ} {l l′ : List ℕ} → l ≡ painted a n f xs → l′ ≡ painted b m f l → b ≡ a + n → b ≤ length xs → l′ ≡ painted a (n + m) f xs
+  pub painted-next : (n m k : ℕ) {b : ℕ} {l l′ : List ℕ} → l ≡ painted a n f xs → l′ ≡ painted b m f l → b ≡ a + n → b ≤ length xs → n + m ≡ k → l′ ≡ painted a k f xs
   unfolding painted
-  painted-next n m {b} {l} e e′ g h =
+  painted-next n m k {b} {l} e e′ g h w =
       let size : length (listFrom f a n) ≡ n = length-listFrom f a n in
-      e′ ∙ put-then a (listFrom f a n) xs (omega arith) b (listFrom f b m) e (omega arith) ∙ rw (g, listFrom-then f a n m)
+      e′ ∙ put-then a (listFrom f a n) xs (omega arith) b (listFrom f b m) e (omega arith) ∙ rw (g, ← w, listFrom-then f a n m)
 
 -- the layer laid over places that are painted
 module _ (a n : ℕ) (f : ℕ → ℕ) (layer xs : List ℕ) (fits : a + n ≤ length xs) where
+  -- what stands at such a place
   there : {l : List ℕ} → l ≡ painted a n f xs → (p : ℕ) → a ≤ p → p < a + n → getD l p 0 ≡ f p
   unfolding painted
   there e p g h =
@@ -55,11 +57,19 @@ module _ (a n : ℕ) (f : ℕ → ℕ) (layer xs : List ℕ) (fits : a + n ≤ l
       ∙ put-inside a (listFrom f a n) xs (omega (arith, length-listFrom f a n)) (p - a) (omega (arith, length-listFrom f a n))
       ∙ getD-listFrom f n a (p - a) (omega arith) ∙ ap f at
 
+  -- it lies over what f says
   pub painted-over : {l l′ : List ℕ} → l ≡ painted a n f xs → l′ ≡ painted a n (laid layer (λ p. getD l p 0)) l → l′ ≡ painted a n (laid layer f) xs
   unfolding painted laid
   painted-over {l} e e′ =
       let g : ℕ → ℕ = laid layer (λ p. getD l p 0) in
       let same : listFrom g a n ≡ listFrom (laid layer f) a n =
       same-listFrom g (laid layer f) a n (λ p b h. ap (marked (getD layer p 0) (getD layer (640 + p) 0)) (there e p b h)) in
-      let size : length (listFrom (laid layer f) a n) ≡ length (listFrom f a n) = length-listFrom (laid layer f) a n ∙ sym (length-listFrom f a n) in
+      let size : length (listFrom f a n) ≤ length (listFrom (laid layer f) a n) = omega (arith, length-listFrom f a n, length-listFrom (laid layer f) a n) in
       e′ ∙ rw (same, e) (put-over a (listFrom f a n) xs (omega (arith, length-listFrom f a n)) (listFrom (laid layer f) a n) size)
+
+-- an empty layer changes nothing
+pub painted-bare : (a n m : ℕ) (f : ℕ → ℕ) (layer xs : List ℕ) → layer ≡ replicate m 0 → a + n ≤ m → painted a n f xs ≡ painted a n (laid layer f) xs
+unfolding painted laid
+painted-bare a n m f layer xs e h =
+    ap (λ (ys : List ℕ). put a ys xs) (same-listFrom f (laid layer f) a n
+    (λ p b k. ap (λ (mark : ℕ). marked mark (getD layer (640 + p) 0) (f p)) (sym (ap (λ (l : List ℕ). getD l p 0) e ∙ getD-replicate m p 0 0 (omega arith)))))

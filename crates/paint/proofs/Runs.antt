@@ -1,92 +1,82 @@
--- A row of a view: filled with the gap's code, then the cells of the left pane, then those of the right pane.
-use mathlib.Core.Path.{_∙_, _≡_, ap, sym}
+-- What a view shows, run by run: a row is the cells of the left pane, the gap's code, then the cells of the right pane; all rows of a
+-- pane as wide as the screen are one piece of the cells.
+use mathlib.Core.Path.{_∙_, _≡_, ap, refl, sym}
 use Prim.Native.Nat.{_%_, _*_, _+_, _-_, _/_, _<_, _≤_, ℕ}
 use native.Mathlib.Omega.{arith}
-use mathlib.Core.List.{List, _++_, append-assoc}
-use lib.ListN.{drop, getD, getD-replicate, length, length-append, length-drop, length-replicate, length-take, replicate, replicate-append-replicate, take}
+use mathlib.Core.List.{List, _++_}
+use lib.ListN.{drop, getD, getD-replicate, length, length-drop, length-replicate, length-take, replicate, take}
 use borrow.Author.Tests.{le-ltb, lt-ltb}
-use Rattle.model.specs.Bytes.{listFrom, put}
+use Rattle.model.specs.Bytes.{put}
 use Rattle.model.proofs.ByteLaws.{getD-part}
-use Rattle.store.proofs.Laws.{lent-filled, put-first, put-last}
+use Rattle.store.proofs.Laws.{lent-filled}
 use Rattle.paint.specs.declared.view.View.{View}
-use Rattle.paint.specs.Panes.{Framed, Line, across, seen}
+use Rattle.paint.specs.Panes.{Framed, Line, across, cellIn, seen}
 use Rattle.paint.specs.Painted.{painted}
-use Rattle.paint.proofs.Painted.{listFrom-then, listed}
+use Rattle.paint.proofs.Painted.{listed, painted-next}
 
--- x + g + y bytes alike, then the first x and the last y of them others
-filled-over : (a x g y c : ℕ) (left right xs : List ℕ) → length left ≡ x → length right ≡ y → a + (x + (g + y)) ≤ length xs
-    → put (a + x + g) right (put a left (put a (replicate (x + (g + y)) c) xs)) ≡ put a (left ++ (replicate g c ++ right)) xs
-filled-over a x g y c left right xs m n fits =
-    let first : List ℕ = replicate x c in
-    let gap : List ℕ = replicate g c in
-    let last : List ℕ = replicate y c in
-    let nx : length first ≡ x = length-replicate x c in
-    let ng : length gap ≡ g = length-replicate g c in
-    let ny : length last ≡ y = length-replicate y c in
-    let split : replicate (x + (g + y)) c ≡ first ++ (gap ++ last) = sym (ap (λ (l : List ℕ). first ++ l) (replicate-append-replicate g y c) ∙ replicate-append-replicate x (g + y) c) in
-    let one : put a left (put a (first ++ (gap ++ last)) xs) ≡ put a ((left ++ gap) ++ last) xs =
-    put-first a first left (gap ++ last) xs (omega arith) (simp length-append (omega arith)) ∙ ap (λ (l : List ℕ). put a l xs) (sym (append-assoc left gap last))
-    in
-    ap (λ (l : List ℕ). put (a + x + g) right (put a left (put a l xs))) split ∙ ap (put (a + x + g) right) one
-    ∙ put-last a (a + x + g) (left ++ gap) last right xs (simp length-append (omega arith)) (omega arith) (simp length-append (omega arith))
-    ∙ ap (λ (l : List ℕ). put a l xs) (append-assoc left gap right)
+-- bytes that are f's, put where f counts them from
+run : (f : ℕ → ℕ) (i n : ℕ) (ys xs : List ℕ) → length ys ≡ n → ((k : ℕ) → k < n → getD ys k 0 ≡ f (i + k)) → put i ys xs ≡ painted i n f xs
+unfolding painted
+run f i n ys xs e h = ap (λ (zs : List ℕ). put i zs xs) (listed f i n ys e h)
 
--- a part of the cells, listed
-part-listed : (f : ℕ → ℕ) (i n at : ℕ) (cells : List ℕ) → at + n ≤ length cells → ((k : ℕ) → k < n → f (i + k) ≡ getD cells (at + k) 0) → take n (drop at cells) ≡ listFrom f i n
-part-listed f i n at cells h g =
-    listed f i n (take n (drop at cells)) (simp (length-take, length-drop) (omega arith)) (λ k l. getD-part cells at n k l ∙ sym (g k l))
+-- a part of the cells
+part-run : (f : ℕ → ℕ) (i n at : ℕ) (cells xs : List ℕ) → at + n ≤ length cells → ((k : ℕ) → k < n → f (i + k) ≡ getD cells (at + k) 0)
+    → put i (take n (drop at cells)) xs ≡ painted i n f xs
+part-run f i n at cells xs h g = run f i n (take n (drop at cells)) xs (simp (length-take, length-drop) (omega arith)) (λ k l. getD-part cells at n k l ∙ sym (g k l))
 
-module _ (v : View) (framed : Framed v) (cells : List ℕ) (row : ℕ) where
-  -- a place of the row, by its column
-  in-row : (p column : ℕ) → p ≡ row * 80 + column → column < 80 → seen v cells p ≡ across v cells row column
-  unfolding seen
-  in-row p column e h =
-      let r : p / 80 ≡ row = omega arith in
-      let c : p % 80 ≡ column = omega arith in
-      rw (r, c)
+-- a place by its row and its column
+at-column : (v : View) (cells : List ℕ) (p row column : ℕ) → p ≡ row * 80 + column → column < 80 → seen v cells p ≡ across v cells row column
+unfolding seen
+at-column v cells p row column e h =
+    let r : p / 80 ≡ row = omega arith in
+    let c : p % 80 ≡ column = omega arith in
+    rw (r, c)
 
-  left-run : {at : ℕ} → Line (v .left) row at → length cells ≡ 3840 → take (v .left .width) (drop at cells) ≡ listFrom (seen v cells) (row * 80) (v .left .width)
+-- so in the left pane
+at-left : (v : View) (cells : List ℕ) (p row column : ℕ) → p ≡ row * 80 + column → column < 80 → column < v .left .width → seen v cells p ≡ getD cells (cellIn (v .left) row column) 0
+unfolding across
+at-left v cells p row column e h l = at-column v cells p row column e h ∙ rw (lt-ltb column (v .left .width) l)
+
+-- a left pane as wide as the screen
+pub whole-made : (v : View) → Framed v → (cells xs : List ℕ) {l : List ℕ} → length cells ≡ 3840 → v .left .width ≡ 80 → l ≡ put 0 (take 640 (drop (v .left .at) cells)) xs → l ≡ painted 0 640 (seen v cells) xs
+whole-made v framed cells xs size wide e = e ∙ part-run (seen v cells) 0 640 (v .left .at) cells xs (omega arith)
+    (λ k h. at-left v cells (0 + k) (k / 80) (k % 80) (omega arith) (omega arith) (omega arith) ∙ ap (λ (n : ℕ). getD cells n 0) (rw wide (omega arith)))
+
+module _ (v : View) (framed : Framed v) (cells : List ℕ) (size : length cells ≡ 3840) (row : ℕ) where
+  -- where the gap of the row begins, and where it ends
+  abbrev between : ℕ
+  between = row * 80 + v .left .width
+
+  abbrev to : ℕ
+  to = between + v .gap
+
+  -- the left pane, the gap and the right pane, each by itself
+  left-run : (xs : List ℕ) {at : ℕ} → Line (v .left) row at → put (row * 80) (take (v .left .width) (drop at cells)) xs ≡ painted (row * 80) (v .left .width) (seen v cells) xs
+  left-run xs {at} h = part-run (seen v cells) (row * 80) (v .left .width) at cells xs (omega arith)
+      (λ k l. at-left v cells (row * 80 + k) row k (omega arith) (omega arith) l ∙ rw (h .starts))
+
+  gap-run : (xs : List ℕ) → put between (replicate (v .gap) (v .code)) xs ≡ painted between (v .gap) (seen v cells) xs
   unfolding across
-  left-run {at} h n = part-listed (seen v cells) (row * 80) (v .left .width) at cells (omega arith)
-      (λ k l. in-row (row * 80 + k) k (omega arith) (omega arith) ∙ rw (lt-ltb k (v .left .width) l, h .starts))
-
-  gap-run : replicate (v .gap) (v .code) ≡ listFrom (seen v cells) (row * 80 + v .left .width) (v .gap)
-  unfolding across
-  gap-run = listed (seen v cells) (row * 80 + v .left .width) (v .gap) (replicate (v .gap) (v .code)) (length-replicate (v .gap) (v .code))
-      (λ k l. getD-replicate (v .gap) k (v .code) 0 l ∙ sym (in-row (row * 80 + v .left .width + k) (v .left .width + k) (omega arith) (omega arith)
+  gap-run xs = run (seen v cells) between (v .gap) (replicate (v .gap) (v .code)) xs (length-replicate (v .gap) (v .code))
+      (λ k l. getD-replicate (v .gap) k (v .code) 0 l ∙ sym (at-column v cells (between + k) row (v .left .width + k) (omega arith) (omega arith)
       ∙ rw (le-ltb (v .left .width + k) (v .left .width) (omega arith), lt-ltb (v .left .width + k) (v .left .width + v .gap) (omega arith))))
 
-  right-run : {at : ℕ} → Line (v .right) row at → length cells ≡ 3840
-      → take (v .right .width) (drop at cells) ≡ listFrom (seen v cells) (row * 80 + v .left .width + v .gap) (v .right .width)
+  right-run : (xs : List ℕ) {at : ℕ} → Line (v .right) row at → put to (take (v .right .width) (drop at cells)) xs ≡ painted to (v .right .width) (seen v cells) xs
   unfolding across
-  right-run {at} h n = part-listed (seen v cells) (row * 80 + v .left .width + v .gap) (v .right .width) at cells (omega arith)
+  right-run xs {at} h = part-run (seen v cells) to (v .right .width) at cells xs (omega arith)
       (λ k l. let column : ℕ = v .left .width + v .gap + k in
       let back : column - (v .left .width + v .gap) ≡ k = omega arith in
-      in-row (row * 80 + v .left .width + v .gap + k) column (omega arith) (omega arith)
+      at-column v cells (to + k) row column (omega arith) (omega arith)
       ∙ rw (le-ltb column (v .left .width) (omega arith), le-ltb column (v .left .width + v .gap) (omega arith), back, h .starts))
 
-  runs : {at bt : ℕ} → Line (v .left) row at → Line (v .right) row bt → length cells ≡ 3840
-      → take (v .left .width) (drop at cells) ++ (replicate (v .gap) (v .code) ++ take (v .right .width) (drop bt cells)) ≡ listFrom (seen v cells) (row * 80) (v .left .width + (v .gap + v .right .width))
-  runs h k size = rw (left-run h size, gap-run, right-run k size, listFrom-then (seen v cells) (row * 80) (v .left .width) (v .gap + v .right .width), listFrom-then (seen v cells) (row * 80 + v .left .width) (v .gap) (v .right .width))
-
-  -- the row, from what is done to it: filled with the gap's code (ys as it comes home), the left pane (l), the right pane (l′)
-  pub row-made : (xs : List ℕ) {at bt : ℕ} {ys l l′ : List ℕ} → Line (v .left) row at → Line (v .right) row bt → length cells ≡ 3840 → row * 80 + 80 ≤ length xs
-      → ys ≡ replicate (length (take (row * 80 + 80 - row * 80) (drop (row * 80) xs))) (v .code)
-      → l ≡ put (row * 80) (take (v .left .width) (drop at cells)) (take (row * 80) xs ++ (ys ++ drop (row * 80 + 80 - row * 80) (drop (row * 80) xs)))
-      → l′ ≡ put (row * 80 + v .left .width + v .gap) (take (v .right .width) (drop bt cells)) l
+  -- the row, from what is done to it: the left pane (l), the gap's code (ys as it comes home), the right pane (l′)
+  pub row-made : (xs : List ℕ) {at bt : ℕ} {ys l l′ : List ℕ} → Line (v .left) row at → Line (v .right) row bt → row * 80 + 80 ≤ length xs → row * 80 + 80 ≤ length l
+      → l ≡ put (row * 80) (take (v .left .width) (drop at cells)) xs
+      → ys ≡ replicate (length (take (to - between) (drop between l))) (v .code)
+      → l′ ≡ put to (take (v .right .width) (drop bt cells)) (take between l ++ (ys ++ drop (to - between) (drop between l)))
       → l′ ≡ painted (row * 80) 80 (seen v cells) xs
-  unfolding painted
-  row-made xs {at} {bt} {ys} {l} {l′} h k size fits filled first last =
-      let from : ℕ = row * 80 in
-      let f : ℕ → ℕ = seen v cells in
-      let x : ℕ = v .left .width in
-      let g : ℕ = v .gap in
-      let y : ℕ = v .right .width in
-      let left : List ℕ = take x (drop at cells) in
-      let right : List ℕ = take y (drop bt cells) in
-      let m : length left ≡ x = simp (length-take, length-drop) (omega arith) in
-      let n : length right ≡ y = simp (length-take, length-drop) (omega arith) in
-      let home = lent-filled from (x + (g + y)) (from + 80 - from) (v .code) xs filled (omega arith) (omega arith) in
-      let whole : x + (g + y) ≡ 80 = omega arith in
-      last ∙ ap (put (from + x + g) right) (first ∙ ap (put from left) home) ∙ filled-over from x g y (v .code) left right xs m n (omega arith)
-      ∙ ap (λ (zs : List ℕ). put from zs xs) (runs h k size) ∙ ap (λ (w : ℕ). put from (listFrom f from w) xs) whole
+  row-made xs {l = l} h k fits fits′ first filled last =
+      let gapped = painted-next (row * 80) (seen v cells) xs (v .left .width) (v .gap) (v .left .width + v .gap) (first ∙ left-run xs h)
+      (lent-filled between (v .gap) (to - between) (v .code) l filled (omega arith) (omega arith) ∙ gap-run l) refl (omega arith) refl
+      in
+      painted-next (row * 80) (seen v cells) xs (v .left .width + v .gap) (v .right .width) 80 gapped (last ∙ right-run _ k) (omega arith) (omega arith) (framed .whole)

@@ -68,10 +68,12 @@ gap-boundary st row column m h =
     (λ u. elim-at (λ (x : ℕ). x ≡ b) (eqb column (st .settings .columns1 + 1)) _ _ (λ w. refl) (λ w. absurd (differ (sym (eq-eqb column (st .settings .columns1 + 1) h) ∙ w))))))
 
 module _ (s : Settings) (sound : Sound s) where
+  -- screens of one width
   columns-both : (n k : ℕ) → s .columns1 ≡ n → s .columns2 ≡ n → columnsOf s k ≡ n
   unfolding columnsOf
   columns-both n k e f = cond-at (λ (w : ℕ). w ≡ n) (eqb k 0) _ _ (λ t. e) (λ t. f)
 
+  -- the window's height, by the mode
   low : (s .mode ≡ 1 → ⊥) → height s ≡ 8
   unfolding height textRows
   low n = ap (λ (b : Bool). cond b 16 8) (ne-eqb (s .mode) 1 n)
@@ -80,13 +82,14 @@ module _ (s : Settings) (sound : Sound s) where
   unfolding height textRows
   high e = ap (λ (b : Bool). cond b 16 8) (eq-eqb (s .mode) 1 e)
 
+  -- mode 0
   pub shows-whole : s .mode ≡ 0 → {left : Pane} → Window s (s .selected) left → ViewOf s (record { left = left; gap = 0; code = 32; right = record { at = 0; width = 0 } })
   shows-whole m {left} w =
       let c = columns-0 (sound .shaped) m in
       let wide : left .width ≡ 80 = w .wide ∙ columns-both 80 (s .selected) (c .0) (c .1) in
       let h : height s ≡ 8 = low (λ e. omega arith) in
       record {
-        framed = record { whole = omega arith; left-inside = rw h at (w .inside); right-inside = omega arith };
+        framed = record { whole = omega arith; left-inside = rw h at (w .inside); right-inside = omega arith; halves = λ e. absurd (omega arith); single = λ n e. absurd (n wide) };
         same = λ cells layer row column r k.
             by-parts _ cells row column _
             (λ l. sym (picture-shows (state s cells layer) (row + 1) (column + 1) _ (all m (in-window s sound (s .selected) (sound .selected) w row column (row + 1) (column + 1) refl refl))))
@@ -94,6 +97,7 @@ module _ (s : Settings) (sound : Sound s) where
             (λ g. absurd (omega arith));
       }
 
+  -- mode 1
   pub shows-halves : (s .mode ≡ 0 → ⊥) → (s .mode ≡ 2 → ⊥) → {left : Pane} → Window s (s .selected) left
       → ViewOf s (record { left = left; gap = 2; code = 32; right = record { at = left .at + 8 * left .width; width = left .width } })
   unfolding textRows
@@ -104,7 +108,7 @@ module _ (s : Settings) (sound : Sound s) where
       let h : height s ≡ 16 = high m in
       let inside : left .at + 16 * left .width ≤ 3840 = rw h at (w .inside) in
       record {
-        framed = record { whole = omega arith; left-inside = omega arith; right-inside = omega arith };
+        framed = record { whole = omega arith; left-inside = omega arith; right-inside = omega arith; halves = λ e. (wide, wide); single = λ n e. absurd (e refl) };
         same = λ cells layer row column r k.
             by-parts _ cells row column _
             (λ l. sym (picture-shows (state s cells layer) (row + 1) (column + 1) _
@@ -118,6 +122,7 @@ module _ (s : Settings) (sound : Sound s) where
       below : (pane : Pane) (row column : ℕ) → pane .at + 8 * pane .width + row * pane .width + column ≡ cellIn pane (8 + row) column
       below pane row column = rw (add-mul 8 row (pane .width)) (omega arith)
 
+  -- mode 2
   pub shows-sides : s .mode ≡ 2 → {left right : Pane} → Window s 0 left → Window s 1 right → ViewOf s (record { left = left; gap = 1; code = s .boundary; right = right })
   unfolding columnsOf
   shows-sides m {left} {right} w w′ =
@@ -126,7 +131,7 @@ module _ (s : Settings) (sound : Sound s) where
       let wide′ : right .width ≡ s .columns2 = w′ .wide in
       let h : height s ≡ 8 = low (λ e. omega arith) in
       record {
-        framed = record { whole = omega arith; left-inside = rw h at (w .inside); right-inside = rw h at (w′ .inside) };
+        framed = record { whole = omega arith; left-inside = rw h at (w .inside); right-inside = rw h at (w′ .inside); halves = λ e. absurd (omega arith); single = λ n e. refl };
         same = λ cells layer row column r k.
             by-parts _ cells row column _
             (λ l. sym (picture-shows (state s cells layer) (row + 1) (column + 1) _

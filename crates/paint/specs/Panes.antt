@@ -27,11 +27,14 @@ across v cells row column =
 unfoldable pub seen : View → List ℕ → ℕ → ℕ
 seen v cells p = across v cells (p / 80) (p % 80)
 
--- a row is 80 wide, and 8 rows of each pane lie among the cells
+-- a row is 80 wide, and 8 rows of each pane lie among the cells; beside a pane that is not 80 wide there is a gap of 1, or the panes
+-- are mode 1's halves
 pub record Framed (v : View) : Type 0 where
   pub whole : v .left .width + v .gap + v .right .width ≡ 80
   pub left-inside : v .left .at + 8 * v .left .width ≤ 3840
   pub right-inside : v .right .at + 8 * v .right .width ≤ 3840
+  pub halves : v .gap ≡ 2 → (v .left .width ≡ 39) × (v .right .width ≡ 39)
+  pub single : (v .left .width ≡ 80 → ⊥) → (v .gap ≡ 2 → ⊥) → v .gap ≡ 1
 
 -- row `row` of a pane: its first cell, and all of it lies among the cells
 pub record Line (pane : Pane) (row r : ℕ) : Type 0 where

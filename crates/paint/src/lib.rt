@@ -4,7 +4,9 @@ mod view;
 
 ghost use mathlib.Core.Path.{_≡_};
 ghost use Prim.Native.Nat.{_+_, _≤_};
-ghost use lib.ListN.{length};
+ghost use lib.ListN.{length, replicate};
+ghost use lib.Dec.{eqb};
+ghost use mathlib.Core.Bool.{cond, true};
 ghost use Rattle.model.specs.Bytes.{put};
 ghost use Rattle.model.specs.State.{state};
 ghost use Rattle.model.specs.Picture.{painting, copied};
@@ -12,35 +14,83 @@ ghost use Rattle.paint.specs.Paintable.{Paintable};
 ghost use Rattle.paint.specs.Painted.{laid, painted};
 ghost use Rattle.paint.specs.Panes.{Framed, seen};
 use model::Settings;
+use view::Pane;
 use view::View;
 
-// "It always ends by painting all 640 places."
-pub fn paint(settings: Settings, cells: &[u8], layer: &[u8], shown: &mut [u8])
-    requires { ⌜ (Paintable settings (now cells) (now layer)) × (length (now shown) ≡ 640) ⌝ }
+// "It always ends by painting all 640 places." A layer that is known to be empty is not laid.
+pub fn paint(settings: Settings, bare: bool, cells: &[u8], layer: &[u8], shown: &mut [u8])
+    requires { ⌜ (Paintable settings (now cells) (now layer)) × ((bare ≡ true → now layer ≡ replicate 1280 0) × (length (now shown) ≡ 640)) ⌝ }
     ensures { λ _. ⌜ now (shown .exit) ≡ painting (state settings (now (cells .entry)) (now (layer .entry))) ⌝ }
 {
-    let secret = settings.secret;
+    let panes = view::view_of(settings);
+    paint_panes(settings.secret, bare, panes, cells, layer, shown);
+}
+
+// Blank in secret mode, else the panes and the layer over them. It is handed the view alone, so that no settings are copied for it.
+fn paint_panes(secret: u8, bare: bool, panes: View, cells: &[u8], layer: &[u8], shown: &mut [u8])
+    requires { ⌜ Framed panes ⌝ }
+    requires { ⌜ (length (now cells) ≡ 3840) × ((length (now layer) ≡ 1280) × (length (now shown) ≡ 640)) ⌝ }
+    requires { ⌜ (bare ≡ true → now layer ≡ replicate 1280 0) ⌝ }
+    ensures { λ _. ⌜ now (shown .exit) ≡ cond (eqb secret 1) (replicate 640 32) (painted 0 640 (laid (now (layer .entry)) (seen panes (now (cells .entry)))) (now (shown .entry))) ⌝ }
+{
     if secret == 1 {
         store::fill(shown, 32);
         return;
     }
-    let panes = view::view_of(settings);
-    paint_view(panes, cells, layer, shown);
+    paint_view(panes, cells, shown);
+    if bare {
+        return;
+    }
+    rows::lay(layer, shown, 0, 640);
 }
 
-// The panes row by row, and the layer over all of them. It is handed the view alone, so that no settings are copied for it.
-fn paint_view(panes: View, cells: &[u8], layer: &[u8], shown: &mut [u8])
+// The panes. One as wide as the screen is one piece of the cells. Else there are 39, 2 and 39 places, or a gap of 1: these numbers are
+// handed on as such, so that a compiler sees them.
+fn paint_view(panes: View, cells: &[u8], shown: &mut [u8])
     requires { ⌜ Framed panes ⌝ }
-    requires { ⌜ (length (now cells) ≡ 3840) × ((length (now layer) ≡ 1280) × (length (now shown) ≡ 640)) ⌝ }
-    ensures { λ _. ⌜ now (shown .exit) ≡ painted 0 640 (laid (now (layer .entry)) (seen panes (now (cells .entry)))) (now (shown .entry)) ⌝ }
+    requires { ⌜ (length (now cells) ≡ 3840) × (length (now shown) ≡ 640) ⌝ }
+    ensures { λ _. ⌜ now (shown .exit) ≡ painted 0 640 (seen panes (now (cells .entry))) (now (shown .entry)) ⌝ }
 {
+    let left = panes.left;
+    let right = panes.right;
+    if left.width == 80 {
+        store::copy_many(shown, 0, cells, left.at, 640);
+        return;
+    }
+    if panes.gap == 2 {
+        paint_rows(panes, 39, 2, 39, cells, shown);
+        return;
+    }
+    paint_rows(panes, left.width, 1, right.width, cells, shown);
+}
+
+// The panes row by row, `one`, `gap` and `two` places of each.
+fn paint_rows(panes: View, one: usize, gap: usize, two: usize, cells: &[u8], shown: &mut [u8])
+    requires { ⌜ Framed panes ⌝ }
+    requires { ⌜ (one ≡ panes .left .width) × ((gap ≡ panes .gap) × (two ≡ panes .right .width)) ⌝ }
+    requires { ⌜ (length (now cells) ≡ 3840) × (length (now shown) ≡ 640) ⌝ }
+    ensures { λ _. ⌜ now (shown .exit) ≡ painted 0 640 (seen panes (now (cells .entry))) (now (shown .entry)) ⌝ }
+{
+    let left = panes.left;
+    let right = panes.right;
+    let same = View {
+        left: Pane {
+            at: left.at,
+            width: one,
+        },
+        gap,
+        code: panes.code,
+        right: Pane {
+            at: right.at,
+            width: two,
+        },
+    };
     // Counted by the screen's length: a count of eight would be written out eight times by the compiler.
     let mut row = 0;
     while row * 80 < shown.len() {
-        rows::paint_row(panes, cells, shown, row);
+        rows::paint_row(same, cells, shown, row);
         row += 1;
     }
-    rows::lay(layer, shown, 0, 640);
 }
 
 // ESC 80: "appends the picture at that moment, 8 rows of 80 with codes below 32 as 32, each followed by 13, 10".
@@ -49,7 +99,8 @@ pub fn copy(settings: Settings, cells: &[u8], layer: &[u8], printer: &mut [u8], 
     ensures { λ _. ⌜ now (printer .exit) ≡ put from (copied (state settings (now (cells .entry)) (now (layer .entry)))) (now (printer .entry)) ⌝ }
 {
     let mut picture = [0u8; 640];
-    paint(settings, cells, layer, &mut picture);
+    let panes = view::view_of(settings);
+    paint_panes(settings.secret, false, panes, cells, layer, &mut picture);
     let mut row = 0;
     while row < 8 {
         rows::copy_row(&picture, row * 80, printer, from + row * 82);

@@ -9,7 +9,7 @@ ghost use Rattle.paint.specs.Copy.{rowCopied};
 use crate::view::View;
 use crate::view::start;
 
-// Row `row`, from 0, of the picture without secret and layer: the gap's code, and the panes over it.
+// Row `row`, from 0, of the picture without secret and layer: the left pane, the gap, the right pane.
 pub(crate) fn paint_row(view: View, cells: &[u8], shown: &mut [u8], row: usize)
     requires { ⌜ (Framed view) × (row < 8) ⌝ }
     requires { ⌜ (length (now cells) ≡ 3840) × (length (now shown) ≡ 640) ⌝ }
@@ -18,16 +18,11 @@ pub(crate) fn paint_row(view: View, cells: &[u8], shown: &mut [u8], row: usize)
     let left = view.left;
     let right = view.right;
     let from = row * 80;
-    let to = from + 80;
-    store::fill(&mut shown[from..to], view.code);
+    let between = from + left.width;
+    let to = between + view.gap;
     store::copy_in(shown, from, cells, start(left, row), left.width);
-    store::copy_in(
-        shown,
-        from + left.width + view.gap,
-        cells,
-        start(right, row),
-        right.width,
-    );
+    store::fill(&mut shown[between..to], view.code);
+    store::copy_in(shown, to, cells, start(right, row), right.width);
 }
 
 // "the layer's code if marked; else" what stands there, at `count` places from `from` on.

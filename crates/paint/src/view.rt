@@ -29,25 +29,43 @@ pub(crate) fn start(pane: Pane, row: usize) -> usize
 // The rows of the shown screen that show text: mode 1's right half starts so many lines after the left.
 const TEXT_ROWS: usize = 8;
 
-// The window of screen `k`, from 0.
-pub(crate) fn window(settings: Settings, k: usize) -> Pane
-    requires { ⌜ (Sound settings) × (k < 2) ⌝ }
-    ensures { λ r. ⌜ Window settings k r ⌝ }
+// The window of screen 1. Screens are named, not numbered: an index that is not a literal would keep a compiler from taking the
+// settings apart, and so have them copied.
+fn window1(settings: Settings) -> Pane
+    requires { ⌜ Sound settings ⌝ }
+    ensures { λ r. ⌜ Window settings 0 r ⌝ }
 {
-    let place = settings.places[k];
-    let above = place.top as usize - 1;
-    let columns1 = settings.columns1 as usize;
-    if k == 0 {
-        Pane {
-            at: above * columns1,
-            width: columns1,
-        }
+    let place = settings.places[0];
+    let columns = settings.columns1 as usize;
+    Pane {
+        at: (place.top as usize - 1) * columns,
+        width: columns,
+    }
+}
+
+// The window of screen 2, whose cells stand behind those of screen 1.
+fn window2(settings: Settings) -> Pane
+    requires { ⌜ Sound settings ⌝ }
+    ensures { λ r. ⌜ Window settings 1 r ⌝ }
+{
+    let place = settings.places[1];
+    let columns = settings.columns2 as usize;
+    let base = settings.lines1 as usize * settings.columns1 as usize;
+    Pane {
+        at: base + (place.top as usize - 1) * columns,
+        width: columns,
+    }
+}
+
+// The window of the selected screen.
+fn chosen(settings: Settings) -> Pane
+    requires { ⌜ Sound settings ⌝ }
+    ensures { λ r. ⌜ Window settings (settings .selected) r ⌝ }
+{
+    if settings.selected == 0 {
+        window1(settings)
     } else {
-        let columns2 = settings.columns2 as usize;
-        Pane {
-            at: settings.lines1 as usize * columns1 + above * columns2,
-            width: columns2,
-        }
+        window2(settings)
     }
 }
 
@@ -59,13 +77,13 @@ pub(crate) fn view_of(settings: Settings) -> View
     let mode = settings.mode;
     if mode == 2 {
         return View {
-            left: window(settings, 0),
+            left: window1(settings),
             gap: 1,
             code: settings.boundary,
-            right: window(settings, 1),
+            right: window2(settings),
         };
     }
-    let left = window(settings, settings.selected as usize);
+    let left = chosen(settings);
     let width = left.width;
     if mode == 0 {
         return View {

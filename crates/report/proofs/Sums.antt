@@ -1,6 +1,6 @@
--- Laws of Adler-32: a turn of the loop, its end, and that the sum of parts in order is the sum of the whole.
-use mathlib.Core.Path.{_≡_, refl}
-use mathlib.Core.List.{List, [], _∷_, _++_}
+-- Laws of Adler-32: a turn of the loop, and its end.
+use mathlib.Core.Path.{_≡_}
+use mathlib.Core.List.{List}
 use Prim.Native.Nat.{ℕ, _+_, _<_}
 use native.Mathlib.Numerals.{add-one}
 use lib.ListN.{length, drop, getD}
@@ -14,9 +14,3 @@ adler-next sum bytes i h = rw (add-one, drop-cons bytes i 0 h)
 pub adler-end : (sum : ℕ) (bytes : List ℕ) → adlerFrom sum (drop (length bytes) bytes) ≡ sum
 unfolding adlerFrom
 adler-end sum bytes = rw (drop-length bytes)
-
--- the printer bytes of all calls, call by call
-pub adler-append : (sum : ℕ) (xs ys : List ℕ) → adlerFrom sum (xs ++ ys) ≡ adlerFrom (adlerFrom sum xs) ys
-unfolding adlerFrom
-adler-append sum [] ys = refl
-adler-append sum (x ∷ xs) ys = adler-append (withByte sum x) xs ys

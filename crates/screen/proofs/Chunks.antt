@@ -12,7 +12,6 @@ use Rattle.model.specs.declared.Place.{Place}
 use Rattle.model.specs.Bytes.{put}
 use Rattle.model.specs.State.{putAt, state}
 use Rattle.model.specs.Rules.{nearest, printed, stored, tracked, unmark}
-use Rattle.model.proofs.Steps.{length-unmark}
 use Rattle.screen.specs.declared.Frame.{Frame}
 use Rattle.screen.specs.Frame.{Ready}
 use Rattle.screen.specs.Acts.{Acts, Reads}
@@ -20,7 +19,7 @@ use Rattle.screen.specs.Here.{cellIn, lost, shownHere}
 use Rattle.screen.specs.Run.{printedAll, unmarked}
 use Rattle.screen.proofs.Acting.{likewise, stays, still, then, then-above}
 use Rattle.screen.proofs.Cells.{cell-room}
-use Rattle.screen.proofs.Steps.{cell-is}
+use Rattle.screen.proofs.Steps.{cell-is, unmarked-layer}
 use Rattle.screen.proofs.Moves.{right-steps}
 use Rattle.screen.proofs.Shown.{Spot, spot-next, spot-of}
 use Rattle.screen.proofs.Windows.{lost-next, lost-still}
@@ -30,7 +29,7 @@ module _ {f : Frame} where
   stored-spot : {p : Place} {c l : List ℕ} {n : ℕ} (b : ℕ) → Ready f p c l → Spot f p n → Acts (stored b) f p p c l (set c (cellIn f p) b) (unmark n l)
   unfolding stored
   stored-spot {p} {c} {l} {n} b h k =
-      stays (record { stands = h .stands; cells-are = length-set c (cellIn f p) b ∙ h .cells-are; layer-are = length-unmark n l ∙ h .layer-are })
+      stays (record { stands = h .stands; cells-are = length-set c (cellIn f p) b ∙ h .cells-are; layer-are = unmarked-layer n (h .layer-are) refl })
       (λ s e i. rw (cell-is (state s c l) e i, ← unmark-none (shownHere (state s c l)) l, k .is (state s c l) e i, unmark-none n l))
 
   -- one byte

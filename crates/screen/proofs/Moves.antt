@@ -12,13 +12,12 @@ use Rattle.model.specs.Bytes.{scrolledUp}
 use Rattle.model.specs.State.{State, putAt, state}
 use Rattle.model.specs.Screens.{columnsHere, here, linesHere}
 use Rattle.model.specs.Rules.{control, down, onLines, placed, right, stored, toColumn, unmark}
-use Rattle.model.proofs.Steps.{length-unmark}
 use Rattle.screen.specs.declared.Frame.{Frame}
 use Rattle.screen.specs.Frame.{Ready}
 use Rattle.screen.specs.Acts.{Acts, Reads}
 use Rattle.screen.specs.Here.{cellIn, shownHere}
 use Rattle.screen.proofs.Acting.{at-value, likewise, stays, still, when-false, when-true}
-use Rattle.screen.proofs.Steps.{cell-is, cursor-acts, here-is}
+use Rattle.screen.proofs.Steps.{cell-is, cursor-acts, here-is, unmarked-layer}
 
 -- tests: the cursor's line is above the last, its column before the last
 line-test : {f : Frame} {p : Place} {b : Bool} → ltb (p .line) (f .lines) ≡ b → Reads (λ (st : State). ltb (here st .line) (linesHere st)) f p b
@@ -47,7 +46,7 @@ module _ {f : Frame} {p : Place} {c l : List ℕ} (h : Ready f p c l) where
   pub stored-acts : (code : ℕ) {m n : ℕ} {l′ : List ℕ} → m ≡ cellIn f p → Reads shownHere f p n → l′ ≡ unmark n l → Acts (stored code) f p p c l (set c m code) l′
   unfolding stored
   stored-acts code {m} {n} a shown b =
-      stays (record { stands = h .stands; cells-are = length-set c m code ∙ h .cells-are; layer-are = ap length b ∙ length-unmark n l ∙ h .layer-are })
+      stays (record { stands = h .stands; cells-are = length-set c m code ∙ h .cells-are; layer-are = unmarked-layer n (h .layer-are) b })
       (λ s e i. rw (cell-is (state s c l) e i, shown (state s c l) e i, a, b))
 
 -- "one line down", "moves right"

@@ -6,12 +6,13 @@ use native.Mathlib.Nat.{add-suc}
 use native.Mathlib.Omega.{arith}
 use mathlib.Core.Bool.{Bool, cond, false, true}
 use mathlib.Core.List.{List, [], _∷_, append-assoc}
-use lib.ListN.{drop, length, length-replicate, replicate, set, take}
+use lib.ListN.{drop, getD, getD-replicate, length, length-replicate, replicate, set, take}
 use lib.Dec.{ltb}
-use lib.Seq.{length-sets, set-comm, sets, sets-eq}
+use lib.Seq.{length-sets, set-comm, set-getD, sets, sets-eq}
 use borrow.Author.Tests.{le-ltb, ltb-false, ltb-true}
 use Rattle.model.specs.Bytes.{onPart, put}
 use Rattle.model.specs.Rules.{unmark}
+use Rattle.model.proofs.Tests.{cond-at}
 use Rattle.screen.specs.Run.{unmarked}
 
 -- at once as one by one
@@ -60,6 +61,22 @@ unmarked-put n p l h s e =
     let k : length (reach n p) ≡ min n (640 - p) = length-replicate {A = ℕ} (min n (640 - p)) 0 in
     rw e (ap (put (640 + p) (reach n p)) (put-sets p (reach n p) l (omega arith))
     ∙ put-sets (640 + p) (reach n p) (sets l p (reach n p)) (omega (arith, length-sets l p (reach n p))) ∙ sym (unmarked-sets n p l))
+
+-- places of an empty layer
+zeros-set : (l : List ℕ) (k : ℕ) → l ≡ replicate 1280 0 → k < 1280 → set l k 0 ≡ l
+zeros-set l k e h = ap (set l k) (sym (ap (λ (x : List ℕ). getD x k 0) e ∙ getD-replicate 1280 k 0 0 h)) ∙ set-getD l k 0
+
+pub unmark-empty : (n : ℕ) (l : List ℕ) → l ≡ replicate 1280 0 → unmark n l ≡ l
+unfolding unmark
+unmark-empty n l e =
+    cond-at (λ (x : List ℕ). x ≡ l) (ltb n 640) _ _
+    (λ t. let h : n < 640 = ltb-true n 640 t in ap (λ (x : List ℕ). set x (640 + n) 0) (zeros-set l n e (omega arith)) ∙ zeros-set l (640 + n) e (omega arith))
+    (λ f. refl)
+
+pub unmarked-empty : (n p : ℕ) (l : List ℕ) → l ≡ replicate 1280 0 → unmarked p n l ≡ l
+unfolding unmarked
+unmarked-empty zero p l e = refl
+unmarked-empty (suc n) p l e = ap (unmarked (suc p) n) (unmark-empty p l e) ∙ unmarked-empty n (suc p) l e
 
 -- a place that is none is 640 as well
 pub unmark-none : (p : ℕ) (l : List ℕ) → unmark (min 640 p) l ≡ unmark p l

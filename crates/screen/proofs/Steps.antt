@@ -7,12 +7,14 @@ use Rattle.model.specs.declared.Place.{Place}
 use Rattle.model.specs.State.{State, putAt, state}
 use Rattle.model.specs.Screens.{cellAt, here, lineAt}
 use Rattle.model.specs.Sound.{Fits}
-use Rattle.model.specs.Rules.{emptied, placed, withCells, withLayer}
+use Rattle.model.specs.Rules.{emptied, placed, unmark, withCells, withLayer}
+use Rattle.model.proofs.Steps.{length-unmark}
 use Rattle.screen.specs.declared.Frame.{Frame}
-use Rattle.screen.specs.Frame.{Ready, Stands}
+use Rattle.screen.specs.Frame.{LayerOf, Ready, Stands}
 use Rattle.screen.specs.Acts.{Acts, Reads}
 use Rattle.screen.specs.Here.{cellHere, cellIn}
 use Rattle.screen.proofs.Acting.{at-value, stays}
+use Rattle.screen.proofs.Rows.{unmark-empty}
 
 -- another place of the same frame
 pub moved : {f : Frame} {p r : Place} → Stands f p → Fits (f .lines) (f .columns) (f .height) r → Stands f r
@@ -29,6 +31,13 @@ pub cell-is : {f : Frame} {p : Place} → Reads cellHere f p (cellIn f p)
 unfolding cellAt lineAt
 cell-is st e k = rw (k, ← e .base-is, ← e .columns-are)
 
+-- the layer emptied, whole or at a place
+pub empty-layer : {f : Frame} {l : List ℕ} → l ≡ replicate 1280 0 → LayerOf f l
+empty-layer k = record { size = ap length k ∙ length-replicate {A = ℕ} 1280 0; empty = λ b. k }
+
+pub unmarked-layer : {f : Frame} {l l′ : List ℕ} (n : ℕ) → LayerOf f l → l′ ≡ unmark n l → LayerOf f l′
+unmarked-layer {l = l} n h k = record { size = ap length k ∙ length-unmark n l ∙ h .size; empty = λ b. k ∙ unmark-empty n l (h .empty b) ∙ h .empty b }
+
 -- the place, the layer and the cells, one at a time
 module _ {f : Frame} {p : Place} {c l : List ℕ} (h : Ready f p c l) where
   pub placed-acts : (r : Place) → Stands f r → Acts (placed r) f p r c l c l
@@ -44,7 +53,7 @@ module _ {f : Frame} {p : Place} {c l : List ℕ} (h : Ready f p c l) where
   pub emptied-acts : {l′ : List ℕ} → l′ ≡ replicate 1280 0 → Acts emptied f p p c l c l′
   unfolding emptied withLayer
   emptied-acts k =
-      stays (record { stands = h .stands; cells-are = h .cells-are; layer-are = ap length k ∙ length-replicate {A = ℕ} 1280 0 })
+      stays (record { stands = h .stands; cells-are = h .cells-are; layer-are = empty-layer k })
       (λ s e i. ap (λ (x : List ℕ). state s c x) (sym k))
 
   pub cells-acts : (c′ : List ℕ) → length c′ ≡ length c → Acts (withCells c′) f p p c l c′ l

@@ -4,7 +4,7 @@ use Prim.Native.Nat.{_+_, _-_, _/_, _≤_, max, min, ℕ}
 use native.Mathlib.Omega.{arith}
 use mathlib.Core.Bool.{_&&_, _||_, Bool, cond, false, true}
 use mathlib.Core.List.{List}
-use lib.ListN.{length, replicate}
+use lib.ListN.{replicate}
 use lib.Dec.{eqb, leb, ltb}
 use borrow.Author.Tests.{eq-eqb, ne-eqb}
 use Rattle.model.specs.declared.Place.{Place}
@@ -12,7 +12,7 @@ use Rattle.model.specs.State.{State, putAt, state, topAt}
 use Rattle.model.specs.Screens.{here}
 use Rattle.model.specs.Rules.{centred, emptied, held, missed, nearest, placed, topped}
 use Rattle.screen.specs.declared.Frame.{Frame}
-use Rattle.screen.specs.Frame.{Stands}
+use Rattle.screen.specs.Frame.{LayerOf, Stands}
 use Rattle.screen.specs.Acts.{Acts, ActsAbove, Reads, Top, withPlace}
 use Rattle.screen.specs.Here.{earlier, greatest, later, lost}
 use Rattle.screen.proofs.Acting.{at-value, framed-placed, placed-there, still, then, when-false, when-true}
@@ -66,7 +66,7 @@ top-test : {f : Frame} {p : Place} {b : Bool} (t : ℕ) → eqb t (p .top) ≡ b
 top-test t h st e k = rw k h
 
 -- turning the window
-module _ {f : Frame} {p : Place} (h : Stands f p) {l : List ℕ} (n : length l ≡ 1280) where
+module _ {f : Frame} {p : Place} (h : Stands f p) {l : List ℕ} (n : LayerOf f l) where
   pub topped-same : {t : ℕ} → t ≡ p .top → ActsAbove (topped t) f p p l l
   unfolding topped
   topped-same {t} k cells m = when-true _ (top-test t (eq-eqb t (p .top) k)) (still (record { stands = h; cells-are = m; layer-are = n }))
@@ -89,6 +89,6 @@ module _ {f : Frame} {p r : Place} {l l′ : List ℕ} where
       → ActsAbove (λ (st : State). cond (lost st) (topped (value st) st) st) f p r l l′
   lost-turns k j t a cells m = when-true _ (λ st e i. k st e i ∙ j) (topped-at t a cells m)
 
-pub lost-still : {f : Frame} {p : Place} {l : List ℕ} {b : Bool} (value : State → ℕ) → Stands f p → length l ≡ 1280 → Reads lost f p b → b ≡ false
+pub lost-still : {f : Frame} {p : Place} {l : List ℕ} {b : Bool} (value : State → ℕ) → Stands f p → LayerOf f l → Reads lost f p b → b ≡ false
     → ActsAbove (λ (st : State). cond (lost st) (topped (value st) st) st) f p p l l
 lost-still value h n k j cells m = when-false (λ (st : State). topped (value st) st) (λ st e i. k st e i ∙ j) (still (record { stands = h; cells-are = m; layer-are = n }))

@@ -3,9 +3,9 @@
 -- window move under one and the same frame.
 use mathlib.Core.Path.{_≡_}
 use Prim.Native.Nat.{ℕ, _+_, _*_, _≤_, _<_}
-use mathlib.Core.Bool.{cond, _&&_}
+use mathlib.Core.Bool.{cond, _&&_, true}
 use mathlib.Core.List.{List}
-use lib.ListN.{length}
+use lib.ListN.{length, replicate}
 use lib.Dec.{eqb}
 use Rattle.model.specs.declared.Place.{Place}
 use Rattle.model.specs.declared.Settings.{Settings}
@@ -37,11 +37,16 @@ pub record Stands (f : Frame) (p : Place) : Type 0 where
   pub step-high : f .step ≤ f .height
   pub fits : Fits (f .lines) (f .columns) (f .height) p
 
+-- the layer has its size, and is empty where the frame says that it is bare
+pub record LayerOf (f : Frame) (layer : List ℕ) : Type 0 where
+  pub size : length layer ≡ 1280
+  pub empty : f .bare ≡ true → layer ≡ replicate 1280 0
+
 -- and the stores have their sizes: what is asked before each step, and holds after it
 pub record Ready (f : Frame) (p : Place) (cells layer : List ℕ) : Type 0 where
   pub stands : Stands f p
   pub cells-are : length cells ≡ 3840
-  pub layer-are : length layer ≡ 1280
+  pub layer-are : LayerOf f layer
 
 -- what frame_of promises of sound settings
 pub record FrameOf (s : Settings) (f : Frame) : Type 0 where

@@ -38,7 +38,7 @@ pub(crate) fn store(frame: Frame, place: Place, code: u8, cells: &mut [u8], laye
 {
     let at = lines::cell(frame, place);
     cells[at] = code;
-    marks::empty_at(shown(frame, place), layer);
+    marks::empty_at(frame, shown(frame, place), layer);
 }
 
 // "One column back, staying at column 1."

@@ -12,7 +12,6 @@ use model::Sequence;
 use model::Settings;
 ghost use mathlib.Core.Path.{_≡_};
 ghost use Prim.Native.Nat.{_+_, _*_, _-_, _<_, min};
-ghost use lib.ListN.{length};
 ghost use lib.Dec.{eqb};
 ghost use mathlib.Core.Bool.{cond, true};
 ghost use Rattle.model.specs.Sound.{Sound};
@@ -21,7 +20,7 @@ ghost use Rattle.model.specs.Judging.{ranges, legal?};
 ghost use Rattle.model.specs.State.{State, putAt};
 ghost use Rattle.model.specs.Screens.{here};
 ghost use Rattle.model.specs.Rules.{printed, control, placed, trackedFar};
-ghost use Rattle.screen.specs.Frame.{Stands, Ready, FrameOf, limitsIn};
+ghost use Rattle.screen.specs.Frame.{Stands, LayerOf, Ready, FrameOf, limitsIn};
 ghost use Rattle.screen.specs.Acts.{Acts, ActsAbove};
 ghost use Rattle.model.specs.OnScreen.{onScreen?};
 ghost use Rattle.screen.specs.Obeys.{Obeys};
@@ -31,6 +30,7 @@ const ROWS: u8 = 8;
 
 // Of the selected screen: its first cell, its lines and columns; the rows of the shown screen and the window's height H; by how
 // many columns the picture shows it further right (mode 2, screen 2); the step of the window, and whether it tracks the cursor.
+// `bare` is no setting: it says that the layer is known to be empty, so that it need not be emptied again.
 pub struct Frame {
     pub base: usize,
     pub lines: u8,
@@ -40,12 +40,13 @@ pub struct Frame {
     pub shift: u8,
     pub step: u8,
     pub tracking: u8,
+    pub bare: bool,
 }
 
-// The frame of sound settings.
-pub fn frame_of(settings: Settings) -> Frame
+// The frame of sound settings, under a layer that is known to be empty or not.
+pub fn frame_of(settings: Settings, bare: bool) -> Frame
     requires { ⌜ Sound settings ⌝ }
-    ensures { λ r. ⌜ FrameOf settings r ⌝ }
+    ensures { λ r. ⌜ (FrameOf settings r) × (r .bare ≡ bare) ⌝ }
 {
     if settings.selected == 0 {
         Frame {
@@ -57,6 +58,7 @@ pub fn frame_of(settings: Settings) -> Frame
             shift: 0,
             step: settings.step,
             tracking: settings.tracking,
+            bare,
         }
     } else {
         Frame {
@@ -68,6 +70,7 @@ pub fn frame_of(settings: Settings) -> Frame
             shift: shift_of(settings.mode, settings.columns1),
             step: settings.step,
             tracking: settings.tracking,
+            bare,
         }
     }
 }
@@ -164,7 +167,7 @@ pub fn on_screen(q: Sequence) -> bool
 // 61: "bytes m+31, n+31".
 fn put(frame: Frame, place: Place, line: u8, column: u8, layer: &mut [u8]) -> Place
     requires { ⌜ Stands frame place ⌝ }
-    requires { ⌜ length (now layer) ≡ 1280 ⌝ }
+    requires { ⌜ LayerOf frame (now layer) ⌝ }
     requires { ⌜ InRanges (ranges (Sequence.Put line column) (limitsIn frame)) ⌝ }
     ensures { λ r. ⌜ ActsAbove (λ (st : State). trackedFar (placed (putAt (line - 31) (column - 31) (here st)) st)) frame place r (now (layer .entry)) (now (layer .exit)) ⌝ }
 {

@@ -43,7 +43,7 @@ pub(crate) fn up(
         times(count, frame.columns),
         wide(frame.columns),
     );
-    marks::empty(layer);
+    marks::empty(frame, layer);
 }
 
 // "Or down by one": line a+m is lost, line a+1 is blank.
@@ -66,7 +66,7 @@ pub(crate) fn down(
         times(count, frame.columns),
         wide(frame.columns),
     );
-    marks::empty(layer);
+    marks::empty(frame, layer);
 }
 
 // 42: "blanks the screen, cursor home, top 1, layer empty".
@@ -75,7 +75,7 @@ pub(crate) fn clear(frame: Frame, place: Place, cells: &mut [u8], layer: &mut [u
     ensures { λ r. ⌜ Acts cleared frame place r (now (cells .entry)) (now (layer .entry)) (now (cells .exit)) (now (layer .exit)) ⌝ }
 {
     store::blank(cells, frame.base, times(frame.lines, frame.columns));
-    marks::empty(layer);
+    marks::empty(frame, layer);
     places::home_place()
 }
 
@@ -87,7 +87,7 @@ fn blank_from(frame: Frame, place: Place, count: usize, cells: &mut [u8], layer:
 {
     let from = cell(frame, place);
     store::blank(cells, from, count);
-    marks::empty(layer);
+    marks::empty(frame, layer);
 }
 
 // 84: "blanks from the cursor to the end of its line".

@@ -1,25 +1,33 @@
-// The layer over the picture: emptied whole, at a place, or at places in a row.
+// The layer over the picture: emptied whole, at a place, or at places in a row. What is known to be empty is left.
+use super::Frame;
 use super::least;
 ghost use mathlib.Core.Path.{_≡_};
 ghost use Prim.Native.Nat.{_+_, _≤_};
 ghost use lib.ListN.{length, replicate};
 ghost use Rattle.model.specs.Bytes.{put};
 ghost use Rattle.model.specs.Rules.{unmark};
+ghost use Rattle.screen.specs.Frame.{LayerOf};
 ghost use Rattle.screen.specs.Run.{unmarked};
 
 // "Empties the whole layer."
-pub(crate) fn empty(layer: &mut [u8])
-    requires { ⌜ length (now layer) ≡ 1280 ⌝ }
+pub(crate) fn empty(frame: Frame, layer: &mut [u8])
+    requires { ⌜ LayerOf frame (now layer) ⌝ }
     ensures { λ _. ⌜ now (layer .exit) ≡ replicate 1280 0 ⌝ }
 {
+    if frame.bare {
+        return;
+    }
     store::fill(layer, 0);
 }
 
 // "Emptying writes 0 in both": the mark and the code of a place, or nothing where it is 640 for none.
-pub(crate) fn empty_at(shown: usize, layer: &mut [u8])
-    requires { ⌜ length (now layer) ≡ 1280 ⌝ }
+pub(crate) fn empty_at(frame: Frame, shown: usize, layer: &mut [u8])
+    requires { ⌜ LayerOf frame (now layer) ⌝ }
     ensures { λ _. ⌜ now (layer .exit) ≡ unmark shown (now (layer .entry)) ⌝ }
 {
+    if frame.bare {
+        return;
+    }
     if shown < 640 {
         layer[shown] = 0;
         layer[640 + shown] = 0;
@@ -27,10 +35,13 @@ pub(crate) fn empty_at(shown: usize, layer: &mut [u8])
 }
 
 // The same of so many places in a row, as far as there are places.
-pub(crate) fn empty_from(shown: usize, count: usize, layer: &mut [u8])
-    requires { ⌜ length (now layer) ≡ 1280 ⌝ }
+pub(crate) fn empty_from(frame: Frame, shown: usize, count: usize, layer: &mut [u8])
+    requires { ⌜ LayerOf frame (now layer) ⌝ }
     ensures { λ _. ⌜ now (layer .exit) ≡ unmarked shown count (now (layer .entry)) ⌝ }
 {
+    if frame.bare {
+        return;
+    }
     if shown < 640 {
         let n = least(count, 640 - shown);
         zero(layer, shown, n);

@@ -87,7 +87,7 @@ fn print_chunk(
 {
     let from = lines::cell(frame, place);
     store::copy_in(cells, from, message, at, count);
-    marks::empty_from(cursor::shown(frame, place), count, layer);
+    marks::empty_from(frame, cursor::shown(frame, place), count, layer);
     places::put_at(place, place.line, place.column + (count as u8))
 }
 

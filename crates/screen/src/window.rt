@@ -5,9 +5,8 @@ use super::places;
 use model::Place;
 ghost use mathlib.Core.Path.{_≡_};
 ghost use Prim.Native.Nat.{_+_, _-_, _≤_};
-ghost use lib.ListN.{length};
 ghost use Rattle.model.specs.Rules.{topped, held, nearest, centred, tracked, trackedFar};
-ghost use Rattle.screen.specs.Frame.{Stands};
+ghost use Rattle.screen.specs.Frame.{Stands, LayerOf};
 ghost use Rattle.screen.specs.Acts.{ActsAbove, Reads, Top};
 ghost use Rattle.screen.specs.Here.{lost, earlier, later};
 
@@ -15,13 +14,13 @@ ghost use Rattle.screen.specs.Here.{lost, earlier, later};
 pub(crate) fn turn(frame: Frame, place: Place, top: u8, layer: &mut [u8]) -> Place
     requires { ⌜ Stands frame place ⌝ }
     requires { ⌜ (1 ≤ top) × (top + frame .height ≤ frame .lines + 1) ⌝ }
-    requires { ⌜ length (now layer) ≡ 1280 ⌝ }
+    requires { ⌜ LayerOf frame (now layer) ⌝ }
     ensures { λ r. ⌜ ActsAbove (topped top) frame place r (now (layer .entry)) (now (layer .exit)) ⌝ }
 {
     if top == place.top {
         return place;
     }
-    marks::empty(layer);
+    marks::empty(frame, layer);
     places::top_at(place, top)
 }
 
@@ -103,7 +102,7 @@ pub(crate) fn misses(frame: Frame, place: Place) -> bool
 // After printing, 37, codes 8, 10, 13 the window moves "by the least amount".
 pub(crate) fn track(frame: Frame, place: Place, layer: &mut [u8]) -> Place
     requires { ⌜ Stands frame place ⌝ }
-    requires { ⌜ length (now layer) ≡ 1280 ⌝ }
+    requires { ⌜ LayerOf frame (now layer) ⌝ }
     ensures { λ r. ⌜ ActsAbove tracked frame place r (now (layer .entry)) (now (layer .exit)) ⌝ }
 {
     if misses(frame, place) {
@@ -116,7 +115,7 @@ pub(crate) fn track(frame: Frame, place: Place, layer: &mut [u8]) -> Place
 // "For 61 as 215 does."
 pub(crate) fn track_far(frame: Frame, place: Place, layer: &mut [u8]) -> Place
     requires { ⌜ Stands frame place ⌝ }
-    requires { ⌜ length (now layer) ≡ 1280 ⌝ }
+    requires { ⌜ LayerOf frame (now layer) ⌝ }
     ensures { λ r. ⌜ ActsAbove trackedFar frame place r (now (layer .entry)) (now (layer .exit)) ⌝ }
 {
     if misses(frame, place) {

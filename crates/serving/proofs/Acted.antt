@@ -1,6 +1,7 @@
--- Items that are no sequences change no settings and print nothing.
+-- Items that are no sequences change no settings, print nothing and are not 224.
 use mathlib.Core.Path.{_≡_, refl}
 use Prim.Native.Nat.{ℕ}
+use mathlib.Core.Bool.{false}
 use mathlib.Core.List.{List, [], _∷_}
 use denote.Enum.Declared.{tagOf}
 use types.Run.{OneOf, miss}
@@ -9,7 +10,7 @@ use Rattle.model.specs.declared.Item.the-variants.{Control, Printed, Refused, S
 use Rattle.model.specs.State.{State}
 use Rattle.model.specs.Items.{copyOf}
 use Rattle.model.proofs.Item.{the-type}
-use Rattle.serving.specs.Acting.{applied}
+use Rattle.serving.specs.Acting.{applied, draws?}
 
 -- the variants of an item, by their position, without the sequence
 abbrev others : List ℕ
@@ -21,3 +22,9 @@ no-sequence m (Printed b) st o = (refl, refl)
 no-sequence m (Control c) st o = (refl, refl)
 no-sequence m (Sequence q) st o = absurd (miss others 2 tt o)
 no-sequence m (Refused n) st o = (refl, refl)
+
+pub not-drawn : (i : Item) → OneOf others (tagOf the-type i) → draws? i ≡ false
+not-drawn (Printed b) o = refl
+not-drawn (Control c) o = refl
+not-drawn (Sequence q) o = absurd (miss others 2 tt o)
+not-drawn (Refused n) o = refl

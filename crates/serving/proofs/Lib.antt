@@ -2,3 +2,4 @@ pub mod Going
 pub mod Runs
 pub mod Acted
 pub mod Turns
+pub mod Layers

@@ -1,11 +1,12 @@
--- The loop's invariant over its own variables, and its three turns: a run of printed bytes, an item of the selected screen, and an
--- item that changes the settings. Each takes what the functions that the turn calls ensure.
+-- The loop's invariant over its own variables, and its four turns: a run of printed bytes, an item of the selected screen, 224, and
+-- another item that changes the settings. Each takes what the functions that the turn calls ensure. What stands is the settings with
+-- the place that is kept beside them.
 use mathlib.Core.Path.{_∙_, _≡_, ap, refl, subst, sym}
 use Prim.Native.Nat.{_+_, _-_, _^_, _<_, _≤_, ℕ}
 use native.Mathlib.Omega.{arith}
 use mathlib.Core.Bool.{Bool, cond, false, true}
 use mathlib.Core.List.{List, []}
-use lib.ListN.{drop, getD, length, take}
+use lib.ListN.{drop, getD, length, replicate, take}
 use lib.Dec.{eqb}
 use borrow.Author.Tests.{eqb-true}
 use Rattle.model.specs.declared.Item.{Item}
@@ -15,9 +16,9 @@ use Rattle.model.specs.declared.Outcome.{Outcome}
 use Rattle.model.specs.declared.Place.{Place}
 use Rattle.model.specs.declared.Settings.{Settings}
 use Rattle.model.specs.Bytes.{put}
-use Rattle.model.specs.State.{State, state}
+use Rattle.model.specs.State.{State, state, withStored}
 use Rattle.model.specs.Checks.{member}
-use Rattle.model.specs.Screens.{placeOf}
+use Rattle.model.specs.Screens.{base, columnsOf, height, linesOf, placeOf, textRows}
 use Rattle.model.specs.Sound.{Sound}
 use Rattle.model.specs.Judging.{allowed, judged, legalItem?, limitsOf}
 use Rattle.model.specs.Picture.{copied}
@@ -27,19 +28,21 @@ use Rattle.model.specs.Sequences.{codeOf}
 use Rattle.model.specs.Items.{copyOf, printerBytes}
 use Rattle.model.specs.OnScreen.{onScreen?, onScreenCodes, staysOnScreen?}
 use Rattle.model.proofs.Tests.{cond-at, differ}
+use Rattle.model.proofs.Frames.{Good}
 use Rattle.model.proofs.ItemLaws.{obeyed-item}
 use Rattle.model.proofs.Printing.{fits-room}
 use Rattle.reader.specs.declared.Reading.{Reading}
 use Rattle.reader.specs.Reading.{ReadAt}
 use Rattle.screen.specs.declared.Frame.{Frame}
 use Rattle.screen.specs.declared.run.Run.{Run}
-use Rattle.screen.specs.Frame.{FrameOf, Ready, Stands, limitsIn}
+use Rattle.screen.specs.Frame.{FrameOf, Framed, Ready, Stands, limitsIn}
 use Rattle.screen.specs.Acts.{withPlace}
 use Rattle.screen.specs.Run.{Ran, printedAll}
-use Rattle.screen.proofs.Acting.{framed-placed, placed-there}
+use Rattle.screen.proofs.Acting.{carried, framed-placed, placed-there, same-place}
+use Rattle.paint.specs.Paintable.{Paintable}
 use Rattle.serving.specs.declared.Counts.{Counts}
-use Rattle.serving.specs.Counting.{Countable, answerAt, countsWith}
-use Rattle.serving.specs.Acting.{Applying, Moves, applied}
+use Rattle.serving.specs.Counting.{Countable, answerAt, countsWith, noCounts}
+use Rattle.serving.specs.Acting.{Applied, Applying, BareThen, Drawing, Drawn, Moves, applied, draws?}
 use Rattle.serving.specs.Serves.{Servable, Serves}
 use Rattle.serving.proofs.Going.{Going, finish, start, turn}
 use Rattle.serving.proofs.Runs.{put-none, run}
@@ -53,47 +56,121 @@ stays-unprinted (Sequence q) st h =
     cond-at (λ (l : List ℕ). l ≡ []) (eqb (codeOf q) 80) (copied st) [] (λ e. absurd (differ (sym h ∙ ap (λ (n : ℕ). member n onScreenCodes) (eqb-true (codeOf q) 80 e)))) (λ e. refl)
 stays-unprinted (Refused n) st h = refl
 
+-- nor is 224
+draws-unprinted : (i : Item) (st : State) → draws? i ≡ true → copyOf i st ≡ []
+draws-unprinted (Printed b) st h = refl
+draws-unprinted (Control c) st h = refl
+draws-unprinted (Sequence q) st h =
+    cond-at (λ (l : List ℕ). l ≡ []) (eqb (codeOf q) 80) (copied st) [] (λ e. absurd (differ (sym h ∙ ap (λ (n : ℕ). eqb n 224) (eqb-true (codeOf q) 80 e)))) (λ e. refl)
+draws-unprinted (Refused n) st h = refl
+
+-- nor does 224 stay on the selected screen
+draws-away : (i : Item) → draws? i ≡ true → staysOnScreen? i ≡ false
+unfolding onScreen? member
+draws-away (Printed b) h = absurd (differ (sym h))
+draws-away (Control c) h = absurd (differ (sym h))
+draws-away (Sequence q) h = ap (λ (n : ℕ). member n onScreenCodes) (eqb-true (codeOf q) 224 h)
+draws-away (Refused n) h = absurd (differ (sym h))
+
+-- a frame that says otherwise of the layer
+abbrev bared : Frame → Bool → Frame
+bared f b = record { base = f .base; lines = f .lines; columns = f .columns; rows = f .rows; height = f .height; shift = f .shift; step = f .step; tracking = f .tracking; bare = b }
+
+framed-bared : {s : Settings} {f : Frame} (b : Bool) → Framed s f → Framed s (bared f b)
+framed-bared b e = record {
+  two-places = e .two-places;
+  selected-low = e .selected-low;
+  lines-are = e .lines-are;
+  columns-are = e .columns-are;
+  base-is = e .base-is;
+  rows-are = e .rows-are;
+  height-is = e .height-is;
+  shift-is = e .shift-is;
+  step-is = e .step-is;
+  tracking-is = e .tracking-is;
+}
+
+ready-bared : {f : Frame} {p : Place} {c l : List ℕ} (b : Bool) → Ready f p c l → (b ≡ true → l ≡ replicate 1280 0) → Ready (bared f b) p c l
+ready-bared b h k = let d = h .stands in record {
+  stands = record { among = d .among; columns-low = d .columns-low; lines-high = d .lines-high; height-low = d .height-low; height-high = d .height-high; step-high = d .step-high; fits = d .fits };
+  cells-are = h .cells-are;
+  layer-are = record { size = h .layer-are .size; empty = k };
+}
+
+-- patterns are no part of a frame
+framed-stored : {s : Settings} {f : Frame} (ps : List ℕ) → Framed s f → Framed (withStored s (s .kind) (s .keys) ps) f
+unfolding linesOf columnsOf textRows height base
+framed-stored ps e = record {
+  two-places = e .two-places;
+  selected-low = e .selected-low;
+  lines-are = e .lines-are;
+  columns-are = e .columns-are;
+  base-is = e .base-is;
+  rows-are = e .rows-are;
+  height-is = e .height-is;
+  shift-is = e .shift-is;
+  step-is = e .step-is;
+  tracking-is = e .tracking-is;
+}
+
+-- what is known of the layer after an item, by what was known before it
+bare-then : {i : Item} {b r : Bool} → BareThen i b r → (m : ℕ → ℕ) (st : State) → (b ≡ true → applyItem m i st .layer ≡ replicate 1280 0) → r ≡ true → applyItem m i st .layer ≡ replicate 1280 0
+bare-then {b = true} h m st k e = k refl
+bare-then {b = false} h m st k e = h .clears e refl m st
+
 module _ (m cells₀ layer₀ printer₀ : List ℕ) (s₀ : Settings) where
-  pub record Loop (cells layer printer : List ℕ) (s : Settings) (f : Frame) (c : Counts) (at : ℕ) : Type 0 where
-    pub going : Going m (state s₀ cells₀ layer₀) printer₀ at (state s cells layer) c printer
-    pub frame : FrameOf s f
+  pub record Loop (cells layer printer : List ℕ) (s : Settings) (p : Place) (f : Frame) (c : Counts) (at : ℕ) : Type 0 where
+    pub going : Going m (state s₀ cells₀ layer₀) printer₀ at (state (withPlace s p) cells layer) c printer
+    pub framed : Framed s f
+    pub ready : Ready f p cells layer
     pub short : length m ≤ 4096
 
-  pub begin : {f : Frame} → Servable s₀ m cells₀ layer₀ → FrameOf s₀ f → {c : Counts} → c ≡ record { accepted = 0; refused = 0; first = 0; offset = 0; printed = 0 } → Loop cells₀ layer₀ printer₀ s₀ f c 0
-  begin v f e = record {
-    going = subst (λ x. Going m (state s₀ cells₀ layer₀) printer₀ 0 (state s₀ cells₀ layer₀) x printer₀) (sym e) (start m (state s₀ cells₀ layer₀) printer₀ (record { sound = v .sound; cells-are = v .cells-are; layer-are = v .layer-are }));
-    frame = f;
+  pub begin : {f : Frame} {p : Place} {b : Bool} → Servable s₀ m cells₀ layer₀ → (FrameOf s₀ f) × (f .bare ≡ b) → (b ≡ true → layer₀ ≡ replicate (length layer₀) 0) → p ≡ placeOf s₀ (s₀ .selected)
+      → {c : Counts} → c ≡ noCounts → Loop cells₀ layer₀ printer₀ s₀ p f c 0
+  begin {p = p} v f k h e = record {
+    going = subst (λ x. Going m (state s₀ cells₀ layer₀) printer₀ 0 (state (withPlace s₀ p) cells₀ layer₀) x printer₀) (sym e)
+        (subst (λ (x : Settings). Going m (state s₀ cells₀ layer₀) printer₀ 0 (state x cells₀ layer₀) noCounts printer₀) (sym (same-place s₀ p (sym h)))
+        (start m (state s₀ cells₀ layer₀) printer₀ (record { sound = v .sound; cells-are = v .cells-are; layer-are = v .layer-are })));
+    framed = f .0 .framed;
+    ready = record {
+      stands = subst (Stands _) (sym h) (f .0 .stands);
+      cells-are = v .cells-are;
+      layer-are = record { size = v .layer-are; empty = λ t. k (sym (f .1) ∙ t) ∙ ap (λ (n : ℕ). replicate n 0) (v .layer-are) };
+    };
     short = v .short;
   }
 
-  module _ {cells layer printer : List ℕ} {s : Settings} {f : Frame} {c : Counts} {at : ℕ} (g : Loop cells layer printer s f c at) where
-    pub ready : Ready f (placeOf s (s .selected)) cells layer
-    ready = record { stands = g .frame .stands; cells-are = g .going .good .cells-are; layer-are = g .going .good .layer-are }
+  module _ {cells layer printer : List ℕ} {s : Settings} {p : Place} {f : Frame} {c : Counts} {at : ℕ} (g : Loop cells layer printer s p f c at) where
+    -- what stands
+    abbrev st : State
+    st = state (withPlace s p) cells layer
 
-    -- the frame stays over a moved place
-    framed : {cells′ layer′ : List ℕ} (r : Place) → Ready f r cells′ layer′ → FrameOf (withPlace s r) f
-    framed r h = record { framed = framed-placed r (g .frame .framed); stands = subst (Stands f) (sym (placed-there r (g .frame .framed))) (h .stands) }
+    pub paintable : Paintable (withPlace s p) cells layer
+    paintable = record { sound = g .going .good .sound; cells-are = g .going .good .cells-are; layer-are = g .going .good .layer-are }
 
-    pub ran : {cells′ layer′ : List ℕ} (r : Run) (s′ : Settings) → Ran m at f (placeOf s (s .selected)) r cells layer cells′ layer′ → s′ ≡ withPlace s (r .place) → Loop cells′ layer′ printer s′ f c (r .at)
-    ran {cells′} {layer′} r s′ w e =
+    pub ran : {cells′ layer′ : List ℕ} (r : Run) → Ran m at f p r cells layer cells′ layer′ → Loop cells′ layer′ printer s (r .place) f c (r .at)
+    ran {cells′} {layer′} r w =
         let n : at + (r .at - at) ≡ r .at = omega (arith, w .some) in
-        let done : state s′ cells′ layer′ ≡ printedAll (take (r .at - at) (drop at m)) (state s cells layer) = ap (λ (x : Settings). state x cells′ layer′) e ∙ sym (w .acts .does s (g .frame .framed) refl) in
-        let g₂ = run m (state s₀ cells₀ layer₀) printer₀ (r .at - at) at (state s cells layer) c printer (g .going) (omega (arith, n, w .inside)) (λ j u v. w .print j u (omega (arith, n, v))) in
+        let g₂ = run m (state s₀ cells₀ layer₀) printer₀ (r .at - at) at st c printer (g .going) (omega (arith, n, w .inside)) (λ j u v. w .print j u (omega (arith, n, v))) in
         record {
-          going = subst (λ (x : State). Going m (state s₀ cells₀ layer₀) printer₀ (r .at) x c printer) (sym done)
-              (subst (λ (x : ℕ). Going m (state s₀ cells₀ layer₀) printer₀ x (printedAll (take (r .at - at) (drop at m)) (state s cells layer)) c printer) n g₂);
-          frame = subst (λ (x : Settings). FrameOf x f) (sym e) (framed (r .place) (w .acts .ready));
+          going = subst (λ (x : State). Going m (state s₀ cells₀ layer₀) printer₀ (r .at) x c printer) (carried (g .framed) (w .acts))
+              (subst (λ (x : ℕ). Going m (state s₀ cells₀ layer₀) printer₀ x (printedAll (take (r .at - at) (drop at m)) st) c printer) n g₂);
+          framed = g .framed;
+          ready = w .acts .ready;
           short = g .short;
         }
 
-    limits : limitsIn f ≡ limitsOf s
-    limits = let e = g .frame .framed in λ i. record { lines = e .lines-are i; columns = e .columns-are i; height = e .height-is i }
+    limits : limitsIn f ≡ limitsOf (withPlace s p)
+    limits = let e = framed-placed p (g .framed) in λ i. record { lines = e .lines-are i; columns = e .columns-are i; height = e .height-is i }
 
     module _ (more : at < length m) (r : Reading) (w : ReadAt m at (limitsIn f) (length printer - c .printed) r) where
-      is-item : r .item ≡ judged (itemOf at (ownBytes m at)) (limitsOf s) (length printer₀ - c .printed)
+      abbrev rule : State → State
+      rule = applyItem (λ o. getD m o 0) (r .item)
+
+      is-item : r .item ≡ judged (itemOf at (ownBytes m at)) (limitsOf (withPlace s p)) (length printer₀ - c .printed)
       is-item = w .item-is ∙ (λ i. judged (itemOf at (ownBytes m at)) (limits i) (g .going .same-size i - c .printed))
 
-      pub legal : legalItem? (r .item) (limitsOf s) ≡ true
+      legal : legalItem? (r .item) (limitsOf (withPlace s p)) ≡ true
       legal = subst (λ (l : Limits). legalItem? (r .item) l ≡ true) limits (w .legal)
 
       pub roomy : c .printed + printerBytes (r .item) ≤ length printer
@@ -105,36 +182,84 @@ module _ (m cells₀ layer₀ printer₀ : List ℕ) (s₀ : Settings) where
       countable h = record { few = omega (arith, g .going .few, g .short, more); near = omega (arith, g .short, more); roomy = omega (arith, roomy) }
 
       -- an item obeyed, by whatever it came about
-      obeyed : {cells′ layer′ printer′ : List ℕ} {s′ : Settings} {f′ : Frame} → FrameOf s′ f′ → state s′ cells′ layer′ ≡ applyItem (λ o. getD m o 0) (r .item) (state s cells layer)
-          → printer′ ≡ put (c .printed) (copyOf (r .item) (state s cells layer)) printer → {c′ : Counts} → c′ ≡ countsWith (r .item) at c → Loop cells′ layer′ printer′ s′ f′ c′ (at + r .length)
-      obeyed {cells′} {layer′} {printer′} {s′} h e p k = record {
-        going = subst (λ (x : Counts). Going m (state s₀ cells₀ layer₀) printer₀ (at + r .length) (state s′ cells′ layer′) x printer′) (sym k)
-            (turn m (state s₀ cells₀ layer₀) printer₀ at (state s cells layer) c printer (g .going) more (r .item) is-item (r .length) _ _ (w .length-is) (w .inside) legal (w .some) (omega (arith, roomy, g .going .same-size)) e p);
-        frame = h;
+      obeyed : {cells′ layer′ printer′ : List ℕ} {s′ : Settings} {p′ : Place} {f′ : Frame} → Framed s′ f′ → Ready f′ p′ cells′ layer′ → state (withPlace s′ p′) cells′ layer′ ≡ rule st
+          → printer′ ≡ put (c .printed) (copyOf (r .item) st) printer → {c′ : Counts} → c′ ≡ countsWith (r .item) at c → Loop cells′ layer′ printer′ s′ p′ f′ c′ (at + r .length)
+      obeyed {cells′} {layer′} {printer′} {s′} {p′} h d e q k = record {
+        going = subst (λ (x : Counts). Going m (state s₀ cells₀ layer₀) printer₀ (at + r .length) (state (withPlace s′ p′) cells′ layer′) x printer′) (sym k)
+            (turn m (state s₀ cells₀ layer₀) printer₀ at st c printer (g .going) more (r .item) is-item (r .length) _ _ (w .length-is) (w .inside) legal (w .some) (omega (arith, roomy, g .going .same-size)) e q);
+        framed = h;
+        ready = d;
         short = g .short;
       }
 
-      pub acted : {cells′ layer′ : List ℕ} (q : Place) (s′ : Settings) (c′ : Counts) → staysOnScreen? (r .item) ≡ true → Moves (r .item) f (placeOf s (s .selected)) q cells layer cells′ layer′ → s′ ≡ withPlace s q
-          → c′ ≡ countsWith (r .item) at c → Loop cells′ layer′ printer s′ f c′ (at + r .length)
-      acted {cells′} {layer′} q s′ c′ h a e k =
+      -- one that prints nothing
+      unprinted : copyOf (r .item) st ≡ [] → printer ≡ put (c .printed) (copyOf (r .item) st) printer
+      unprinted h = sym (ap (λ (ys : List ℕ). put (c .printed) ys printer) h ∙ put-none (c .printed) printer)
+
+      pub acted : {cells′ layer′ : List ℕ} {q : Place} {b : Bool} {c′ : Counts} → staysOnScreen? (r .item) ≡ true → Moves (r .item) f p q cells layer cells′ layer′ → BareThen (r .item) (f .bare) b
+          → c′ ≡ countsWith (r .item) at c → Loop cells′ layer′ printer s q (bared f b) c′ (at + r .length)
+      acted {cells′} {layer′} {q} {b} h a t k =
           let d = a h (λ o. getD m o 0) in
-          obeyed (subst (λ (x : Settings). FrameOf x f) (sym e) (framed q (d .ready))) (ap (λ (x : Settings). state x cells′ layer′) e ∙ sym (d .does s (g .frame .framed) refl))
-          (sym (ap (λ (ys : List ℕ). put (c .printed) ys printer) (stays-unprinted (r .item) (state s cells layer) h) ∙ put-none (c .printed) printer)) k
+          let e : rule st ≡ state (withPlace s q) cells′ layer′ = carried (g .framed) d in
+          let l : rule st .layer ≡ layer′ = ap (λ (x : State). x .layer) e in
+          obeyed (framed-bared b (g .framed)) (ready-bared b (d .ready) (λ u. sym l ∙ bare-then t (λ o. getD m o 0) st (λ v. l ∙ d .ready .layer-are .empty v) u)) (sym e) (unprinted (stays-unprinted (r .item) st h)) k
 
-      pub applying : Applying s (r .item) m cells layer
-      applying = record { sound = g .going .good .sound; cells-are = g .going .good .cells-are; layer-are = g .going .good .layer-are; legal = legal; rows = w .rows-inside }
+      -- the settings with the place put back into them
+      module _ {s₁ : Settings} (back : s₁ ≡ withPlace s p) where
+        abbrev stood : State
+        stood = state s₁ cells layer
 
-      module _ {cells′ layer′ : List ℕ} {s′ : Settings} (h : staysOnScreen? (r .item) ≡ false) (a : state s′ cells′ layer′ ≡ applied m (r .item) (state s cells layer)) where
-        did : state s′ cells′ layer′ ≡ applyItem (λ o. getD m o 0) (r .item) (state s cells layer)
+        same : stood ≡ st
+        same = ap (λ (x : Settings). state x cells layer) back
+
+        pub ready-to-paint : Paintable s₁ cells layer
+        ready-to-paint = subst (λ (x : Settings). Paintable x cells layer) (sym back) paintable
+
+        legal-back : legalItem? (r .item) (limitsOf s₁) ≡ true
+        legal-back = subst (λ (x : Settings). legalItem? (r .item) (limitsOf x) ≡ true) (sym back) legal
+
+        pub applying : Applying s₁ (r .item) cells layer
+        applying = let e = ready-to-paint in record { sound = e .sound; cells-are = e .cells-are; layer-are = e .layer-are; legal = legal-back }
+
+        pub drawing : Drawing s₁ (r .item) m
+        drawing = record { sound = ready-to-paint .sound; legal = legal-back; rows = w .rows-inside }
+
+        did : {x : State} → staysOnScreen? (r .item) ≡ false → x ≡ applied m (r .item) stood → x ≡ rule st
         unfolding applied
-        did = a ∙ ap (λ (b : Bool). cond b (state s cells layer) (applyItem (λ o. getD m o 0) (r .item) (state s cells layer))) h
+        did h a = a ∙ ap (λ (b : Bool). cond b stood (rule stood)) h ∙ ap rule same
 
-        pub sound-then : Sound s′
-        sound-then = subst (λ (x : State). Sound (x .settings)) (sym did) (obeyed-item (λ o. getD m o 0) (r .item) (state s cells layer) (g .going .good) legal .good .sound)
+        -- 224
+        pub drew : {s′ : Settings} {c′ : Counts} → draws? (r .item) ≡ true → Drawn s₁ (r .item) m s′ → c′ ≡ countsWith (r .item) at c → Loop cells layer printer s′ p f c′ (at + r .length)
+        unfolding placeOf
+        drew {s′} h d k =
+            let e : Framed s₁ f = subst (λ (x : Settings). Framed x f) (sym back) (framed-placed p (g .framed)) in
+            let here : placeOf s₁ (s₁ .selected) ≡ p = ap (λ (x : Settings). placeOf x (x .selected)) back ∙ placed-there p (g .framed) in
+            let here′ : placeOf s′ (s′ .selected) ≡ p = ap (λ (x : Settings). placeOf x (x .selected)) (d .rest) ∙ here in
+            obeyed (subst (λ (x : Settings). Framed x f) (sym (d .rest)) (framed-stored (s′ .patterns) e)) (g .ready)
+            (ap (λ (x : Settings). state x cells layer) (same-place s′ p here′) ∙ did (draws-away (r .item) h) (d .does h cells layer)) (unprinted (draws-unprinted (r .item) st h)) k
 
-        pub changed : {printer′ : List ℕ} {f′ : Frame} {c′ : Counts} → FrameOf s′ f′ → printer′ ≡ put (c .printed) (copyOf (r .item) (state s cells layer)) printer → c′ ≡ countsWith (r .item) at c
-            → Loop cells′ layer′ printer′ s′ f′ c′ (at + r .length)
-        changed f p k = obeyed f did p k
+        -- another item that changes the settings
+        module _ {cells′ layer′ : List ℕ} {s′ s₂ : Settings} (h : staysOnScreen? (r .item) ≡ false) (j : draws? (r .item) ≡ false) (a : Applied s₁ (r .item) s′ cells layer cells′ layer′) (e : s₂ ≡ s′) where
+          done : state s₂ cells′ layer′ ≡ rule st
+          done = ap (λ (x : Settings). state x cells′ layer′) e ∙ did h (a .does j m)
 
-    pub end : (r : Outcome) → length m ≤ at → r .settings ≡ s → r .answer ≡ answerAt at c → Serves m (state s₀ cells₀ layer₀) printer₀ r cells layer printer
-    end r h e a = finish m (state s₀ cells₀ layer₀) printer₀ at (state s cells layer) c printer (g .going) h r (ap (λ (x : Settings). state x cells layer) e) a
+          good : Good (state s₂ cells′ layer′)
+          good = subst Good (sym done) (obeyed-item (λ o. getD m o 0) (r .item) st (g .going .good) legal .good)
+
+          pub sound-then : Sound s₂
+          sound-then = good .sound
+
+          pub changed : {printer′ : List ℕ} {p₂ : Place} {f₂ : Frame} {b : Bool} {c′ : Counts} → p₂ ≡ placeOf s₂ (s₂ .selected) → (FrameOf s₂ f₂) × (f₂ .bare ≡ b) → BareThen (r .item) (f .bare) b
+              → printer′ ≡ put (c .printed) (copyOf (r .item) stood) printer → c′ ≡ countsWith (r .item) at c → Loop cells′ layer′ printer′ s₂ p₂ f₂ c′ (at + r .length)
+          changed {p₂ = p₂} {f₂ = f₂} i q t u k =
+              let l : rule st .layer ≡ layer′ = ap (λ (x : State). x .layer) (sym done) in
+              obeyed (q .0 .framed)
+              (record {
+                stands = subst (Stands f₂) (sym i) (q .0 .stands);
+                cells-are = good .cells-are;
+                layer-are = record { size = good .layer-are; empty = λ v. sym l ∙ bare-then t (λ o. getD m o 0) st (λ x. t .keeps (sym (q .1) ∙ v) h (λ o. getD m o 0) st (g .ready .layer-are .empty x)) (sym (q .1) ∙ v) };
+              })
+              (ap (λ (x : Settings). state x cells′ layer′) (same-place s₂ p₂ (sym i)) ∙ done) (u ∙ ap (λ (x : State). put (c .printed) (copyOf (r .item) x) printer) same) k
+
+    pub end : (r : Outcome) → length m ≤ at → r .settings ≡ withPlace s p → r .answer ≡ answerAt at c → Serves m (state s₀ cells₀ layer₀) printer₀ r cells layer printer
+    end r h e a = finish m (state s₀ cells₀ layer₀) printer₀ at st c printer (g .going) h r (ap (λ (x : Settings). state x cells layer) e) a

@@ -11,11 +11,12 @@ ghost use Rattle.model.specs.Judging.{legalItem?};
 ghost use Rattle.reader.specs.Reading.{ReadAt};
 ghost use Rattle.screen.specs.Frame.{Ready, limitsIn};
 ghost use Rattle.paint.specs.Paintable.{Paintable};
-ghost use Rattle.serving.specs.Acting.{Moves, Applying, applied};
+ghost use Rattle.serving.specs.Acting.{Moves, BareThen, Applying, Applied, draws?, Drawing, Drawn};
 use crate::counting::is_copy;
 use model::Item;
 use model::Limits;
 use model::Place;
+use model::Sequence;
 use model::Settings;
 use reader::Reading;
 use screen::Frame;
@@ -66,22 +67,78 @@ pub(crate) fn act(
     }
 }
 
+// What is known of the layer after an item: it is empty (true), or nothing is known of it.
+pub(crate) fn bare_after(item: Item, bare: bool) -> bool
+    ensures { λ r. ⌜ BareThen item bare r ⌝ }
+{
+    match item {
+        Item::Control(c) => bare | (c == 12),
+        Item::Sequence(q) => bare_then(q, bare),
+        _ => bare,
+    }
+}
+
+// The same of a sequence: 210 marks the layer, these others "empty the whole layer".
+fn bare_then(q: Sequence, bare: bool) -> bool
+    ensures { λ r. ⌜ BareThen (Item.Sequence q) bare r ⌝ }
+{
+    match q {
+        Sequence::Mark {
+            row: _,
+            column: _,
+            code: _,
+        } => false,
+        Sequence::Clear => true,
+        Sequence::EraseLine => true,
+        Sequence::EraseRest => true,
+        Sequence::LinesUp { from: _, count: _ } => true,
+        Sequence::LinesDown { from: _, count: _ } => true,
+        Sequence::Mode0 {
+            lines1: _,
+            lines2: _,
+        } => true,
+        Sequence::Mode1 { lines: _ } => true,
+        Sequence::Mode2 {
+            lines: _,
+            columns: _,
+            boundary: _,
+        } => true,
+        Sequence::Select(_) => true,
+        _ => bare,
+    }
+}
+
 // "A refused sequence changes nothing but the counts and the first refusal": the accepted case is taken apart, else the settings
-// are those that were given.
-pub(crate) fn apply(
-    settings: Settings,
-    item: Item,
-    message: &[u8],
-    cells: &mut [u8],
-    layer: &mut [u8],
-) -> Settings
-    requires { ⌜ Applying settings item (now message) (now cells) (now layer) ⌝ }
-    ensures { λ r. ⌜ state r (now (cells .exit)) (now (layer .exit)) ≡ applied (now (message .entry)) item (state settings (now (cells .entry)) (now (layer .entry))) ⌝ }
+// are those that were given. 224 is not done here.
+pub(crate) fn apply(settings: Settings, item: Item, cells: &mut [u8], layer: &mut [u8]) -> Settings
+    requires { ⌜ Applying settings item (now cells) (now layer) ⌝ }
+    ensures { λ r. ⌜ Applied settings item r (now (cells .entry)) (now (layer .entry)) (now (cells .exit)) (now (layer .exit)) ⌝ }
 {
     let Item::Sequence(q) = item else {
         return settings;
     };
-    settings::obey(settings, q, message, cells, layer)
+    settings::obey(settings, q, cells, layer)
+}
+
+// Whether an item is 224.
+pub(crate) fn draws(item: Item) -> bool
+    ensures { λ r. ⌜ r ≡ draws? item ⌝ }
+{
+    let Item::Sequence(q) = item else {
+        return false;
+    };
+    settings::draws(q)
+}
+
+// 224: "its eight rows stored".
+pub(crate) fn draw(settings: Settings, item: Item, message: &[u8]) -> Settings
+    requires { ⌜ Drawing settings item (now message) ⌝ }
+    ensures { λ r. ⌜ Drawn settings item (now (message .entry)) r ⌝ }
+{
+    let Item::Sequence(q) = item else {
+        return settings;
+    };
+    settings::draw(settings, q, message)
 }
 
 // 80: "appends the picture at that moment"; any other item prints nothing.

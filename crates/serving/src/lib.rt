@@ -1,19 +1,34 @@
-// The message loop: items read one after the other, each obeyed, counted and, for a copy, printed.
+// The message loop: items read one after the other, each obeyed, counted and, for a copy, printed; then the picture is painted.
 mod acting;
 mod counting;
+mod places;
 
+ghost use mathlib.Core.Path.{_≡_};
+ghost use mathlib.Core.Bool.{true};
+ghost use lib.ListN.{length, replicate};
 ghost use Rattle.model.specs.State.{state};
+ghost use Rattle.model.specs.Picture.{painting};
+ghost use Rattle.screen.specs.Acts.{withPlace};
+ghost use Rattle.paint.specs.Paintable.{Paintable};
 ghost use Rattle.serving.specs.Serves.{Servable, Serves};
 use acting::act;
 use acting::apply;
+use acting::bare_after;
+use acting::draw;
+use acting::draws;
 use acting::print_copy;
 use acting::read_at;
 use acting::stays;
 use counting::answer_of;
 use counting::count;
 use counting::no_counts;
+use model::Answer;
 use model::Outcome;
+use model::Place;
 use model::Settings;
+use places::chosen;
+use places::keep_patterns;
+use places::placed;
 
 // What the answer counts, while a message is served.
 pub struct Counts {
@@ -24,29 +39,29 @@ pub struct Counts {
     pub printed: usize,
 }
 
-// "An accepted message is read into items; each in turn changes what stands as its rule says". The settings stay where they are: a run of
-// printed bytes and an item of the selected screen only move its place.
+// "An accepted message is read into items; each in turn changes what stands as its rule says"; "it always ends by painting". The settings
+// stay where they are: the selected screen's place is kept beside them, and a run of printed bytes and an item of that screen only move
+// it. Nothing here takes an index into the settings that is not a literal, so that a compiler keeps them in registers.
 pub fn serve(
     settings: Settings,
     message: &[u8],
     cells: &mut [u8],
     layer: &mut [u8],
+    shown: &mut [u8],
     printer: &mut [u8],
 ) -> Outcome
-    requires { ⌜ Servable settings (now message) (now cells) (now layer) ⌝ }
-    ensures { λ r. ⌜ Serves (now (message .entry)) (state settings (now (cells .entry)) (now (layer .entry))) (now (printer .entry)) r (now (cells .exit)) (now (layer .exit)) (now (printer .exit)) ⌝ }
+    requires { ⌜ (Servable settings (now message) (now cells) (now layer)) × (length (now shown) ≡ 640) ⌝ }
+    ensures { λ r. ⌜ (Serves (now (message .entry)) (state settings (now (cells .entry)) (now (layer .entry))) (now (printer .entry)) r (now (cells .exit)) (now (layer .exit)) (now (printer .exit))) × (now (shown .exit) ≡ painting (state (r .settings) (now (cells .exit)) (now (layer .exit)))) ⌝ }
 {
     let mut s = settings;
-    let mut frame = screen::frame_of(s);
+    let mut place = chosen(s);
+    let mut frame = screen::frame_of(s, store::all_zero(layer));
     let mut counts = no_counts();
     let mut at = 0;
     while at < message.len() {
-        let chosen = s.selected as usize;
-        let place = s.places[chosen];
         if message[at] >= 32 {
             let run = screen::run::print_run(frame, place, message, at, cells, layer);
-            let next = run.place;
-            s.places[chosen] = next;
+            place = run.place;
             at = run.at;
             continue;
         }
@@ -56,17 +71,46 @@ pub fn serve(
         let size = read.length;
         counts = count(counts, item, at);
         if stays(item) {
-            let next = act(frame, place, item, cells, layer);
-            s.places[chosen] = next;
+            place = act(frame, place, item, cells, layer);
+            frame.bare = bare_after(item, frame.bare);
+            at += size;
+            continue;
+        }
+        let places = placed(s, place);
+        s.places = places;
+        if draws(item) {
+            s = draw(s, item, message);
             at += size;
             continue;
         }
         print_copy(s, item, cells, layer, printer, printed);
-        s = apply(s, item, message, cells, layer);
-        frame = screen::frame_of(s);
+        let next = apply(s, item, cells, layer);
+        s = keep_patterns(s, next);
+        place = chosen(s);
+        frame = screen::frame_of(s, bare_after(item, frame.bare));
         at += size;
     }
     let answer = answer_of(counts, at);
+    finish(s, place, frame.bare, answer, cells, layer, shown)
+}
+
+// The end of a message: the place goes back into the settings, and all 640 places are painted.
+fn finish(
+    settings: Settings,
+    place: Place,
+    bare: bool,
+    answer: Answer,
+    cells: &[u8],
+    layer: &[u8],
+    shown: &mut [u8],
+) -> Outcome
+    requires { ⌜ (Paintable (withPlace settings place) (now cells) (now layer)) × ((bare ≡ true → now layer ≡ replicate 1280 0) × (length (now shown) ≡ 640)) ⌝ }
+    ensures { λ r. ⌜ (r .settings ≡ withPlace settings place) × ((r .answer ≡ answer) × (now (shown .exit) ≡ painting (state (withPlace settings place) (now (cells .entry)) (now (layer .entry))))) ⌝ }
+{
+    let mut s = settings;
+    let places = placed(s, place);
+    s.places = places;
+    paint::paint(s, bare, cells, layer, shown);
     Outcome {
         settings: s,
         answer,

@@ -1,67 +1,86 @@
--- The sequences that change nothing here: crate screen's, 80, 198, 199 and 246.
+-- What the last arms know of a sequence, case by case. In `obey` it changes nothing (crate screen's, 80, 198, 199 and 246) or is 224; in
+-- `draws` and `draw` it is not 224.
 use mathlib.Core.Path.{_≡_, refl}
 use Prim.Native.Nat.{ℕ}
-use mathlib.Core.List.{List, [], _∷_}
+use mathlib.Core.Bool.{false}
+use mathlib.Core.List.{List, [], _∷_, _++_}
+use lib.Dec.{eqb}
 use denote.Enum.Declared.{tagOf}
 use types.Run.{OneOf, miss}
 use Rattle.model.specs.declared.Sequence.{Sequence as Seq}
 use Rattle.model.specs.declared.Sequence.the-variants.{PrintCode, Clear, CursorOff, CursorOn, Put, Charset, Copy, EraseLine, EraseRest, SecretOn, SecretOff, LinesUp, LinesDown, Step, Tracking, WindowUp, WindowDown, InsOn, InsOff, CapsOn, CapsOff, NumOn, NumOff, StringsOff, StringsOn, DrawLine, DrawDot, Mode0, Mode1, Mode2, Select, Mark, Display, WindowTop, WindowBottom, CursorKind, WindowCursor, Pattern, Repeat, RepeatDelay, RepeatInterval, Arrows1, Arrows2, Arrows3, Nothing, Shift}
+use Rattle.model.specs.Bytes.{listFrom}
 use Rattle.model.specs.State.{State}
 use Rattle.model.specs.Checks.{member}
+use Rattle.model.specs.Sequences.{codeOf}
 use Rattle.model.specs.OnScreen.{onScreen?}
 use Rattle.model.specs.Rules.{obeyed}
 use Rattle.model.proofs.Sequence.{the-type}
+use Rattle.model.proofs.Tests.{differ}
 use Rattle.settings.specs.Obey.{settled}
 
 -- the variants, by their position, that `obey` leaves to its last arm
-abbrev others : List ℕ
-others = 0 ∷ 1 ∷ 4 ∷ 6 ∷ 7 ∷ 8 ∷ 11 ∷ 12 ∷ 15 ∷ 16 ∷ 25 ∷ 26 ∷ 33 ∷ 34 ∷ 36 ∷ 44 ∷ []
+abbrev idlers : List ℕ
+idlers = 0 ∷ 1 ∷ 4 ∷ 6 ∷ 7 ∷ 8 ∷ 11 ∷ 12 ∷ 15 ∷ 16 ∷ 25 ∷ 26 ∷ 33 ∷ 34 ∷ 36 ∷ 37 ∷ 44 ∷ []
 
-pub idle : (m : List ℕ) {st : State} (q : Seq) → OneOf others (tagOf the-type q) → st ≡ settled m q st
+-- those that `draws` and `draw` leave to theirs: all but 224
+abbrev drawless : List ℕ
+drawless = listFrom (λ n. n) 0 37 ++ listFrom (λ n. n) 38 8
+
+-- those of the first list change nothing, 224 apart; those of the second are not 224
+told : (q : Seq) → (OneOf idlers (tagOf the-type q) → eqb (codeOf q) 224 ≡ false → (m : List ℕ) (st : State) → st ≡ settled m q st) × (OneOf drawless (tagOf the-type q) → eqb (codeOf q) 224 ≡ false)
 unfolding settled onScreen? member obeyed
-idle m (PrintCode a) z = refl
-idle m Clear z = refl
-idle m CursorOff z = absurd (miss others 2 tt z)
-idle m CursorOn z = absurd (miss others 3 tt z)
-idle m (Put a b) z = refl
-idle m (Charset a) z = absurd (miss others 5 tt z)
-idle m Copy z = refl
-idle m EraseLine z = refl
-idle m EraseRest z = refl
-idle m SecretOn z = absurd (miss others 9 tt z)
-idle m SecretOff z = absurd (miss others 10 tt z)
-idle m (LinesUp a b) z = refl
-idle m (LinesDown a b) z = refl
-idle m (Step a) z = absurd (miss others 13 tt z)
-idle m (Tracking a) z = absurd (miss others 14 tt z)
-idle m WindowUp z = refl
-idle m WindowDown z = refl
-idle m InsOn z = absurd (miss others 17 tt z)
-idle m InsOff z = absurd (miss others 18 tt z)
-idle m CapsOn z = absurd (miss others 19 tt z)
-idle m CapsOff z = absurd (miss others 20 tt z)
-idle m NumOn z = absurd (miss others 21 tt z)
-idle m NumOff z = absurd (miss others 22 tt z)
-idle m StringsOff z = absurd (miss others 23 tt z)
-idle m StringsOn z = absurd (miss others 24 tt z)
-idle m (DrawLine a b c d e f g h i j k) z = refl
-idle m (DrawDot a b c d) z = refl
-idle m (Mode0 a b) z = absurd (miss others 27 tt z)
-idle m (Mode1 a) z = absurd (miss others 28 tt z)
-idle m (Mode2 a b c) z = absurd (miss others 29 tt z)
-idle m (Select a) z = absurd (miss others 30 tt z)
-idle m (Mark a b c) z = absurd (miss others 31 tt z)
-idle m (Display a) z = absurd (miss others 32 tt z)
-idle m WindowTop z = refl
-idle m WindowBottom z = refl
-idle m (CursorKind a) z = absurd (miss others 35 tt z)
-idle m WindowCursor z = refl
-idle m (Pattern a b) z = absurd (miss others 37 tt z)
-idle m (Repeat a) z = absurd (miss others 38 tt z)
-idle m (RepeatDelay a) z = absurd (miss others 39 tt z)
-idle m (RepeatInterval a) z = absurd (miss others 40 tt z)
-idle m (Arrows1 a b c d) z = absurd (miss others 41 tt z)
-idle m (Arrows2 a b c d) z = absurd (miss others 42 tt z)
-idle m (Arrows3 a b c d) z = absurd (miss others 43 tt z)
-idle m Nothing z = refl
-idle m (Shift a) z = absurd (miss others 45 tt z)
+told (PrintCode a) = (λ z e m st. refl, λ z. refl)
+told Clear = (λ z e m st. refl, λ z. refl)
+told CursorOff = (λ z. absurd (miss idlers 2 tt z), λ z. refl)
+told CursorOn = (λ z. absurd (miss idlers 3 tt z), λ z. refl)
+told (Put a b) = (λ z e m st. refl, λ z. refl)
+told (Charset a) = (λ z. absurd (miss idlers 5 tt z), λ z. refl)
+told Copy = (λ z e m st. refl, λ z. refl)
+told EraseLine = (λ z e m st. refl, λ z. refl)
+told EraseRest = (λ z e m st. refl, λ z. refl)
+told SecretOn = (λ z. absurd (miss idlers 9 tt z), λ z. refl)
+told SecretOff = (λ z. absurd (miss idlers 10 tt z), λ z. refl)
+told (LinesUp a b) = (λ z e m st. refl, λ z. refl)
+told (LinesDown a b) = (λ z e m st. refl, λ z. refl)
+told (Step a) = (λ z. absurd (miss idlers 13 tt z), λ z. refl)
+told (Tracking a) = (λ z. absurd (miss idlers 14 tt z), λ z. refl)
+told WindowUp = (λ z e m st. refl, λ z. refl)
+told WindowDown = (λ z e m st. refl, λ z. refl)
+told InsOn = (λ z. absurd (miss idlers 17 tt z), λ z. refl)
+told InsOff = (λ z. absurd (miss idlers 18 tt z), λ z. refl)
+told CapsOn = (λ z. absurd (miss idlers 19 tt z), λ z. refl)
+told CapsOff = (λ z. absurd (miss idlers 20 tt z), λ z. refl)
+told NumOn = (λ z. absurd (miss idlers 21 tt z), λ z. refl)
+told NumOff = (λ z. absurd (miss idlers 22 tt z), λ z. refl)
+told StringsOff = (λ z. absurd (miss idlers 23 tt z), λ z. refl)
+told StringsOn = (λ z. absurd (miss idlers 24 tt z), λ z. refl)
+told (DrawLine a b c d e f g h i j k) = (λ z e m st. refl, λ z. refl)
+told (DrawDot a b c d) = (λ z e m st. refl, λ z. refl)
+told (Mode0 a b) = (λ z. absurd (miss idlers 27 tt z), λ z. refl)
+told (Mode1 a) = (λ z. absurd (miss idlers 28 tt z), λ z. refl)
+told (Mode2 a b c) = (λ z. absurd (miss idlers 29 tt z), λ z. refl)
+told (Select a) = (λ z. absurd (miss idlers 30 tt z), λ z. refl)
+told (Mark a b c) = (λ z. absurd (miss idlers 31 tt z), λ z. refl)
+told (Display a) = (λ z. absurd (miss idlers 32 tt z), λ z. refl)
+told WindowTop = (λ z e m st. refl, λ z. refl)
+told WindowBottom = (λ z e m st. refl, λ z. refl)
+told (CursorKind a) = (λ z. absurd (miss idlers 35 tt z), λ z. refl)
+told WindowCursor = (λ z e m st. refl, λ z. refl)
+told (Pattern a b) = (λ z e. absurd (differ e), λ z. absurd (miss drawless 37 tt z))
+told (Repeat a) = (λ z. absurd (miss idlers 38 tt z), λ z. refl)
+told (RepeatDelay a) = (λ z. absurd (miss idlers 39 tt z), λ z. refl)
+told (RepeatInterval a) = (λ z. absurd (miss idlers 40 tt z), λ z. refl)
+told (Arrows1 a b c d) = (λ z. absurd (miss idlers 41 tt z), λ z. refl)
+told (Arrows2 a b c d) = (λ z. absurd (miss idlers 42 tt z), λ z. refl)
+told (Arrows3 a b c d) = (λ z. absurd (miss idlers 43 tt z), λ z. refl)
+told Nothing = (λ z e m st. refl, λ z. refl)
+told (Shift a) = (λ z. absurd (miss idlers 45 tt z), λ z. refl)
+
+-- what `obey` leaves to its last arm changes nothing, unless it is 224
+pub idle : {st : State} (q : Seq) → OneOf idlers (tagOf the-type q) → eqb (codeOf q) 224 ≡ false → (m : List ℕ) → st ≡ settled m q st
+idle {st} q z e m = told q .0 z e m st
+
+-- what `draws` and `draw` leave to their last arms is not 224
+pub no-pattern : (q : Seq) → OneOf drawless (tagOf the-type q) → eqb (codeOf q) 224 ≡ false
+no-pattern q = told q .1

@@ -1,3 +1,4 @@
+pub mod Arm
 pub mod Idle
 pub mod Parts
 pub mod Ranged

@@ -1,26 +1,47 @@
--- What obeying a sequence asks for, and what it leaves.
+-- What obeying a sequence asks for, and what it leaves: 224 apart, since the patterns are its alone.
 use mathlib.Core.Path.{_≡_}
-use mathlib.Core.Bool.{true, cond}
+use mathlib.Core.Bool.{true, false, cond}
 use mathlib.Core.List.{List}
 use Prim.Native.Nat.{ℕ, _+_, _≤_}
 use lib.ListN.{length, getD}
+use lib.Dec.{eqb}
 use Rattle.model.specs.declared.Settings.{Settings}
 use Rattle.model.specs.declared.Sequence.{Sequence as Seq}
 use Rattle.model.specs.declared.Sequence.the-variants.{Pattern}
-use Rattle.model.specs.State.{State}
+use Rattle.model.specs.State.{State, state, withStored}
 use Rattle.model.specs.Sound.{Sound}
+use Rattle.model.specs.Sequences.{codeOf}
 use Rattle.model.specs.Judging.{legal?, limitsOf}
 use Rattle.model.specs.Rules.{obeyed}
 use Rattle.settings.specs.Given.{Sized}
 use Rattle.model.specs.OnScreen.{onScreen?}
 
--- sound settings, stores of their sizes, every parameter in its range, and the eight rows of a pattern in the message
-pub record Obeying (s : Settings) (q : Seq) (m cells layer : List ℕ) : Type 0 where
-  pub sound : Sound s
-  pub sized : Sized cells layer
-  pub legal : legal? q (limitsOf s) ≡ true
-  pub rows : (c at : ℕ) → q ≡ Pattern c at → at + 8 ≤ length m
-
 -- what then stands: what stood, if the sequence is crate screen's; else what the rules make of it with the message m
 unfoldable pub settled : List ℕ → Seq → State → State
 settled m q st = cond (onScreen? q) st (obeyed (λ o. getD m o 0) q st)
+
+-- sound settings, stores of their sizes, and every parameter in its range
+pub record Obeying (s : Settings) (q : Seq) (cells layer : List ℕ) : Type 0 where
+  pub sound : Sound s
+  pub sized : Sized cells layer
+  pub legal : legal? q (limitsOf s) ≡ true
+
+-- what `obey` leaves of settings s and their stores: settings r, and the stores marked ′
+pub record Obeyed (s : Settings) (q : Seq) (r : Settings) (cells layer cells′ layer′ : List ℕ) : Type 0 where
+  -- every sequence but 224 does what the rules say of it, whatever the message
+  pub does : eqb (codeOf q) 224 ≡ false → (m : List ℕ) → state r cells′ layer′ ≡ settled m q (state s cells layer)
+  -- the patterns are 224's alone
+  pub keeps : r .patterns ≡ s .patterns
+
+-- for 224: sound settings, its code in its range, and the eight rows of the pattern in the message
+pub record Drawing (s : Settings) (q : Seq) (m : List ℕ) : Type 0 where
+  pub sound : Sound s
+  pub legal : legal? q (limitsOf s) ≡ true
+  pub rows : (c at : ℕ) → q ≡ Pattern c at → at + 8 ≤ length m
+
+-- what `draw` leaves of settings s with the message m: settings r
+pub record Drawn (s : Settings) (q : Seq) (m : List ℕ) (r : Settings) : Type 0 where
+  -- 224 does what the rules say of it, and touches no store
+  pub does : eqb (codeOf q) 224 ≡ true → (cells layer : List ℕ) → state r cells layer ≡ settled m q (state s cells layer)
+  -- nothing but the patterns is another
+  pub rest : r ≡ withStored s (s .kind) (s .keys) (r .patterns)

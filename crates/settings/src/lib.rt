@@ -1,5 +1,6 @@
 // Document 01, "What the sequences do": those that change the settings. 208 changes the cells and the layer too, 209 and 210
 // the layer. The others act inside the selected screen, on its cells, cursor and window, and are crate screen's.
+// 224 alone changes the patterns, and has its own function: a caller need not move their 248 bytes at the others.
 mod flags;
 mod keys;
 mod layer;
@@ -7,22 +8,17 @@ mod modes;
 mod patterns;
 
 ghost use mathlib.Core.Path.{_≡_};
-ghost use Rattle.model.specs.State.{state};
-ghost use Rattle.settings.specs.Obey.{Obeying, settled};
+ghost use lib.Dec.{eqb};
+ghost use Rattle.model.specs.Sequences.{codeOf};
+ghost use Rattle.settings.specs.Obey.{Obeying, Obeyed, Drawing, Drawn};
 use model::Sequence;
 use model::Settings;
 
-// Does what an accepted sequence says. The last arm is what changes nothing here: the sequences of crate screen, 80 (the copy is
-// made from the picture), 198, 199 and 246.
-pub fn obey(
-    settings: Settings,
-    q: Sequence,
-    message: &[u8],
-    cells: &mut [u8],
-    layer: &mut [u8],
-) -> Settings
-    requires { ⌜ Obeying settings q (now message) (now cells) (now layer) ⌝ }
-    ensures { λ r. ⌜ state r (now (cells .exit)) (now (layer .exit)) ≡ settled (now (message .entry)) q (state settings (now (cells .entry)) (now (layer .entry))) ⌝ }
+// Does what an accepted sequence says, unless it is 224, and leaves the patterns. The last arm is what changes nothing here: the
+// sequences of crate screen, 80 (the copy is made from the picture), 198, 199 and 246, and 224, which `draw` does.
+pub fn obey(settings: Settings, q: Sequence, cells: &mut [u8], layer: &mut [u8]) -> Settings
+    requires { ⌜ Obeying settings q (now cells) (now layer) ⌝ }
+    ensures { λ r. ⌜ Obeyed settings q r (now (cells .entry)) (now (layer .entry)) (now (cells .exit)) (now (layer .exit)) ⌝ }
 {
     match q {
         Sequence::CursorOff => flags::cursor(settings, 0),
@@ -51,7 +47,6 @@ pub fn obey(
         Sequence::Mark { row, column, code } => layer::mark(settings, row, column, code, layer),
         Sequence::Display(n) => flags::display(settings, n),
         Sequence::CursorKind(n) => flags::kind(settings, n),
-        Sequence::Pattern { code, at } => patterns::keep(settings, code, message, at),
         Sequence::Repeat(n) => keys::repeat(settings, n),
         Sequence::RepeatDelay(n) => keys::delay(settings, n),
         Sequence::RepeatInterval(n) => keys::interval(settings, n),
@@ -61,4 +56,26 @@ pub fn obey(
         Sequence::Shift(n) => keys::shift(settings, n),
         _ => settings,
     }
+}
+
+// Whether a sequence is 224.
+pub fn draws(q: Sequence) -> bool
+    ensures { λ r. ⌜ r ≡ eqb (codeOf q) 224 ⌝ }
+{
+    if let Sequence::Pattern { code: _, at: _ } = q {
+        true
+    } else {
+        false
+    }
+}
+
+// Does what an accepted 224 says. Any other sequence leaves the settings.
+pub fn draw(settings: Settings, q: Sequence, message: &[u8]) -> Settings
+    requires { ⌜ Drawing settings q (now message) ⌝ }
+    ensures { λ r. ⌜ Drawn settings q (now (message .entry)) r ⌝ }
+{
+    let Sequence::Pattern { code, at } = q else {
+        return settings;
+    };
+    patterns::keep(settings, code, message, at)
 }

@@ -77,33 +77,14 @@ module _ (a : ℕ) (ys xs : List ℕ) (fits : a + length ys ≤ length xs) where
       let k : a + length ys + length zs ≡ a + length (ys ++ zs) = simp length-append (omega arith) in
       rw (e, i, t, behind (length zs), k, append-assoc (take a xs), ← append-assoc ys)
 
-  -- as many other bytes over them
-  pub put-over : (zs : List ℕ) → length zs ≡ length ys → put a zs (put a ys xs) ≡ put a zs xs
+  -- as many other bytes over them, or more
+  pub put-over : (zs : List ℕ) → length ys ≤ length zs → put a zs (put a ys xs) ≡ put a zs xs
   unfolding put onPart
-  put-over zs e =
+  put-over zs h =
       let f : take a (put a ys xs) ≡ take a xs = take-at (take a xs) (ys ++ drop (a + length ys) xs) a (length-take-le a xs (omega arith)) in
-      let b : drop (a + length ys) (put a ys xs) ≡ drop (a + length ys) xs = rw add-zero at (behind 0) in
-      rw (e, f, b)
-
--- as many other bytes over the first of them, over the last of them
-pub put-first : (a : ℕ) (ys ys′ zs xs : List ℕ) → length ys′ ≡ length ys → a + length (ys ++ zs) ≤ length xs → put a ys′ (put a (ys ++ zs) xs) ≡ put a (ys′ ++ zs) xs
-unfolding put onPart
-put-first a ys ys′ zs xs e fits =
-    let n : length (take a xs) ≡ a = length-take-le a xs (omega arith) in
-    let k : a + length (ys ++ zs) ≡ a + length (ys′ ++ zs) = simp length-append (omega arith) in
-    let rest : List ℕ = drop (a + length (ys ++ zs)) xs in
-    let f : take a (take a xs ++ ((ys ++ zs) ++ rest)) ≡ take a xs = take-at (take a xs) ((ys ++ zs) ++ rest) a n in
-    let s : take a xs ++ ((ys ++ zs) ++ rest) ≡ (take a xs ++ ys) ++ (zs ++ rest) = ap (λ (l : List ℕ). take a xs ++ l) (append-assoc ys zs rest) ∙ sym (append-assoc (take a xs) ys (zs ++ rest)) in
-    let d : drop (a + length ys′) (take a xs ++ ((ys ++ zs) ++ rest)) ≡ zs ++ rest =
-    ap (drop (a + length ys′)) s ∙ drop-at (take a xs ++ ys) (zs ++ rest) (a + length ys′) (simp length-append (omega arith))
-    in
-    rw (f, d, k, append-assoc ys′ zs)
-
-pub put-last : (a b : ℕ) (ys zs zs′ xs : List ℕ) → b ≡ a + length ys → length zs′ ≡ length zs → a + length (ys ++ zs) ≤ length xs → put b zs′ (put a (ys ++ zs) xs) ≡ put a (ys ++ zs′) xs
-put-last a b ys zs zs′ xs i e fits =
-    let n : length (ys ++ zs) ≡ length ys + length zs = length-append ys zs in
-    let m : length (put a ys xs) ≡ length xs = length-put a ys xs (omega arith) in
-    ap (put b zs′) (sym (put-then a ys xs (omega arith) b zs refl i)) ∙ put-over b zs (put a ys xs) (omega arith) zs′ e ∙ put-then a ys xs (omega arith) b zs′ refl i
+      let e : a + length ys + (length zs - length ys) ≡ a + length zs = omega arith in
+      let b : drop (a + length zs) (put a ys xs) ≡ drop (a + length zs) xs = rw e at (behind (length zs - length ys)) in
+      rw (f, b)
 
 -- one byte stored
 put-one : (k v : ℕ) (xs : List ℕ) → k < length xs → set xs k v ≡ put k (v ∷ []) xs

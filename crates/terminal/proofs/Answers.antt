@@ -1,4 +1,4 @@
--- The message call's number, and its promise: from what serving and painting ensure, or from stores left as they came.
+-- The message call's number, and its promise: from what serving ensures, or from stores left as they came.
 use mathlib.Core.Path.{_∙_, _≡_, ap, refl}
 use Prim.Native.Nat.{ℕ}
 use native.Mathlib.Omega.{arith}

@@ -45,13 +45,11 @@ pub fn message(
 {
     let number = call_number(settings, message, cells, layer, shown);
     if number == 0 {
-        let outcome = serving::serve(settings, message, cells, layer, printer);
-        let left = outcome.settings;
-        paint::paint(left, cells, layer, shown);
-        return outcome;
+        serving::serve(settings, message, cells, layer, shown, printer)
+    } else {
+        let answer = refusal(number);
+        Outcome { settings, answer }
     }
-    let answer = refusal(number);
-    Outcome { settings, answer }
 }
 
 // "hands back that first part of the buffer itself; a count beyond the buffer gives the empty part"

@@ -10,6 +10,7 @@ pub enum Kind {
     Text,
     Mixed,
     Lifts,
+    Pieces,
 }
 
 /// One line of the benchmark.
@@ -27,6 +28,7 @@ impl Case {
             Kind::Text => format!("text-{size}-mode-{mode}"),
             Kind::Mixed => format!("mixed-{size}-mode-{mode}"),
             Kind::Lifts => format!("lifts-{size}-mode-{mode}"),
+            Kind::Pieces => format!("pieces-{size}-mode-{mode}"),
         }
     }
 
@@ -59,6 +61,7 @@ impl Case {
             Kind::Text => random.text(size),
             Kind::Mixed => random.mixed(size),
             Kind::Lifts => vec![10; size],
+            Kind::Pieces => random.pieces(size),
         };
         (0..count).map(|_| message(self.size)).collect()
     }
@@ -104,6 +107,18 @@ impl Random {
             88..=92 => [vec![ESC, 123], self.digits(6), vec![ESC, 125]].concat(),
             _ => vec![ESC, 210, 1 + self.below(8) as u8, 1 + self.below(80) as u8, b'*'],
         }
+    }
+
+    /// Short runs, each behind a carriage return, which also fills up.
+    fn pieces(&mut self, size: usize) -> Vec<u8> {
+        let mut message = Vec::new();
+        while message.len() + 8 <= size {
+            let count = 1 + self.below(7);
+            message.push(13);
+            message.extend(self.digits(count));
+        }
+        message.resize(size, 13);
+        message
     }
 
     fn mixed(&mut self, size: usize) -> Vec<u8> {

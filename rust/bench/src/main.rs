@@ -20,6 +20,8 @@
 //!   selection (27,209); 5 six digits under secret (27,123 and 27,125); 7 a
 //!   mark (27,210). An item that does not fit any more is left out, and
 //!   digits fill the message; one of 1 byte is a single digit.
+//! - `pieces`: a weight drawn in short runs, 1 to 7 digits at a time, each
+//!   behind a carriage return.
 //! - Messages have just the length in the name. There are 64 of them for each
 //!   line (16 of 4,096 bytes), sent in turn.
 //!
@@ -64,6 +66,7 @@ fn all_cases() -> Vec<Case> {
         for kind in [Kind::Text, Kind::Mixed, Kind::Lifts] {
             cases.extend(SIZES.map(|size| Case { kind, size, mode }));
         }
+        cases.extend([20, 200].map(|size| Case { kind: Kind::Pieces, size, mode }));
     }
     cases
 }

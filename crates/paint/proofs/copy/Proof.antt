@@ -3,12 +3,14 @@ use mathlib.Core.Path.{_∙_, _≡_, ap, refl, sym}
 use Prim.Native.Nat.{_-_, _≤_, ℕ}
 use native.Mathlib.Omega.{arith}
 use mathlib.Core.List.{List}
-use lib.ListN.{getD, length}
+use lib.ListN.{getD, length, length-replicate}
 use borrow.Author.Needs.{needs}
 use Rattle.model.specs.Bytes.{put}
 use Rattle.model.specs.State.{state}
 use Rattle.model.specs.Picture.{copiedRows}
+use Rattle.model.proofs.Tests.{differ}
 use Rattle.store.proofs.Laws.{put-none}
+use Rattle.paint.proofs.Pictures.{whole-picture}
 use Rattle.paint.proofs.Copies.{copied-all, copied-more}
 use Rattle.paint.proofs.copy.Statement.{statement}
 use Rattle.paint.proofs.copy.Tie as tie
@@ -20,6 +22,12 @@ Inv-loop cells layer printer₀ from picture row₀ printer row =
 abbrev μ-loop : tie.MeasureT-loop
 μ-loop cells layer printer₀ from picture row₀ printer row = 8 - row
 
+paint-panes-requires : tie.Need-paint-panes-requires Inv-loop μ-loop
+paint-panes-requires c κs =
+    let v = c .before in
+    let pre = v .before .before .before .before .pre .0 in
+    (v .view-of .ensures .framed, ((pre .cells-are, (pre .layer-are, length-replicate {A = ℕ} 640 0)), λ e. absurd (differ (sym e))))
+
 loop-holds : tie.Need-loop-holds Inv-loop μ-loop
 unfolding copiedRows
 loop-holds c = (search needs, (search needs, sym (put-none _ _)))
@@ -28,19 +36,17 @@ loop-again : tie.Need-loop-again Inv-loop μ-loop
 loop-again c =
     let at = c .before .before in
     let head = at .before .before .before .before in
-    let a = head .before .before .before .before .before .before .before .args in
-    let picture = head .before .before .paint .last .1 .1 .1 .0 in
-    (search needs, (search needs, copied-more (a .from) (head .loop .row) picture (a .printer .now) (head .loop .inv .1 .1) (at .copy-row .ensures) refl (omega arith)))
+    let a = head .before .before .before .before .before .before .before .before .args in
+    (search needs, (search needs, copied-more (a .from) (head .loop .row) _ (a .printer .now) (head .loop .inv .1 .1) (at .copy-row .ensures) refl (omega arith)))
 
 returns : tie.Need-returns Inv-loop μ-loop
 returns c =
-    let head = c .before in
-    let a = head .before .before .before .before .before .before .before .args in
-    let paint = head .before .before .paint in
-    let end : head .loop .row ≡ 8 = omega arith in
-    let picture = paint .last .1 .1 .1 .0 in
-    let all = copied-all (state (a .settings) (a .cells .now) (a .layer .now)) picture (paint .ensures) in
-    head .loop .inv .1 .1 ∙ ap (λ (n : ℕ). put (a .from) (copiedRows (λ (p : ℕ). getD picture p 0) 0 n) (a .printer .now)) end ∙ ap (λ (ys : List ℕ). put (a .from) ys (a .printer .now)) all
+    let loop = c .before .loop in
+    let at = c .before .before .before in
+    let v = at .before .before in
+    let a = v .before .before .before .before .args in
+    let picture = whole-picture (a .settings) (v .view-of .result) (v .view-of .ensures) (a .cells .now) (a .layer .now) _ (length-replicate {A = ℕ} 640 0) (at .paint-panes .ensures) in
+    loop .inv .1 .1 ∙ ap (λ (ys : List ℕ). put (a .from) ys (a .printer .now)) (copied-all (state (a .settings) (a .cells .now) (a .layer .now)) _ (loop .row) picture (omega arith))
 
 pub copy-spec : {M : Type 1} → statement M
 copy-spec =
@@ -48,8 +54,9 @@ copy-spec =
     (tie.spec
     Inv-loop
     μ-loop
-    (λ c. search needs)
     (λ c κs. search needs)
+    (λ c. search needs)
+    paint-panes-requires
     loop-holds
     (λ c. search needs)
     (λ c. search needs)

@@ -1,5 +1,6 @@
 -- `act` meets its contract: each arm obeys the sequence that it names by the function that it calls, and the last changes nothing.
 use mathlib.Core.Path.{refl}
+use native.Mathlib.Omega.{arith}
 use borrow.Author.Needs.{needs}
 use Rattle.model.specs.Checks.{member}
 use Rattle.model.specs.Rules.{obeyed}
@@ -35,10 +36,10 @@ act-spec =
     (λ c κs. search needs)
     (λ c κs. search needs)
     (λ c. search needs)
-    (λ c κs. search needs)
+    (λ c κs. let h = c .before .before .before .before .before .pre .0 in (h .stands, ((omega arith, omega arith), h .layer-are)))
     (λ c. search needs)
     (λ c κs. search needs)
-    (λ c κs. search needs)
+    (λ c κs. let h = c .before .before .before .before .before .before .pre .0 in (h .stands, ((omega arith, omega arith), h .layer-are)))
     (λ c. search needs)
     (λ c κs. search needs)
     (λ c κs. search needs)

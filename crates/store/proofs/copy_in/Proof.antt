@@ -1,40 +1,36 @@
--- `copy_in`: after i turns the first i bytes of the part of `src` are put, and the others stand as they were.
-use mathlib.Core.Path.{_≡_, sym}
-use Prim.Native.Nat.{_-_, _≤_}
+-- `copy_in`: after some turns the first i bytes of the part of `src` are put; the last block reaches the end.
+use mathlib.Core.Path.{_∙_, _≡_, ap, refl, sym}
+use Prim.Native.Nat.{_+_, _-_, _≤_, ℕ}
 use native.Mathlib.Omega.{arith}
-use lib.ListN.{drop, getD, length, length-drop, length-set, length-take, take}
-use lib.Seq.{getD-drop}
+use lib.ListN.{drop, length, take}
 use borrow.Author.Needs.{needs}
 use Rattle.model.specs.Bytes.{put}
-use Rattle.store.proofs.Laws.{put-more, put-none, take-more}
+use Rattle.store.proofs.Laws.{put-none}
+use Rattle.store.proofs.Held.{block}
 use Rattle.store.proofs.copy_in.Statement.{statement}
 use Rattle.store.proofs.copy_in.Tie as tie
 
 abbrev Inv-loop : tie.InvT-loop
-Inv-loop dst₀ from src at count i₀ dst i = (i ≤ count) × ((length dst ≡ length dst₀) × (dst ≡ put from (take i (drop at src)) dst₀))
+Inv-loop dst₀ from src at count last i₀ dst i = (i ≤ last + 15) × ((length dst ≡ length dst₀) × (dst ≡ put from (take i (drop at src)) dst₀))
 
 abbrev μ-loop : tie.MeasureT-loop
-μ-loop dst₀ from src at count i₀ dst i = count - i
-
-loop-holds : tie.Need-loop-holds Inv-loop μ-loop
-loop-holds c = (search needs, (search needs, sym (put-none _ _)))
+μ-loop dst₀ from src at count last i₀ dst i = count - i
 
 loop-again : tie.Need-loop-again Inv-loop μ-loop
 loop-again c =
-    let a = c .before .before .before .args in
-    let at = c .before .before .loop in
-    let part = drop (a .at) (a .src .now) in (
-      search needs,
-      (
-        simp length-set (omega arith),
-        put-more (a .from) (take (at .i) part) (getD part (at .i) 0) (a .dst .now) (at .inv .1 .1) (simp (length-take, length-drop) (omega arith)) (sym (getD-drop (a .at) (a .src .now) (at .i) 0)) (take-more part (at .i) (simp length-drop (omega arith))) (omega arith),
-      ),
-    )
+    let done = c .before .before in
+    let head = done .before .before .before in
+    let a = head .before .before .before .before .args in
+    (omega arith, (search needs, block (a .from) (a .at) (head .loop .i) (head .loop .i) 16 (a .src .now) (a .dst .now) (head .loop .inv .1 .1) (done .copy-block .ensures) (omega arith) (omega arith) (omega arith) (omega arith)))
 
-returns : tie.Need-returns Inv-loop μ-loop
-returns c =
-    let end : c .before .loop .i ≡ c .before .before .args .count = omega arith in
-    rw end at (c .before .loop .inv .1 .1)
+returns-2 : tie.Need-returns-2 Inv-loop μ-loop
+returns-2 c =
+    let done = c .before .before in
+    let head = done .before .before .before in
+    let a = head .before .before .before .before .args in
+    let end : a .count - 16 + 16 ≡ a .count = omega arith in
+    block (a .from) (a .at) (head .loop .i) (a .count - 16) 16 (a .src .now) (a .dst .now) (head .loop .inv .1 .1) (done .copy-block2 .ensures) (omega arith) (omega arith) (omega arith) (omega arith)
+    ∙ ap (λ (n : ℕ). put (a .from) (take n (drop (a .at) (a .src .now))) (a .dst .now)) end
 
 pub copy-in-spec : {M : Type 1} → statement M
 copy-in-spec =
@@ -42,13 +38,18 @@ copy-in-spec =
     (tie.spec
     Inv-loop
     μ-loop
-    loop-holds
+    (λ c κs. search needs)
     (λ c. search needs)
     (λ c. search needs)
+    (λ c. (omega arith, (refl, sym (put-none _ _))))
     (λ c. search needs)
     (λ c. search needs)
+    (λ c κs. search needs)
     (λ c. search needs)
     (λ c. search needs)
     loop-again
     (λ c. search needs)
-    returns)
+    (λ c. search needs)
+    (λ c κs. search needs)
+    (λ c. search needs)
+    returns-2)

@@ -1,4 +1,4 @@
--- `marks::empty` meets its contract: the layer that is filled has 1,280 bytes.
+-- `marks::empty` meets its contract: a bare layer is empty, and the layer that is filled has 1,280 bytes.
 use mathlib.Core.Path.{_∙_, ap}
 use Prim.Native.Nat.{ℕ}
 use lib.ListN.{replicate}
@@ -10,6 +10,7 @@ pub empty-spec : {M : Type 1} → statement M
 empty-spec =
     tie.close
     (tie.spec
+    (λ c. c .before .before .pre .empty (c .if1 .taken))
     (λ c κs. search needs)
     (λ c. search needs)
-    (λ c. c .before .before .fill .ensures ∙ ap (λ (n : ℕ). replicate n 0) (c .before .before .before .before .before .pre)))
+    (λ c. c .before .before .fill .ensures ∙ ap (λ (n : ℕ). replicate n 0) (c .before .before .before .before .before .before .pre .size)))

@@ -1,0 +1,17 @@
+-- `chosen`: the window of the one screen or the other is that of the selected one.
+use mathlib.Core.Path.{subst}
+use Prim.Native.Nat.{ℕ}
+use native.Mathlib.Omega.{arith}
+use borrow.Author.Needs.{needs}
+use Rattle.paint.specs.Panes.{Window}
+use Rattle.paint.proofs.view.chosen.Statement.{statement}
+use Rattle.paint.proofs.view.chosen.Tie as tie
+
+pub chosen-spec : {M : Type 1} → statement M
+chosen-spec =
+    tie.close
+    (tie.spec
+    (λ c κs. search needs)
+    (λ c κs. search needs)
+    (λ c. subst (λ (k : ℕ). Window (c .before .before .before .args .settings) k (c .window1 .result)) (omega arith) (c .window1 .ensures))
+    (λ c. subst (λ (k : ℕ). Window (c .before .before .before .args .settings) k (c .window2 .result)) (omega arith) (c .window2 .ensures)))
