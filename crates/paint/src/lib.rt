@@ -1,4 +1,4 @@
-// The shown screen and the printed copy: the picture of what stands, painted row by row.
+// The shown screen and the printed copy: the picture of what stands, painted by its panes.
 mod rows;
 mod view;
 
@@ -73,7 +73,7 @@ fn paint_rows(panes: View, one: usize, gap: usize, two: usize, cells: &[u8], sho
 {
     let left = panes.left;
     let right = panes.right;
-    let same = View {
+    let view = View {
         left: Pane {
             at: left.at,
             width: one,
@@ -88,7 +88,7 @@ fn paint_rows(panes: View, one: usize, gap: usize, two: usize, cells: &[u8], sho
     // Counted by the screen's length: a count of eight would be written out eight times by the compiler.
     let mut row = 0;
     while row * 80 < shown.len() {
-        rows::paint_row(same, cells, shown, row);
+        rows::paint_row(view, cells, shown, row);
         row += 1;
     }
 }

@@ -58,7 +58,7 @@ fn window2(settings: Settings) -> Pane
 }
 
 // The window of the selected screen.
-fn chosen(settings: Settings) -> Pane
+fn selected_window(settings: Settings) -> Pane
     requires { ⌜ Sound settings ⌝ }
     ensures { λ r. ⌜ Window settings (settings .selected) r ⌝ }
 {
@@ -83,7 +83,7 @@ pub(crate) fn view_of(settings: Settings) -> View
             right: window2(settings),
         };
     }
-    let left = chosen(settings);
+    let left = selected_window(settings);
     let width = left.width;
     if mode == 0 {
         return View {

@@ -28,7 +28,7 @@ module _ {s : Settings} (h : Sound s) where
   lines-high k = cond-at (λ (n : ℕ). n ≤ 48) (eqb k 0) _ _ (λ e. omega (arith, shaped-lines (h .shaped))) (λ e. omega (arith, shaped-lines (h .shaped)))
 
   -- of sound settings a frame is one whose place stands on its screen
-  pub stands-of : {f : Frame} → Framed s f → Stands f (placeOf s (s .selected))
+  stands-of : {f : Frame} → Framed s f → Stands f (placeOf s (s .selected))
   unfolding size
   stands-of e = record {
     among = rw (e .base-is, e .lines-are, e .columns-are) (within s h (s .selected) (h .selected));

@@ -32,7 +32,7 @@ unfolding cellAt lineAt
 cell-is st e k = rw (k, ← e .base-is, ← e .columns-are)
 
 -- the layer emptied, whole or at a place
-pub empty-layer : {f : Frame} {l : List ℕ} → l ≡ replicate 1280 0 → LayerOf f l
+empty-layer : {f : Frame} {l : List ℕ} → l ≡ replicate 1280 0 → LayerOf f l
 empty-layer k = record { size = ap length k ∙ length-replicate {A = ℕ} 1280 0; empty = λ b. k }
 
 pub unmarked-layer : {f : Frame} {l l′ : List ℕ} (n : ℕ) → LayerOf f l → l′ ≡ unmark n l → LayerOf f l′

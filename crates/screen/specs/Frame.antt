@@ -1,6 +1,6 @@
--- A frame: what acting on the selected screen needs of the settings. It is worked out when a mode, the selection, the step or
--- tracking changes, and not for each byte, so that a printed byte copies no settings. It names no place: the cursor and the
--- window move under one and the same frame.
+-- A frame: what acting on the selected screen needs of the settings, and whether the layer is known to be empty. It is worked out anew
+-- after an item that may change the settings, and not for each byte, so that a printed byte copies no settings. It names no place: the
+-- cursor and the window move under one and the same frame.
 use mathlib.Core.Path.{_≡_}
 use Prim.Native.Nat.{ℕ, _+_, _*_, _≤_, _<_}
 use mathlib.Core.Bool.{cond, _&&_, true}
@@ -42,7 +42,7 @@ pub record LayerOf (f : Frame) (layer : List ℕ) : Type 0 where
   pub size : length layer ≡ 1280
   pub empty : f .bare ≡ true → layer ≡ replicate 1280 0
 
--- and the stores have their sizes: what is asked before each step, and holds after it
+-- p stands, the cells have their size, and the layer is as the frame says: what is asked before each step, and holds after it
 pub record Ready (f : Frame) (p : Place) (cells layer : List ℕ) : Type 0 where
   pub stands : Stands f p
   pub cells-are : length cells ≡ 3840

@@ -10,7 +10,7 @@ use Rattle.model.specs.declared.Item.the-variants.{Control, Printed, Refused, S
 use Rattle.model.specs.State.{State}
 use Rattle.model.specs.Items.{copyOf}
 use Rattle.model.proofs.Item.{the-type}
-use Rattle.serving.specs.Acting.{applied, draws?}
+use Rattle.serving.specs.Acting.{applied, isPattern?}
 
 -- the variants of an item, by their position, without the sequence
 abbrev others : List ℕ
@@ -23,8 +23,8 @@ no-sequence m (Control c) st o = (refl, refl)
 no-sequence m (Sequence q) st o = absurd (miss others 2 tt o)
 no-sequence m (Refused n) st o = (refl, refl)
 
-pub not-drawn : (i : Item) → OneOf others (tagOf the-type i) → draws? i ≡ false
-not-drawn (Printed b) o = refl
-not-drawn (Control c) o = refl
-not-drawn (Sequence q) o = absurd (miss others 2 tt o)
-not-drawn (Refused n) o = refl
+pub not-pattern : (i : Item) → OneOf others (tagOf the-type i) → isPattern? i ≡ false
+not-pattern (Printed b) o = refl
+not-pattern (Control c) o = refl
+not-pattern (Sequence q) o = absurd (miss others 2 tt o)
+not-pattern (Refused n) o = refl

@@ -12,6 +12,7 @@ use Rattle.model.specs.declared.Outcome.{Outcome}
 use Rattle.model.specs.Bytes.{onPart, put, written}
 use Rattle.model.specs.State.{State, state}
 use Rattle.model.specs.Sound.{Sound}
+use Rattle.model.specs.Picture.{painting}
 use Rattle.model.specs.Judging.{judged, legalItem?, limitsOf}
 use Rattle.model.specs.Reading.{Read, itemOf, ownBytes}
 use Rattle.model.specs.Rules.{applyItem}
@@ -136,21 +137,19 @@ module _ (m : List ℕ) (first : State) (buffer : List ℕ) where
     turn i e = subst Turned (sym e) turned
 
   -- the end
-  pub finish : (at : ℕ) (st : State) (c : Counts) (printer : List ℕ) → Going at st c printer → length m ≤ at → (r : Outcome) → state (r .settings) (st .cells) (st .layer) ≡ st → r .answer ≡ answerAt at c
-      → Serves m first buffer r (st .cells) (st .layer) printer
+  pub finish : (at : ℕ) (st : State) (c : Counts) (printer : List ℕ) → Going at st c printer → length m ≤ at → (r : Outcome) {shown : List ℕ} → state (r .settings) (st .cells) (st .layer) ≡ st → r .answer ≡ answerAt at c
+      → shown ≡ painting (state (r .settings) (st .cells) (st .layer)) → Serves m first buffer r (st .cells) (st .layer) shown printer
   unfolding rest ends answers prints applyAll countedAll copies written
-  finish at st c printer g h r e a =
+  finish at st c printer g h r e a w =
       let none : rest m at st (length buffer - c .printed) ≡ [] = rest-end m at st (length buffer - c .printed) h in
       let n : length (take (c .printed) printer) ≡ c .printed = length-take-le (c .printed) printer (omega (arith, g .fits, g .same-size)) in
       let all : take (c .printed) printer ≡ prints m 0 first (length buffer) =
       sym (append-nil (take (c .printed) printer)) ∙ ap (λ (rs : List Read). take (c .printed) printer ++ copies (eventsOf rs) st) (sym none) ∙ g .printed-done in
       record {
         state-is = e ∙ ap (λ (rs : List Read). applyAll (eventsOf rs) st) (sym none) ∙ g .state-left;
+        shown-is = w;
         answer-is = a ∙ ap (λ (rs : List Read). countedAll rs (answerAt at c)) (sym none) ∙ g .answer-left;
         printer-is =
             sym (take-append-drop (c .printed) printer) ∙ (λ i. all i ++ g .printer-rest i)
             ∙ ap (λ (x : ℕ). prints m 0 first (length buffer) ++ drop x buffer) (sym n ∙ ap length all);
-        sound = subst (λ (x : State). Sound (x .settings)) (sym e) (g .good .sound);
-        cells-are = g .good .cells-are;
-        layer-are = g .good .layer-are;
       }

@@ -25,7 +25,7 @@ use Rattle.serving.specs.Acting.{BareThen}
 abbrev others : List ℕ
 others = 0 ∷ 2 ∷ 3 ∷ 4 ∷ 5 ∷ 6 ∷ 9 ∷ 10 ∷ 13 ∷ 14 ∷ 15 ∷ 16 ∷ 17 ∷ 18 ∷ 19 ∷ 20 ∷ 21 ∷ 22 ∷ 23 ∷ 24 ∷ 25 ∷ 26 ∷ 32 ∷ 33 ∷ 34 ∷ 35 ∷ 36 ∷ 37 ∷ 38 ∷ 39 ∷ 40 ∷ 41 ∷ 42 ∷ 43 ∷ 44 ∷ 45 ∷ []
 
-pub layer-kept : (q : Seq) → OneOf others (tagOf the-type q) → onScreen? q ≡ false → (m : ℕ → ℕ) (st : State) → obeyed m q st .layer ≡ st .layer
+layer-kept : (q : Seq) → OneOf others (tagOf the-type q) → onScreen? q ≡ false → (m : ℕ → ℕ) (st : State) → obeyed m q st .layer ≡ st .layer
 unfolding onScreen? member obeyed flagged withKeys withKindPatterns withSettings
 layer-kept (PrintCode a) z off m st = absurd (differ off)
 layer-kept Clear z off m st = absurd (miss others 1 tt z)

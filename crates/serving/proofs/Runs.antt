@@ -1,31 +1,26 @@
 -- A run of printed bytes is as many turns of the loop.
 use mathlib.Core.Path.{_∙_, _≡_, ap, refl, subst, sym}
-use Prim.Native.Nat.{_+_, _-_, _<_, _≤_, suc, zero, ℕ}
+use Prim.Native.Nat.{_+_, _<_, _≤_, suc, zero, ℕ}
 use native.Mathlib.Nat.{add-zero}
 use native.Mathlib.Numerals.{add-one}
 use native.Mathlib.Omega.{arith}
 use mathlib.Core.Bool.{Bool, cond, false, true}
-use mathlib.Core.List.{List, [], _++_, _∷_}
-use lib.ListN.{drop, getD, length, take, take-append-drop}
+use mathlib.Core.List.{List, [], _∷_}
+use lib.ListN.{drop, getD, length, take}
 use lib.Seq.{drop-cons}
 use lib.Dec.{ltb}
 use borrow.Author.Tests.{le-ltb, ne-eqb}
 use Rattle.model.specs.declared.Item.{Item}
 use Rattle.model.specs.declared.Item.the-variants.{Control, Printed}
 use Rattle.model.specs.declared.Limits.{Limits}
-use Rattle.model.specs.Bytes.{onPart, put}
 use Rattle.model.specs.State.{State}
 use Rattle.model.specs.Judging.{allowed, fitting, judged}
 use Rattle.model.specs.Reading.{afterEscape, decoded, ended, itemOf, kindOf, needed, ownBytes, unfinished?}
 use Rattle.model.specs.Rules.{applyItem, printed}
 use Rattle.screen.specs.Run.{printedAll}
 use Rattle.serving.specs.declared.Counts.{Counts}
+use Rattle.store.proofs.Laws.{put-none}
 use Rattle.serving.proofs.Going.{Going, turn}
-
--- nothing put is nothing changed
-pub put-none : (p : ℕ) (xs : List ℕ) → put p [] xs ≡ xs
-unfolding put onPart
-put-none p xs = ap (λ (n : ℕ). take p xs ++ drop n xs) (add-zero p) ∙ take-append-drop p xs
 
 module _ (m : List ℕ) (at : ℕ) (more : at < length m) (prints : 32 ≤ getD m at 0) where
   -- "Bytes 32 to 255 print": one byte, and what it is
@@ -40,7 +35,7 @@ module _ (m : List ℕ) (at : ℕ) (more : at < length m) (prints : 32 ≤ getD 
       ap (λ (t : Bool). elim (ltb 1 (cond t 2 1)) as (λ x. Item) [ true ↦ ended (b ∷ []) | false ↦ elim t as (λ x. Item) [ true ↦ kindOf (b ∷ []) .made (λ n. getD (b ∷ []) (n + 1) 0) (at + 2) | false ↦ elim (ltb b 32) as (λ x. Item) [ true ↦ Control b | false ↦ Printed b ] ] ]) (ne-eqb b 27 (λ e. omega arith))
       ∙ ap (λ (t : Bool). elim t as (λ x. Item) [ true ↦ Control b | false ↦ Printed b ]) (le-ltb b 32 prints)
 
-  pub is-printed : (s : Limits) (n : ℕ) → judged (itemOf at (ownBytes m at)) s n ≡ Printed (getD m at 0)
+  is-printed : (s : Limits) (n : ℕ) → judged (itemOf at (ownBytes m at)) s n ≡ Printed (getD m at 0)
   unfolding allowed fitting
   is-printed s n = ap (λ (l : List ℕ). judged (itemOf at l) s n) own-one ∙ ap (λ (i : Item). judged i s n) lone
 

@@ -14,6 +14,7 @@ use Rattle.model.specs.declared.Item.the-variants.{Control, Printed, Refused, S
 use Rattle.model.specs.declared.Limits.{Limits}
 use Rattle.model.specs.declared.Outcome.{Outcome}
 use Rattle.model.specs.declared.Place.{Place}
+use Rattle.model.specs.declared.Sequence.{Sequence as Seq}
 use Rattle.model.specs.declared.Settings.{Settings}
 use Rattle.model.specs.Bytes.{put}
 use Rattle.model.specs.State.{State, state, withStored}
@@ -21,7 +22,7 @@ use Rattle.model.specs.Checks.{member}
 use Rattle.model.specs.Screens.{base, columnsOf, height, linesOf, placeOf, textRows}
 use Rattle.model.specs.Sound.{Sound}
 use Rattle.model.specs.Judging.{allowed, judged, legalItem?, limitsOf}
-use Rattle.model.specs.Picture.{copied}
+use Rattle.model.specs.Picture.{copied, painting}
 use Rattle.model.specs.Reading.{itemOf, ownBytes}
 use Rattle.model.specs.Rules.{applyItem}
 use Rattle.model.specs.Sequences.{codeOf}
@@ -39,38 +40,40 @@ use Rattle.screen.specs.Frame.{FrameOf, Framed, Ready, Stands, limitsIn}
 use Rattle.screen.specs.Acts.{withPlace}
 use Rattle.screen.specs.Run.{Ran, printedAll}
 use Rattle.screen.proofs.Acting.{carried, framed-placed, placed-there, same-place}
+use Rattle.screen.proofs.Frames.{limits-are}
 use Rattle.paint.specs.Paintable.{Paintable}
 use Rattle.serving.specs.declared.Counts.{Counts}
 use Rattle.serving.specs.Counting.{Countable, answerAt, countsWith, noCounts}
-use Rattle.serving.specs.Acting.{Applied, Applying, BareThen, Drawing, Drawn, Moves, applied, draws?}
+use Rattle.serving.specs.Acting.{Applied, Applying, BareThen, ItemAsked, ItemStored, Moves, applied, isPattern?}
 use Rattle.serving.specs.Serves.{Servable, Serves}
 use Rattle.serving.proofs.Going.{Going, finish, start, turn}
-use Rattle.serving.proofs.Runs.{put-none, run}
+use Rattle.store.proofs.Laws.{put-none}
+use Rattle.serving.proofs.Runs.{run}
 
--- an item of the selected screen is no copy
+-- a sequence by a test of its code that 80 does not meet is no copy; so an item of the selected screen, and 224
+no-copy : (t : ℕ → Bool) → t 80 ≡ false → (q : Seq) (st : State) → t (codeOf q) ≡ true → copyOf (Sequence q) st ≡ []
+no-copy t n q st h = cond-at (λ (l : List ℕ). l ≡ []) (eqb (codeOf q) 80) (copied st) [] (λ e. absurd (differ (sym h ∙ ap t (eqb-true (codeOf q) 80 e) ∙ n))) (λ e. refl)
+
 stays-unprinted : (i : Item) (st : State) → staysOnScreen? i ≡ true → copyOf i st ≡ []
 unfolding onScreen? member
 stays-unprinted (Printed b) st h = refl
 stays-unprinted (Control c) st h = refl
-stays-unprinted (Sequence q) st h =
-    cond-at (λ (l : List ℕ). l ≡ []) (eqb (codeOf q) 80) (copied st) [] (λ e. absurd (differ (sym h ∙ ap (λ (n : ℕ). member n onScreenCodes) (eqb-true (codeOf q) 80 e)))) (λ e. refl)
+stays-unprinted (Sequence q) st h = no-copy (λ n. member n onScreenCodes) refl q st h
 stays-unprinted (Refused n) st h = refl
 
--- nor is 224
-draws-unprinted : (i : Item) (st : State) → draws? i ≡ true → copyOf i st ≡ []
-draws-unprinted (Printed b) st h = refl
-draws-unprinted (Control c) st h = refl
-draws-unprinted (Sequence q) st h =
-    cond-at (λ (l : List ℕ). l ≡ []) (eqb (codeOf q) 80) (copied st) [] (λ e. absurd (differ (sym h ∙ ap (λ (n : ℕ). eqb n 224) (eqb-true (codeOf q) 80 e)))) (λ e. refl)
-draws-unprinted (Refused n) st h = refl
+pattern-unprinted : (i : Item) (st : State) → isPattern? i ≡ true → copyOf i st ≡ []
+pattern-unprinted (Printed b) st h = refl
+pattern-unprinted (Control c) st h = refl
+pattern-unprinted (Sequence q) st h = no-copy (λ n. eqb n 224) refl q st h
+pattern-unprinted (Refused n) st h = refl
 
--- nor does 224 stay on the selected screen
-draws-away : (i : Item) → draws? i ≡ true → staysOnScreen? i ≡ false
+-- 224 does not stay on the selected screen
+pattern-away : (i : Item) → isPattern? i ≡ true → staysOnScreen? i ≡ false
 unfolding onScreen? member
-draws-away (Printed b) h = absurd (differ (sym h))
-draws-away (Control c) h = absurd (differ (sym h))
-draws-away (Sequence q) h = ap (λ (n : ℕ). member n onScreenCodes) (eqb-true (codeOf q) 224 h)
-draws-away (Refused n) h = absurd (differ (sym h))
+pattern-away (Printed b) h = absurd (differ (sym h))
+pattern-away (Control c) h = absurd (differ (sym h))
+pattern-away (Sequence q) h = ap (λ (n : ℕ). member n onScreenCodes) (eqb-true (codeOf q) 224 h)
+pattern-away (Refused n) h = absurd (differ (sym h))
 
 -- a frame that says otherwise of the layer
 abbrev bared : Frame → Bool → Frame
@@ -125,7 +128,7 @@ module _ (m cells₀ layer₀ printer₀ : List ℕ) (s₀ : Settings) where
     pub ready : Ready f p cells layer
     pub short : length m ≤ 4096
 
-  pub begin : {f : Frame} {p : Place} {b : Bool} → Servable s₀ m cells₀ layer₀ → (FrameOf s₀ f) × (f .bare ≡ b) → (b ≡ true → layer₀ ≡ replicate (length layer₀) 0) → p ≡ placeOf s₀ (s₀ .selected)
+  pub begin : {f : Frame} {p : Place} {b : Bool} → {shown₀ : List ℕ} → Servable s₀ m cells₀ layer₀ shown₀ → (FrameOf s₀ f) × (f .bare ≡ b) → (b ≡ true → layer₀ ≡ replicate (length layer₀) 0) → p ≡ placeOf s₀ (s₀ .selected)
       → {c : Counts} → c ≡ noCounts → Loop cells₀ layer₀ printer₀ s₀ p f c 0
   begin {p = p} v f k h e = record {
     going = subst (λ x. Going m (state s₀ cells₀ layer₀) printer₀ 0 (state (withPlace s₀ p) cells₀ layer₀) x printer₀) (sym e)
@@ -161,7 +164,7 @@ module _ (m cells₀ layer₀ printer₀ : List ℕ) (s₀ : Settings) where
         }
 
     limits : limitsIn f ≡ limitsOf (withPlace s p)
-    limits = let e = framed-placed p (g .framed) in λ i. record { lines = e .lines-are i; columns = e .columns-are i; height = e .height-is i }
+    limits = sym (limits-are (framed-placed p (g .framed)))
 
     module _ (more : at < length m) (r : Reading) (w : ReadAt m at (limitsIn f) (length printer - c .printed) r) where
       abbrev rule : State → State
@@ -221,25 +224,25 @@ module _ (m cells₀ layer₀ printer₀ : List ℕ) (s₀ : Settings) where
         pub applying : Applying s₁ (r .item) cells layer
         applying = let e = ready-to-paint in record { sound = e .sound; cells-are = e .cells-are; layer-are = e .layer-are; legal = legal-back }
 
-        pub drawing : Drawing s₁ (r .item) m
-        drawing = record { sound = ready-to-paint .sound; legal = legal-back; rows = w .rows-inside }
+        pub storing : ItemAsked s₁ (r .item) m
+        storing = record { sound = ready-to-paint .sound; legal = legal-back; rows = w .rows-inside }
 
         did : {x : State} → staysOnScreen? (r .item) ≡ false → x ≡ applied m (r .item) stood → x ≡ rule st
         unfolding applied
         did h a = a ∙ ap (λ (b : Bool). cond b stood (rule stood)) h ∙ ap rule same
 
         -- 224
-        pub drew : {s′ : Settings} {c′ : Counts} → draws? (r .item) ≡ true → Drawn s₁ (r .item) m s′ → c′ ≡ countsWith (r .item) at c → Loop cells layer printer s′ p f c′ (at + r .length)
+        pub stored-pattern : {s′ : Settings} {c′ : Counts} → isPattern? (r .item) ≡ true → ItemStored s₁ (r .item) m s′ → c′ ≡ countsWith (r .item) at c → Loop cells layer printer s′ p f c′ (at + r .length)
         unfolding placeOf
-        drew {s′} h d k =
+        stored-pattern {s′} h d k =
             let e : Framed s₁ f = subst (λ (x : Settings). Framed x f) (sym back) (framed-placed p (g .framed)) in
             let here : placeOf s₁ (s₁ .selected) ≡ p = ap (λ (x : Settings). placeOf x (x .selected)) back ∙ placed-there p (g .framed) in
             let here′ : placeOf s′ (s′ .selected) ≡ p = ap (λ (x : Settings). placeOf x (x .selected)) (d .rest) ∙ here in
             obeyed (subst (λ (x : Settings). Framed x f) (sym (d .rest)) (framed-stored (s′ .patterns) e)) (g .ready)
-            (ap (λ (x : Settings). state x cells layer) (same-place s′ p here′) ∙ did (draws-away (r .item) h) (d .does h cells layer)) (unprinted (draws-unprinted (r .item) st h)) k
+            (ap (λ (x : Settings). state x cells layer) (same-place s′ p here′) ∙ did (pattern-away (r .item) h) (d .does h cells layer)) (unprinted (pattern-unprinted (r .item) st h)) k
 
         -- another item that changes the settings
-        module _ {cells′ layer′ : List ℕ} {s′ s₂ : Settings} (h : staysOnScreen? (r .item) ≡ false) (j : draws? (r .item) ≡ false) (a : Applied s₁ (r .item) s′ cells layer cells′ layer′) (e : s₂ ≡ s′) where
+        module _ {cells′ layer′ : List ℕ} {s′ s₂ : Settings} (h : staysOnScreen? (r .item) ≡ false) (j : isPattern? (r .item) ≡ false) (a : Applied s₁ (r .item) s′ cells layer cells′ layer′) (e : s₂ ≡ s′) where
           done : state s₂ cells′ layer′ ≡ rule st
           done = ap (λ (x : Settings). state x cells′ layer′) e ∙ did h (a .does j m)
 
@@ -261,5 +264,7 @@ module _ (m cells₀ layer₀ printer₀ : List ℕ) (s₀ : Settings) where
               })
               (ap (λ (x : Settings). state x cells′ layer′) (same-place s₂ p₂ (sym i)) ∙ done) (u ∙ ap (λ (x : State). put (c .printed) (copyOf (r .item) x) printer) same) k
 
-    pub end : (r : Outcome) → length m ≤ at → r .settings ≡ withPlace s p → r .answer ≡ answerAt at c → Serves m (state s₀ cells₀ layer₀) printer₀ r cells layer printer
-    end r h e a = finish m (state s₀ cells₀ layer₀) printer₀ at st c printer (g .going) h r (ap (λ (x : Settings). state x cells layer) e) a
+    pub end : (r : Outcome) {shown : List ℕ} → length m ≤ at → r .settings ≡ withPlace s p → r .answer ≡ answerAt at c → shown ≡ painting (state (withPlace s p) cells layer)
+        → Serves m (state s₀ cells₀ layer₀) printer₀ r cells layer shown printer
+    end r h e a w =
+        finish m (state s₀ cells₀ layer₀) printer₀ at st c printer (g .going) h r (ap (λ (x : Settings). state x cells layer) e) a (w ∙ ap (λ (x : Settings). painting (state x cells layer)) (sym e))

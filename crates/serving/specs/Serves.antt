@@ -1,4 +1,4 @@
--- What serving a message leaves, by the rules: the state, the answer and the printer bytes of all its items.
+-- What serving a message leaves, by the rules: the state, the answer and the printer bytes of all its items, and the picture.
 use mathlib.Core.Path.{_≡_}
 use Prim.Native.Nat.{ℕ, _≤_}
 use mathlib.Core.List.{List}
@@ -8,24 +8,24 @@ use Rattle.model.specs.declared.Settings.{Settings}
 use Rattle.model.specs.Bytes.{written}
 use Rattle.model.specs.State.{State, state}
 use Rattle.model.specs.Sound.{Sound}
+use Rattle.model.specs.Picture.{painting}
 use Rattle.model.specs.Reading.{Read, uncut}
 use Rattle.model.specs.Items.{applyAll, blankAnswer, copies, countedAll, eventsOf, readsOf}
 
 -- what serving asks: sound settings, stores of their sizes, a message that is not too long
-pub record Servable (s : Settings) (m cells layer : List ℕ) : Type 0 where
+pub record Servable (s : Settings) (m cells layer shown : List ℕ) : Type 0 where
   pub sound : Sound s
   pub short : length m ≤ 4096
   pub cells-are : length cells ≡ 3840
   pub layer-are : length layer ≡ 1280
+  pub shown-are : length shown ≡ 640
 
 -- the items of a message, read from what stands, with a printer buffer
 abbrev pub itemsOf : List ℕ → State → List ℕ → List Read
 itemsOf m st buffer = readsOf (uncut m) 0 st (length buffer)
 
-pub record Serves (m : List ℕ) (st : State) (buffer : List ℕ) (r : Outcome) (cells layer printer : List ℕ) : Type 0 where
+pub record Serves (m : List ℕ) (st : State) (buffer : List ℕ) (r : Outcome) (cells layer shown printer : List ℕ) : Type 0 where
   pub state-is : state (r .settings) cells layer ≡ applyAll (eventsOf (itemsOf m st buffer)) st
+  pub shown-is : shown ≡ painting (state (r .settings) cells layer)
   pub answer-is : r .answer ≡ countedAll (itemsOf m st buffer) (blankAnswer 0)
   pub printer-is : printer ≡ written (copies (eventsOf (itemsOf m st buffer)) st) buffer
-  pub sound : Sound (r .settings)
-  pub cells-are : length cells ≡ 3840
-  pub layer-are : length layer ≡ 1280

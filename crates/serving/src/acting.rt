@@ -11,7 +11,7 @@ ghost use Rattle.model.specs.Judging.{legalItem?};
 ghost use Rattle.reader.specs.Reading.{ReadAt};
 ghost use Rattle.screen.specs.Frame.{Ready, limitsIn};
 ghost use Rattle.paint.specs.Paintable.{Paintable};
-ghost use Rattle.serving.specs.Acting.{Moves, BareThen, Applying, Applied, draws?, Drawing, Drawn};
+ghost use Rattle.serving.specs.Acting.{Moves, BareThen, Applying, Applied, isPattern?, ItemAsked, ItemStored};
 use crate::counting::is_copy;
 use model::Item;
 use model::Limits;
@@ -121,24 +121,24 @@ pub(crate) fn apply(settings: Settings, item: Item, cells: &mut [u8], layer: &mu
 }
 
 // Whether an item is 224.
-pub(crate) fn draws(item: Item) -> bool
-    ensures { λ r. ⌜ r ≡ draws? item ⌝ }
+pub(crate) fn is_pattern(item: Item) -> bool
+    ensures { λ r. ⌜ r ≡ isPattern? item ⌝ }
 {
     let Item::Sequence(q) = item else {
         return false;
     };
-    settings::draws(q)
+    settings::is_pattern(q)
 }
 
 // 224: "its eight rows stored".
-pub(crate) fn draw(settings: Settings, item: Item, message: &[u8]) -> Settings
-    requires { ⌜ Drawing settings item (now message) ⌝ }
-    ensures { λ r. ⌜ Drawn settings item (now (message .entry)) r ⌝ }
+pub(crate) fn store_pattern(settings: Settings, item: Item, message: &[u8]) -> Settings
+    requires { ⌜ ItemAsked settings item (now message) ⌝ }
+    ensures { λ r. ⌜ ItemStored settings item (now (message .entry)) r ⌝ }
 {
     let Item::Sequence(q) = item else {
         return settings;
     };
-    settings::draw(settings, q, message)
+    settings::store_pattern(settings, q, message)
 }
 
 // 80: "appends the picture at that moment"; any other item prints nothing.

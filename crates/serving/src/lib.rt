@@ -14,11 +14,11 @@ ghost use Rattle.serving.specs.Serves.{Servable, Serves};
 use acting::act;
 use acting::apply;
 use acting::bare_after;
-use acting::draw;
-use acting::draws;
+use acting::is_pattern;
 use acting::print_copy;
 use acting::read_at;
 use acting::stays;
+use acting::store_pattern;
 use counting::answer_of;
 use counting::count;
 use counting::no_counts;
@@ -26,9 +26,9 @@ use model::Answer;
 use model::Outcome;
 use model::Place;
 use model::Settings;
-use places::chosen;
 use places::keep_patterns;
 use places::placed;
+use places::selected_place;
 
 // What the answer counts, while a message is served.
 pub struct Counts {
@@ -41,7 +41,7 @@ pub struct Counts {
 
 // "An accepted message is read into items; each in turn changes what stands as its rule says"; "it always ends by painting". The settings
 // stay where they are: the selected screen's place is kept beside them, and a run of printed bytes and an item of that screen only move
-// it. Nothing here takes an index into the settings that is not a literal, so that a compiler keeps them in registers.
+// it. Nothing here takes an index into the settings that is not a literal, so that a compiler can take them apart into their fields.
 pub fn serve(
     settings: Settings,
     message: &[u8],
@@ -50,11 +50,11 @@ pub fn serve(
     shown: &mut [u8],
     printer: &mut [u8],
 ) -> Outcome
-    requires { ⌜ (Servable settings (now message) (now cells) (now layer)) × (length (now shown) ≡ 640) ⌝ }
-    ensures { λ r. ⌜ (Serves (now (message .entry)) (state settings (now (cells .entry)) (now (layer .entry))) (now (printer .entry)) r (now (cells .exit)) (now (layer .exit)) (now (printer .exit))) × (now (shown .exit) ≡ painting (state (r .settings) (now (cells .exit)) (now (layer .exit)))) ⌝ }
+    requires { ⌜ Servable settings (now message) (now cells) (now layer) (now shown) ⌝ }
+    ensures { λ r. ⌜ Serves (now (message .entry)) (state settings (now (cells .entry)) (now (layer .entry))) (now (printer .entry)) r (now (cells .exit)) (now (layer .exit)) (now (shown .exit)) (now (printer .exit)) ⌝ }
 {
     let mut s = settings;
-    let mut place = chosen(s);
+    let mut place = selected_place(s);
     let mut frame = screen::frame_of(s, store::all_zero(layer));
     let mut counts = no_counts();
     let mut at = 0;
@@ -78,15 +78,15 @@ pub fn serve(
         }
         let places = placed(s, place);
         s.places = places;
-        if draws(item) {
-            s = draw(s, item, message);
+        if is_pattern(item) {
+            s = store_pattern(s, item, message);
             at += size;
             continue;
         }
         print_copy(s, item, cells, layer, printer, printed);
         let next = apply(s, item, cells, layer);
         s = keep_patterns(s, next);
-        place = chosen(s);
+        place = selected_place(s);
         frame = screen::frame_of(s, bare_after(item, frame.bare));
         at += size;
     }

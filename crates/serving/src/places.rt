@@ -1,14 +1,14 @@
 // The settings apart from the selected screen's place and from the patterns.
 ghost use mathlib.Core.Path.{_≡_};
 ghost use Prim.Native.Nat.{_<_};
-ghost use lib.ListN.{length, set};
+ghost use lib.ListN.{set};
 ghost use Rattle.model.specs.Screens.{placeOf};
 use model::Place;
 use model::Settings;
 
 // The selected screen's place, picked by its number. It is picked from a copy of the two places: an index into the settings themselves that
 // is not a literal would keep a compiler from taking them apart, and so have all of them copied.
-pub(crate) fn chosen(settings: Settings) -> Place
+pub(crate) fn selected_place(settings: Settings) -> Place
     requires { ⌜ settings .selected < 2 ⌝ }
     ensures { λ r. ⌜ r ≡ placeOf settings (settings .selected) ⌝ }
 {

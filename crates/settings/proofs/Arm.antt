@@ -1,11 +1,15 @@
 -- An arm of `obey` that has one sequence, and not 224: what stands is what the rules make of it, and they leave the patterns.
-use mathlib.Core.Path.{_≡_, _∙_, ap}
+use mathlib.Core.Path.{_≡_, _∙_, ap, sym}
 use Prim.Native.Nat.{ℕ}
+use mathlib.Core.Bool.{false}
 use mathlib.Core.List.{List, []}
+use lib.Dec.{eqb}
 use Rattle.model.specs.declared.Settings.{Settings}
 use Rattle.model.specs.declared.Sequence.{Sequence as Seq}
 use Rattle.model.specs.State.{State, state}
+use Rattle.model.specs.Sequences.{codeOf}
+use Rattle.model.proofs.Tests.{differ}
 use Rattle.settings.specs.Obey.{Obeyed, settled}
 
-pub arm : {s r : Settings} {q k : Seq} {cells layer cells′ layer′ : List ℕ} → q ≡ k → ((m : List ℕ) → state r cells′ layer′ ≡ settled m k (state s cells layer)) → settled [] k (state s cells layer) .settings .patterns ≡ s .patterns → Obeyed s q r cells layer cells′ layer′
-arm is stands kept = record { does = λ e m. rw is (stands m); keeps = ap (λ (st : State). st .settings .patterns) (stands []) ∙ kept }
+pub arm : {s r : Settings} {q k : Seq} {cells layer cells′ layer′ : List ℕ} → q ≡ k → ((m : List ℕ) → state r cells′ layer′ ≡ settled m k (state s cells layer)) → settled [] k (state s cells layer) .settings .patterns ≡ s .patterns → eqb (codeOf k) 224 ≡ false → Obeyed s q r cells layer cells′ layer′
+arm is stands kept other = record { does = λ e m. rw is (stands m); left = λ e. absurd (differ (sym e ∙ ap (λ (j : Seq). eqb (codeOf j) 224) is ∙ other)); keeps = ap (λ (st : State). st .settings .patterns) (stands []) ∙ kept }

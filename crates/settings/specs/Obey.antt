@@ -30,18 +30,21 @@ pub record Obeying (s : Settings) (q : Seq) (cells layer : List ℕ) : Type 0 wh
 pub record Obeyed (s : Settings) (q : Seq) (r : Settings) (cells layer cells′ layer′ : List ℕ) : Type 0 where
   -- every sequence but 224 does what the rules say of it, whatever the message
   pub does : eqb (codeOf q) 224 ≡ false → (m : List ℕ) → state r cells′ layer′ ≡ settled m q (state s cells layer)
+  -- 224 changes nothing here
+  pub left : eqb (codeOf q) 224 ≡ true → state r cells′ layer′ ≡ state s cells layer
   -- the patterns are 224's alone
   pub keeps : r .patterns ≡ s .patterns
 
 -- for 224: sound settings, its code in its range, and the eight rows of the pattern in the message
-pub record Drawing (s : Settings) (q : Seq) (m : List ℕ) : Type 0 where
+pub record PatternAsked (s : Settings) (q : Seq) (m : List ℕ) : Type 0 where
   pub sound : Sound s
   pub legal : legal? q (limitsOf s) ≡ true
   pub rows : (c at : ℕ) → q ≡ Pattern c at → at + 8 ≤ length m
 
--- what `draw` leaves of settings s with the message m: settings r
-pub record Drawn (s : Settings) (q : Seq) (m : List ℕ) (r : Settings) : Type 0 where
+-- what `store_pattern` leaves of settings s with the message m: settings r
+pub record PatternStored (s : Settings) (q : Seq) (m : List ℕ) (r : Settings) : Type 0 where
   -- 224 does what the rules say of it, and touches no store
   pub does : eqb (codeOf q) 224 ≡ true → (cells layer : List ℕ) → state r cells layer ≡ settled m q (state s cells layer)
-  -- nothing but the patterns is another
+  -- nothing but the patterns is another, and by 224 alone
   pub rest : r ≡ withStored s (s .kind) (s .keys) (r .patterns)
+  pub others : eqb (codeOf q) 224 ≡ false → r ≡ s

@@ -10,12 +10,12 @@ mod patterns;
 ghost use mathlib.Core.Path.{_≡_};
 ghost use lib.Dec.{eqb};
 ghost use Rattle.model.specs.Sequences.{codeOf};
-ghost use Rattle.settings.specs.Obey.{Obeying, Obeyed, Drawing, Drawn};
+ghost use Rattle.settings.specs.Obey.{Obeying, Obeyed, PatternAsked, PatternStored};
 use model::Sequence;
 use model::Settings;
 
 // Does what an accepted sequence says, unless it is 224, and leaves the patterns. The last arm is what changes nothing here: the
-// sequences of crate screen, 80 (the copy is made from the picture), 198, 199 and 246, and 224, which `draw` does.
+// sequences of crate screen, 80 (the copy is made from the picture), 198, 199 and 246, and 224, which `store_pattern` does.
 pub fn obey(settings: Settings, q: Sequence, cells: &mut [u8], layer: &mut [u8]) -> Settings
     requires { ⌜ Obeying settings q (now cells) (now layer) ⌝ }
     ensures { λ r. ⌜ Obeyed settings q r (now (cells .entry)) (now (layer .entry)) (now (cells .exit)) (now (layer .exit)) ⌝ }
@@ -59,7 +59,7 @@ pub fn obey(settings: Settings, q: Sequence, cells: &mut [u8], layer: &mut [u8])
 }
 
 // Whether a sequence is 224.
-pub fn draws(q: Sequence) -> bool
+pub fn is_pattern(q: Sequence) -> bool
     ensures { λ r. ⌜ r ≡ eqb (codeOf q) 224 ⌝ }
 {
     if let Sequence::Pattern { code: _, at: _ } = q {
@@ -70,9 +70,9 @@ pub fn draws(q: Sequence) -> bool
 }
 
 // Does what an accepted 224 says. Any other sequence leaves the settings.
-pub fn draw(settings: Settings, q: Sequence, message: &[u8]) -> Settings
-    requires { ⌜ Drawing settings q (now message) ⌝ }
-    ensures { λ r. ⌜ Drawn settings q (now (message .entry)) r ⌝ }
+pub fn store_pattern(settings: Settings, q: Sequence, message: &[u8]) -> Settings
+    requires { ⌜ PatternAsked settings q (now message) ⌝ }
+    ensures { λ r. ⌜ PatternStored settings q (now (message .entry)) r ⌝ }
 {
     let Sequence::Pattern { code, at } = q else {
         return settings;

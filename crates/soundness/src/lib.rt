@@ -6,7 +6,7 @@ ghost use lib.Dec.{eqb};
 ghost use lib.ListN.{length};
 ghost use Prim.Native.Nat.{_+_, _-_, _≤_};
 ghost use Rattle.model.specs.Checks.{member, inRanges?};
-ghost use Rattle.model.specs.Sound.{charsets, shifts, shapeRanges, insideRanges, otherRanges, keyRanges, plainRanges, sound?};
+ghost use Rattle.model.specs.Sound.{charsets, shifts, shapeRanges, insideRanges, otherRanges, keyRanges, sound?};
 use model::Keys;
 use model::Place;
 use model::Settings;

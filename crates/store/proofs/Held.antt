@@ -52,3 +52,6 @@ seen xs i {a} {b} h low here k l =
 -- no byte is greater than 0
 pub zeros : (xs : List ℕ) → ((k : ℕ) → k < length xs → getD xs k 0 ≤ 0) → xs ≡ replicate (length xs) 0
 zeros xs h = ext-getD 0 xs (replicate (length xs) 0) (sym (length-replicate (length xs) 0)) (λ k l. let z : getD xs k 0 ≡ 0 = omega (arith, h k l) in z ∙ sym (getD-replicate (length xs) k 0 0 l))
+
+pub zero-at : (xs : List ℕ) (k : ℕ) → k < length xs → xs ≡ replicate (length xs) 0 → getD xs k 0 ≡ 0
+zero-at xs k l e = ap (λ (ys : List ℕ). getD ys k 0) e ∙ getD-replicate (length xs) k 0 0 l

@@ -8,7 +8,7 @@ use native.Mathlib.Omega.{arith}
 use mathlib.Core.List.{List, [], _++_, _∷_, append-assoc, append-nil}
 use lib.ListN.{List·getD-append, drop, drop-of-length-le, getD, length, length-append, length-drop, length-replicate, length-take, replicate, replicate-append-replicate, set, take, take-append-drop}
 use lib.Seq.{drop-at, drop-drop, getD-append-add, getD-drop, length-take-le, set-split, take-at, take-suc}
-use Rattle.model.specs.Bytes.{onPart, put, written}
+use Rattle.model.specs.Bytes.{onPart, put}
 use Rattle.model.proofs.ByteLaws.{length-put}
 
 -- what comes home from a part that was lent, `&mut xs[from..to]`, is onPart of what its borrower did
@@ -104,14 +104,6 @@ pub put-two : (a : ℕ) (ys : List ℕ) (v w : ℕ) (xs : List ℕ) {l : List �
 put-two a ys v w xs e i i′ h =
     let n : length (ys ++ (v ∷ [])) ≡ length ys + 1 = length-append ys (v ∷ []) in
     put-more a (ys ++ (v ∷ [])) w xs (put-more a ys v xs e i refl refl (omega arith)) (omega arith) refl (sym (append-assoc ys (v ∷ []) (w ∷ []))) h
-
--- bytes written at the start are bytes put there; more are put behind them
-written-put : (ys xs : List ℕ) → written ys xs ≡ put 0 ys xs
-unfolding written put onPart
-written-put ys xs = rw zero-add
-
-pub put-written : (ys zs xs : List ℕ) → length ys ≤ length xs → put (length ys) zs (written ys xs) ≡ written (ys ++ zs) xs
-put-written ys zs xs h = put-then 0 ys xs (omega arith) (length ys) zs (written-put ys xs) (omega arith) ∙ sym (written-put (ys ++ zs) xs)
 
 -- one byte more: of a list, of bytes that are alike
 pub take-more : (xs : List ℕ) (i : ℕ) → i < length xs → take (i + 1) xs ≡ take i xs ++ (getD xs i 0 ∷ [])

@@ -1,5 +1,5 @@
-// Regions of a byte slice: filled, blanked, moved by a line, copied into another slice. Bytes that are to be copied are taken up
-// whole into an array before they are laid down: so a compiler, which does not know whether two slices overlap, makes one wide move
+// Regions of a byte slice: filled, blanked, moved by a line, copied into another slice. From 16 on, bytes that are to be copied are
+// taken up whole into an array before they are laid down: so a compiler, which does not know whether two slices overlap, makes one wide move
 // of both, and the array is never there.
 ghost use mathlib.Core.Path.{_≡_};
 ghost use Prim.Native.Nat.{_+_, _≤_};
@@ -30,7 +30,7 @@ pub fn blank(cells: &mut [u8], from: usize, count: usize)
 
 // Whether every byte of `region` is 0. The loop never stops early, so that a compiler compares many bytes at once.
 pub fn all_zero(region: &[u8]) -> bool
-    ensures { λ r. ⌜ (r ≡ true → now (region .entry) ≡ replicate (length (now (region .entry))) 0) ⌝ }
+    ensures { λ r. ⌜ (r ≡ true → now (region .entry) ≡ replicate (length (now (region .entry))) 0) × (now (region .entry) ≡ replicate (length (now (region .entry))) 0 → r ≡ true) ⌝ }
 {
     let mut any = 0;
     let mut i = 0;
@@ -41,9 +41,9 @@ pub fn all_zero(region: &[u8]) -> bool
     any == 0
 }
 
-// The bits of both: no less than either.
+// The bits of both: no less than either, and 0 only of two zeros.
 fn either(x: u8, y: u8) -> u8
-    ensures { λ r. ⌜ (x ≤ r) × (y ≤ r) ⌝ }
+    ensures { λ r. ⌜ (x ≤ r) × ((y ≤ r) × (r ≤ x + y)) ⌝ }
 {
     x | y
 }
@@ -118,7 +118,7 @@ fn copy_bytes(dst: &mut [u8], from: usize, src: &[u8], at: usize, count: usize)
 }
 
 // The `count` bytes from index `from` are written in the same region from index `to`.
-fn shift(region: &mut [u8], to: usize, from: usize, count: usize)
+fn move_within(region: &mut [u8], to: usize, from: usize, count: usize)
     requires { ⌜ (to + count ≤ length (now region)) × ((from + count ≤ length (now region)) × (count ≤ 3840)) ⌝ }
     ensures { λ _. ⌜ now (region .exit) ≡ put to (take count (drop from (now (region .entry)))) (now (region .entry)) ⌝ }
 {
@@ -133,7 +133,7 @@ fn up(region: &mut [u8], width: usize)
     ensures { λ _. ⌜ now (region .exit) ≡ scrolledUp width (now (region .entry)) ⌝ }
 {
     let kept = region.len() - width;
-    shift(region, 0, width, kept);
+    move_within(region, 0, width, kept);
     blank(region, kept, width);
 }
 
@@ -143,6 +143,6 @@ fn down(region: &mut [u8], width: usize)
     ensures { λ _. ⌜ now (region .exit) ≡ scrolledDown width (now (region .entry)) ⌝ }
 {
     let kept = region.len() - width;
-    shift(region, width, 0, kept);
+    move_within(region, width, 0, kept);
     blank(region, 0, width);
 }

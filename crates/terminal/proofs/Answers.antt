@@ -10,7 +10,6 @@ use Rattle.model.specs.declared.Answer.{Answer}
 use Rattle.model.specs.declared.Outcome.{Outcome}
 use Rattle.model.specs.declared.Settings.{Settings}
 use Rattle.model.specs.State.{state}
-use Rattle.model.specs.Picture.{painting}
 use Rattle.model.specs.Items.{blankAnswer}
 use Rattle.model.specs.Calls.{Promised, Terminal, called, firstOf, message, numberOf, reasons, request, short, sized, soundIn, terminal}
 use Rattle.model.proofs.CallLaws.{accepted-number, refused-number}
@@ -42,22 +41,22 @@ module _ (s : Settings) (m cells layer shown : List ℕ) where
   abbrev given : Terminal
   given = terminal s cells layer shown
 
-  pub servable : firstOf (reasons given (message m)) ≡ 0 → (Servable s m cells layer) × (length shown ≡ 640)
+  pub servable : firstOf (reasons given (message m)) ≡ 0 → Servable s m cells layer shown
   unfolding soundIn
   servable e = go (sized given) (short m) (soundIn given) refl refl refl
     where
-      go : (a b c : Bool) → sized given ≡ a → short m ≡ b → soundIn given ≡ c → (Servable s m cells layer) × (length shown ≡ 640)
-      go true true true p q r = let z = sizes given p in (record { sound = sound-true s r; short = leb-true (length m) 4096 q; cells-are = z .0; layer-are = z .1 }, z .2)
+      go : (a b c : Bool) → sized given ≡ a → short m ≡ b → soundIn given ≡ c → Servable s m cells layer shown
+      go true true true p q r = let z = sizes given p in record { sound = sound-true s r; short = leb-true (length m) 4096 q; cells-are = z .0; layer-are = z .1; shown-are = z .2 }
       go true true false p q r = absurd (omega (arith, e, numbered given m true true false p q r))
       go true false c p q r = absurd (omega (arith, e, numbered given m true false c p q r))
       go false b c p q r = absurd (omega (arith, e, numbered given m false b c p q r))
 
   module _ (buffer : List ℕ) where
-    pub served : (r : Outcome) (cells′ layer′ shown′ printer′ : List ℕ) → firstOf (reasons given (message m)) ≡ 0 → Serves m (state s cells layer) buffer r cells′ layer′ printer′ → shown′ ≡ painting (state (r .settings) cells′ layer′)
+    pub served : (r : Outcome) (cells′ layer′ shown′ printer′ : List ℕ) → firstOf (reasons given (message m)) ≡ 0 → Serves m (state s cells layer) buffer r cells′ layer′ shown′ printer′
         → Promised (called m given buffer (r .answer) (terminal (r .settings) cells′ layer′ shown′) printer′)
     unfolding ends answers prints rest numberOf
-    served r cells′ layer′ shown′ printer′ e w p =
-        promised-served m given buffer (r .answer) (terminal (r .settings) cells′ layer′ shown′) printer′ (accepted-number given (request (message m) (length buffer)) e) (w .state-is) p (w .answer-is) (w .printer-is)
+    served r cells′ layer′ shown′ printer′ e w =
+        promised-served m given buffer (r .answer) (terminal (r .settings) cells′ layer′ shown′) printer′ (accepted-number given (request (message m) (length buffer)) e) (w .state-is) (w .shown-is) (w .answer-is) (w .printer-is)
 
     pub refused : (n : ℕ) (a : Answer) → n ≡ firstOf (reasons given (message m)) → (n ≡ 0 → ⊥) → a ≡ blankAnswer n → Promised (called m given buffer a given buffer)
     unfolding numberOf

@@ -39,7 +39,7 @@ use std::hint::black_box;
 use std::process::ExitCode;
 use std::time::{Duration, Instant};
 
-const RUNS: usize = 25;
+const RUNS: usize = 75;
 const SIZES: [usize; 4] = [1, 20, 200, 4096];
 /// How long a run should last at least.
 const SHORTEST_RUN: Duration = Duration::from_millis(3);

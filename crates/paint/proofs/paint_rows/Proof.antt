@@ -12,10 +12,10 @@ use Rattle.paint.proofs.paint_rows.Statement.{statement}
 use Rattle.paint.proofs.paint_rows.Tie as tie
 
 abbrev Inv-loop : tie.InvT-loop
-Inv-loop one gap two cells shown₀ same row₀ shown row = (row ≤ 8) × ((length shown ≡ 640) × (shown ≡ painted 0 (row * 80) (seen same cells) shown₀))
+Inv-loop one gap two cells shown₀ view row₀ shown row = (row ≤ 8) × ((length shown ≡ 640) × (shown ≡ painted 0 (row * 80) (seen view cells) shown₀))
 
 abbrev μ-loop : tie.MeasureT-loop
-μ-loop one gap two cells shown₀ same row₀ shown row = 8 - row
+μ-loop one gap two cells shown₀ view row₀ shown row = 8 - row
 
 -- a view made anew from numbers that are its own
 made-anew : (v : View) {one gap two : ℕ} → (one ≡ v .left .width) × ((gap ≡ v .gap) × (two ≡ v .right .width))

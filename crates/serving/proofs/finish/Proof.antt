@@ -1,5 +1,5 @@
 -- `finish` meets its contract: the settings with their place back are painted.
-use mathlib.Core.Path.{_∙_, _≡_, ap, refl, subst, sym}
+use mathlib.Core.Path.{_∙_, ap, refl, subst, sym}
 use mathlib.Core.List.{List}
 use borrow.Author.Needs.{needs}
 use Rattle.model.specs.declared.Place.{Place}

@@ -7,7 +7,7 @@ use Rattle.store.proofs.either.Tie as tie
 returns : tie.Need-returns
 returns c =
     let a = c .args in
-    (omega (arith, or-add-and (a .x) (a .y), and-le-r (a .x) (a .y)), omega (arith, or-add-and (a .x) (a .y), and-le-l (a .x) (a .y)))
+    (omega (arith, or-add-and (a .x) (a .y), and-le-r (a .x) (a .y)), (omega (arith, or-add-and (a .x) (a .y), and-le-l (a .x) (a .y)), omega (arith, or-add-and (a .x) (a .y))))
 
 pub either-spec : {M : Type 1} → statement M
 either-spec = tie.close (tie.spec returns)

@@ -13,7 +13,7 @@ returns c =
     let blanked = c .before .before in
     let moved = blanked .before .before .before .before in
     let a = moved .before .before .before .args in
-    blanked .blank .ensures ∙ up-made (a .width) (length (a .region .now) - a .width) (a .region .now) (moved .shift .ensures) refl (omega arith)
+    blanked .blank .ensures ∙ up-made (a .width) (length (a .region .now) - a .width) (a .region .now) (moved .move-within .ensures) refl (omega arith)
 
 pub up-spec : {M : Type 1} → statement M
 up-spec = tie.close (tie.spec (λ c. search needs) (λ c κs. search needs) (λ c κs. search needs) (λ c. search needs) returns)

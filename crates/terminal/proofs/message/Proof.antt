@@ -14,7 +14,7 @@ returns : tie.Need-returns
 returns c =
     let a = c .before .before .before .before .before .before .before .before .before .before .before .before .before .before .before .before .before .before .before .before .before .before .before .args in
     let w = c .before .before .before .before .before .before .before .before .serve in
-    served (a .settings) (a .message .now) (a .cells .now) (a .layer .now) (a .shown .now) (a .printer .now) (w .result) _ _ _ _ (sym (c .before .before .before .before .before .before .before .before .before .before .before .before .before .before .call-number .ensures) ∙ c .before .before .before .before .before .before .before .before .before .before .before .before .before .if1 .taken) (w .ensures .0) (w .ensures .1)
+    served (a .settings) (a .message .now) (a .cells .now) (a .layer .now) (a .shown .now) (a .printer .now) (w .result) _ _ _ _ (sym (c .before .before .before .before .before .before .before .before .before .before .before .before .before .before .call-number .ensures) ∙ c .before .before .before .before .before .before .before .before .before .before .before .before .before .if1 .taken) (w .ensures)
 
 returns-2 : tie.Need-returns-2
 returns-2 c =

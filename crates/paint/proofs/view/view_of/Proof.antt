@@ -13,22 +13,22 @@ returns c =
 returns-2 : tie.Need-returns-2
 returns-2 c =
     let entry = c .before .before .before in
-    shows-whole (entry .args .settings) (entry .pre) (c .if2 .taken) (c .before .chosen .ensures)
+    shows-whole (entry .args .settings) (entry .pre) (c .if2 .taken) (c .before .selected-window .ensures)
 
 mul-at : tie.Need-mul-at
 mul-at c =
     let entry = c .before .before .before in
-    omega (arith, shows-halves (entry .args .settings) (entry .pre) (c .if2 .left) (c .before .before .if1 .left) (c .before .chosen .ensures) .framed)
+    omega (arith, shows-halves (entry .args .settings) (entry .pre) (c .if2 .left) (c .before .before .if1 .left) (c .before .selected-window .ensures) .framed)
 
 add-at : tie.Need-add-at
 add-at c =
     let entry = c .before .before .before .before in
-    omega (arith, shows-halves (entry .args .settings) (entry .pre) (c .before .if2 .left) (c .before .before .before .if1 .left) (c .before .before .chosen .ensures) .framed)
+    omega (arith, shows-halves (entry .args .settings) (entry .pre) (c .before .if2 .left) (c .before .before .before .if1 .left) (c .before .before .selected-window .ensures) .framed)
 
 returns-3 : tie.Need-returns-3
 returns-3 c =
     let entry = c .before .before .before .before in
-    shows-halves (entry .args .settings) (entry .pre) (c .before .if2 .left) (c .before .before .before .if1 .left) (c .before .before .chosen .ensures)
+    shows-halves (entry .args .settings) (entry .pre) (c .before .if2 .left) (c .before .before .before .if1 .left) (c .before .before .selected-window .ensures)
 
 pub view-of-spec : {M : Type 1} → statement M
 view-of-spec =

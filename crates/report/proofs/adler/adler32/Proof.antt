@@ -1,8 +1,8 @@
 -- `adler32`: what is reached, with the bytes that are left, gives the sum of all.
-use mathlib.Core.Path.{_≡_, _∙_, refl, sym, ap}
+use mathlib.Core.Path.{_≡_, _∙_, refl, sym}
 use Prim.Native.Nat.{_-_, _≤_}
 use native.Mathlib.Omega.{arith}
-use lib.ListN.{length, drop, getD}
+use lib.ListN.{length, drop}
 use borrow.Author.Needs.{needs}
 use Rattle.report.specs.Adler.{adlerFrom}
 use Rattle.report.proofs.Sums.{adler-end, adler-next}

@@ -1,5 +1,5 @@
 -- A sequence is obeyed; any other item leaves all as it is.
-use mathlib.Core.Path.{_∙_, refl, sym}
+use mathlib.Core.Path.{refl, sym}
 use Rattle.model.specs.Rules.{applyItem}
 use Rattle.settings.specs.Obey.{settled}
 use Rattle.serving.specs.Acting.{applied}
@@ -15,14 +15,14 @@ obey-requires c κs =
 
 returns-2 : tie.Need-returns-2
 unfolding applied settled applyItem
-returns-2 c = let o = c .before .before .before .before .obey .ensures in rw (c .before .before .before .before .before .before .before .before .item .given .1) (record { does = o .does; keeps = o .keeps })
+returns-2 c = let o = c .before .before .before .before .obey .ensures in rw (c .before .before .before .before .before .before .before .before .item .given .1) (record { does = o .does; left = o .left; keeps = o .keeps })
 
 pub apply-spec : {M : Type 1} → statement M
 apply-spec =
     tie.close
     (tie.spec
     (λ c. search needs)
-    (λ c. record { does = λ e m. sym (no-sequence m _ _ (c .match .keys2) .0); keeps = refl })
+    (λ c. record { does = λ e m. sym (no-sequence m _ _ (c .match .keys2) .0); left = λ e. refl; keeps = refl })
     obey-requires
     (λ c. search needs)
     (λ c. search needs)

@@ -1,5 +1,4 @@
 -- `bare_then` meets its contract: 210 marks the layer, the arms behind it empty it, and the last leaves it.
-use mathlib.Core.Path.{refl}
 use borrow.Author.Needs.{needs}
 use Rattle.model.specs.Rules.{applyItem, blankFrom, cleared, emptied, modeSet, obeyed, onLines, placed, withLayer}
 use Rattle.serving.proofs.Layers.{bare-emptied, bare-kept, bare-lost}

@@ -5,7 +5,7 @@ use mathlib.Core.List.{List, []}
 use Rattle.model.specs.Bytes.{put}
 use Rattle.model.specs.State.{state}
 use Rattle.serving.proofs.Acted.{no-sequence}
-use Rattle.serving.proofs.Runs.{put-none}
+use Rattle.store.proofs.Laws.{put-none}
 use borrow.Author.Needs.{needs}
 use Rattle.serving.proofs.acting.print_copy.Statement.{statement}
 use Rattle.serving.proofs.acting.print_copy.Tie as tie

@@ -1,6 +1,5 @@
 -- `keep_patterns` meets its contract: every field but the patterns is taken, and these are the same.
 use mathlib.Core.Path.{sym}
-use borrow.Author.Needs.{needs}
 use Rattle.serving.proofs.places.keep_patterns.Statement.{statement}
 use Rattle.serving.proofs.places.keep_patterns.Tie as tie
 

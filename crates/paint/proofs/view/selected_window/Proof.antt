@@ -1,14 +1,14 @@
--- `chosen`: the window of the one screen or the other is that of the selected one.
+-- `selected_window`: the window of the one screen or the other is that of the selected one.
 use mathlib.Core.Path.{subst}
 use Prim.Native.Nat.{ℕ}
 use native.Mathlib.Omega.{arith}
 use borrow.Author.Needs.{needs}
 use Rattle.paint.specs.Panes.{Window}
-use Rattle.paint.proofs.view.chosen.Statement.{statement}
-use Rattle.paint.proofs.view.chosen.Tie as tie
+use Rattle.paint.proofs.view.selected_window.Statement.{statement}
+use Rattle.paint.proofs.view.selected_window.Tie as tie
 
-pub chosen-spec : {M : Type 1} → statement M
-chosen-spec =
+pub selected-window-spec : {M : Type 1} → statement M
+selected-window-spec =
     tie.close
     (tie.spec
     (λ c κs. search needs)

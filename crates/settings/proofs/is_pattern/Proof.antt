@@ -1,12 +1,12 @@
--- `settings::draws` meets its contract: only a pattern is 224.
+-- `settings::is_pattern` meets its contract: only a pattern is 224.
 use mathlib.Core.Path.{sym}
 use borrow.Author.Needs.{needs}
 use Rattle.settings.proofs.Idle.{no-pattern}
-use Rattle.settings.proofs.draws.Statement.{statement}
-use Rattle.settings.proofs.draws.Tie as tie
+use Rattle.settings.proofs.is_pattern.Statement.{statement}
+use Rattle.settings.proofs.is_pattern.Tie as tie
 
-pub draws-spec : {M : Type 1} → statement M
-draws-spec =
+pub is-pattern-spec : {M : Type 1} → statement M
+is-pattern-spec =
     tie.close
     (tie.spec
     (λ c. search needs)
