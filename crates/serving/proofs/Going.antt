@@ -4,14 +4,13 @@ use Prim.Native.Nat.{_+_, _-_, _<_, _≤_, ℕ}
 use native.Mathlib.Omega.{arith}
 use mathlib.Core.Bool.{true}
 use mathlib.Core.List.{List, [], _++_, append-assoc, append-nil}
-use lib.ListN.{drop, getD, length, length-append, length-take, take, take-append-drop}
-use lib.Seq.{drop-at, drop-drop, length-take-le, take-at}
+use lib.ListN.{drop, getD, length, take, take-append-drop}
+use lib.Seq.{drop-drop, length-take-le}
 use Rattle.model.specs.declared.Item.{Item}
 use Rattle.model.specs.declared.Item.the-variants.{Control, Printed, Refused, Sequence}
 use Rattle.model.specs.declared.Outcome.{Outcome}
-use Rattle.model.specs.Bytes.{onPart, put, written}
+use Rattle.model.specs.Bytes.{put, written}
 use Rattle.model.specs.State.{State, state}
-use Rattle.model.specs.Sound.{Sound}
 use Rattle.model.specs.Picture.{painting}
 use Rattle.model.specs.Judging.{judged, legalItem?, limitsOf}
 use Rattle.model.specs.Reading.{Read, itemOf, ownBytes}
@@ -23,6 +22,7 @@ use Rattle.model.proofs.ItemLaws.{obeyed-item}
 use Rattle.model.proofs.Loop.{answers, answers-turn, ends, ends-turn, prints, prints-turn, readAt, rest, rest-end}
 use Rattle.model.proofs.Patterns.{obeyed-in-message}
 use Rattle.model.proofs.Printing.{length-copy}
+use Rattle.store.proofs.Laws.{put-front, put-rest}
 use Rattle.serving.specs.declared.Counts.{Counts}
 use Rattle.serving.specs.Counting.{answerAt, countsWith, noCounts}
 use Rattle.serving.specs.Serves.{Serves}
@@ -45,19 +45,6 @@ counts-few (Printed b) at c = omega arith
 counts-few (Control b) at c = omega arith
 counts-few (Sequence q) at c = omega arith
 counts-few (Refused k) at c = omega arith
-
--- bytes put behind the first p: the front is those and they, the rest stays
-module _ (p : ℕ) (ys xs : List ℕ) (h : p + length ys ≤ length xs) where
-  front-length : length (take p xs ++ ys) ≡ p + length ys
-  front-length = simp (length-append, length-take) (omega arith)
-
-  put-front : take (p + length ys) (put p ys xs) ≡ take p xs ++ ys
-  unfolding put onPart
-  put-front = ap (take (p + length ys)) (sym (append-assoc (take p xs) ys (drop (p + length ys) xs))) ∙ take-at (take p xs ++ ys) (drop (p + length ys) xs) (p + length ys) front-length
-
-  put-rest : drop (p + length ys) (put p ys xs) ≡ drop (p + length ys) xs
-  unfolding put onPart
-  put-rest = ap (drop (p + length ys)) (sym (append-assoc (take p xs) ys (drop (p + length ys) xs))) ∙ drop-at (take p xs ++ ys) (drop (p + length ys) xs) (p + length ys) front-length
 
 -- the message m, what stood at first and the printer buffer as it came
 module _ (m : List ℕ) (first : State) (buffer : List ℕ) where

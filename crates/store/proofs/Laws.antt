@@ -52,6 +52,13 @@ module _ (a : ℕ) (ys xs : List ℕ) (fits : a + length ys ≤ length xs) where
       sym (drop-drop m (a + length ys) (put a ys xs)) ∙ ap (λ (l : List ℕ). drop m (drop (a + length ys) l)) split
       ∙ ap (drop m) (drop-at (take a xs ++ ys) (drop (a + length ys) xs) (a + length ys) upto) ∙ drop-drop m (a + length ys) xs
 
+  -- the front, with them, and what stands behind them
+  pub put-front : take (a + length ys) (put a ys xs) ≡ take a xs ++ ys
+  put-front = ap (take (a + length ys)) split ∙ take-at (take a xs ++ ys) (drop (a + length ys) xs) (a + length ys) upto
+
+  pub put-rest : drop (a + length ys) (put a ys xs) ≡ drop (a + length ys) xs
+  put-rest = rw add-zero at (behind 0)
+
   -- what is not overwritten stands as it was
   pub put-ahead : (k : ℕ) → a + length ys ≤ k → getD (put a ys xs) k 0 ≡ getD xs k 0
   put-ahead k h =
@@ -73,9 +80,8 @@ module _ (a : ℕ) (ys xs : List ℕ) (fits : a + length ys ≤ length xs) where
   pub put-then : (b : ℕ) (zs : List ℕ) {l : List ℕ} → l ≡ put a ys xs → b ≡ a + length ys → put b zs l ≡ put a (ys ++ zs) xs
   unfolding put onPart
   put-then b zs e i =
-      let t : take (a + length ys) (put a ys xs) ≡ take a xs ++ ys = rw split (take-at (take a xs ++ ys) (drop (a + length ys) xs) (a + length ys) upto) in
       let k : a + length ys + length zs ≡ a + length (ys ++ zs) = simp length-append (omega arith) in
-      rw (e, i, t, behind (length zs), k, append-assoc (take a xs), ← append-assoc ys)
+      rw (e, i, put-front, behind (length zs), k, append-assoc (take a xs), ← append-assoc ys)
 
   -- as many other bytes over them, or more
   pub put-over : (zs : List ℕ) → length ys ≤ length zs → put a zs (put a ys xs) ≡ put a zs xs
