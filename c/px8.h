@@ -21,7 +21,7 @@
  * three stores just as the call before left them. Nobody else should write
  * them meanwhile. Settings, cells and layer can be saved and taken up again
  * later without an opening: they are all that stands, and the next message
- * paints the shown screen from them.
+ * that is served paints the shown screen from them.
  *
  * Linking. libboard.a is made for x86-64 and its C calling convention. Of the
  * C library it needs at most memcpy, memmove, memset, memcmp and bcmp.
@@ -29,7 +29,8 @@
  * Not checked, since C cannot tell: a pointer that is null or dangling
  * although its length is not 0; a length larger than the buffer; buffers that
  * overlap each other or the message. Each of these is undefined behaviour.
- * Everything else is checked. A null pointer with length 0 is an empty buffer.
+ * Every other input is answered, by what it asks for or by a number. A null
+ * pointer with length 0 is an empty buffer.
  *
  * C99 or newer, C++98 or newer.
  */
@@ -89,8 +90,8 @@ typedef struct px8_place {
     uint8_t top;    /* the window's first line, 1 to lines - H + 1 */
 } px8_place;
 
-/* The keyboard's settings. They are stored for the board to act on; nothing
- * else in the library depends on them. */
+/* The keyboard's settings. They are stored for the board to act on; of what the
+ * library does only number 3 depends on them, by their ranges. */
 typedef struct px8_keys {
     uint8_t leds[3];    /* INS, CAPS, NUM; each 0 off, 1 on (ESC 160 to 165) */
     uint8_t charset;    /* one of the letters U F G E D W I S N (ESC 67) */
@@ -194,9 +195,10 @@ typedef struct px8_settings {
  *   ESC 246             no effect
  *   ESC 247 n           shift state, one of px8_keys.shift
  *
- * Printing takes away the mark over its cell. All marks go with an accepted
- * 42, 84, 89, 144, 145, 208, 209, with code 12, with a lifted screen and with a
- * window that moves.
+ * Printing takes away the mark over the place that shows its cell, if one does.
+ * All marks go with an accepted 42, 84, 89, 144, 145, 208, 209, with code 12, with
+ * a lifted screen and with a window that moves. While tracking is on, a window
+ * that misses the cursor's line after printing, codes 8, 10, 13 or ESC 61 moves.
  */
 
 /* ---- results ---- */
@@ -204,7 +206,8 @@ typedef struct px8_settings {
 /* The answer to a message. Between its fields there are padding bytes of no
  * fixed value: compare answers field by field. */
 typedef struct px8_answer {
-    uint8_t number;    /* PX8_SERVED, or why the whole call was refused: 1, 2, 3 */
+    uint8_t number;    /* PX8_SERVED, or why the whole call was refused: 1, 2, 3;
+                        * sequences may be refused in a call that was served */
     uint32_t taken;    /* bytes taken: all of the message, if served */
     uint32_t accepted; /* sequences accepted (printed bytes and codes not counted) */
     uint32_t refused;  /* sequences refused */
@@ -250,6 +253,10 @@ px8_opened px8_opening(uint8_t *cells, size_t cells_length,
  *
  * Each message is read by itself: a sequence does not run on into the next
  * one (number 12), save that 27, 209 at the very end means 27, 209, 0.
+ *
+ * A message that is served (answer.number 0) may hold refused sequences. Each is
+ * skipped alone and what follows is obeyed: after a refused cursor placing the
+ * text is printed at the old cursor. Look at answer.refused too.
  *
  * A refused call (answer.number 1, 2 or 3) changes nothing: it returns the
  * settings as they were given, all counts 0, first 0, offset 0 and printed 0,

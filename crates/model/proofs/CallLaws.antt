@@ -14,7 +14,7 @@ use Rattle.model.specs.declared.Item.the-variants.{Control, Printed, Ref
 use Rattle.model.specs.State.{State, opened, openedSettings}
 use Rattle.model.specs.Checks.{inRanges?, member, passes}
 use Rattle.model.specs.Screens.{base, cellAt, columnsOf, height, lineAt, linesOf, placeOf, textRows}
-use Rattle.model.specs.Sound.{Inside, arrayRanges, keyRanges, mode0, plainRanges}
+use Rattle.model.specs.Sound.{Good, Inside, arrayRanges, keyRanges, mode0, plainRanges}
 use Rattle.model.specs.Picture.{covered, painting, picture, pictureAt, under, windowAt}
 use Rattle.model.specs.Reading.{Read}
 use Rattle.model.specs.Items.{applyAll, blankAnswer, copies, counted, countedAll, eventsOf}
@@ -25,7 +25,6 @@ use Rattle.model.specs.Demand.{Opening, Resumed, acceptable}
 use Rattle.model.proofs.Tests.{and-both, and-left, and-right, cond-at, differ, elim-at, ranges-true}
 use Rattle.model.proofs.ByteLaws.{getD-listFrom, length-listFrom}
 use Rattle.model.proofs.SoundLaws.{true-sound}
-use Rattle.model.proofs.Frames.{Good}
 use Rattle.model.proofs.Events.{AllLegal, legal-reads}
 
 -- a call's number is 0 exactly when it is accepted

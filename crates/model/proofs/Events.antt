@@ -11,6 +11,7 @@ use Rattle.model.specs.declared.Item.{Item}
 use Rattle.model.specs.declared.Place.{Place}
 use Rattle.model.specs.declared.Item.the-variants.{Control, Printed, Refused, Sequence}
 use Rattle.model.specs.State.{State}
+use Rattle.model.specs.Sound.{Good}
 use Rattle.model.specs.Screens.{base, cellAt, columnsOf, lineAt, linesOf, size}
 use Rattle.model.specs.Sequences.{codeOf}
 use Rattle.model.specs.Reading.{byteOf, itemOf}
@@ -19,7 +20,7 @@ use Rattle.model.specs.Judging.{allowed, fitting, judged, legal?, legalI
 use Rattle.model.specs.Rules.{applyItem}
 use Rattle.model.specs.Items.{Event, applyAll, happened, itemRead, eventsOf, readsOf}
 use Rattle.model.specs.Claims.{InWindow, On, Unchanged, isRefusal, mustFollow, refusedEvent, setsMode}
-use Rattle.model.proofs.Frames.{Good, SameScreen, legalEvent?}
+use Rattle.model.proofs.Frames.{SameScreen, legalEvent?}
 use Rattle.model.specs.Demand.{noEvent}
 use Rattle.model.proofs.Tests.{cond-at, differ}
 use Rattle.model.proofs.ByteLaws.{getD-part}
@@ -83,11 +84,6 @@ unfolding applyAll
 good-at es a g l zero = g
 good-at [] a g l (suc n) = g
 good-at (e ∷ es) a g l (suc n) = good-at es (happened e a) (obeyed-event e a g (l .0) .good) (l .1) n
-
-pub good-all : (es : List Event) (a : State) → Good a → AllLegal es a → Good (applyAll es a)
-unfolding applyAll
-good-all [] a g l = g
-good-all (e ∷ es) a g l = good-all es (happened e a) (obeyed-event e a g (l .0) .good) (l .1)
 
 -- what stands after event n
 pub at-next : (es : List Event) (a : State) (n : ℕ) → n < length es → at es a (suc n) ≡ happened (getD es n noEvent) (at es a n)

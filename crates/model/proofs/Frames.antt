@@ -1,21 +1,14 @@
--- What the proofs of demand 3 carry from item to item: a good state, one screen the same in two states, legal items.
+-- What the proofs of demand 3 carry from item to item: one screen the same in two states, legal items.
 use mathlib.Core.Path.{_≡_}
 use Prim.Native.Nat.{ℕ}
 use mathlib.Core.Bool.{Bool}
 use mathlib.Core.List.{List}
-use lib.ListN.{length, take, drop}
+use lib.ListN.{take, drop}
 use Rattle.model.specs.declared.Limits.{Limits}
 use Rattle.model.specs.State.{State}
 use Rattle.model.specs.Screens.{linesOf, columnsOf, placeOf, height, base, size}
-use Rattle.model.specs.Sound.{Sound}
 use Rattle.model.specs.Judging.{legalItem?}
 use Rattle.model.specs.Items.{Event, itemRead}
-
--- sound settings, and stores of their sizes
-pub record Good (st : State) : Type 0 where
-  pub sound : Sound (st .settings)
-  pub cells-are : length (st .cells) ≡ 3840
-  pub layer-are : length (st .layer) ≡ 1280
 
 -- the cells of screen k
 abbrev pub cellsOf : State → ℕ → List ℕ

@@ -23,20 +23,6 @@ all-bytes w (x ∷ xs) =
     (unfinished? v) (all-bytes v xs ∙ append-assoc w (x ∷ []) xs)
     (append-assoc v (joined (gathered [] xs)) (remaining [] xs) ∙ ap (λ (l : List ℕ). v ++ l) (all-bytes [] xs) ∙ append-assoc w (x ∷ []) xs)
 
--- gathering goes on where it stopped: bytes may come in pieces
-pub gathered-append : (w xs ys : List ℕ) → (gathered w (xs ++ ys) ≡ gathered w xs ++ gathered (remaining w xs) ys) × (remaining w (xs ++ ys) ≡ remaining (remaining w xs) ys)
-unfolding gathered remaining
-gathered-append w [] ys = (refl, refl)
-gathered-append w (x ∷ xs) ys =
-    let v : List ℕ = w ++ (x ∷ []) in
-    by-test
-    (λ b. (elim b as (λ b. List (List ℕ)) [ true ↦ gathered v (xs ++ ys) | false ↦ v ∷ gathered [] (xs ++ ys) ]
-    ≡ elim b as (λ b. List (List ℕ)) [ true ↦ gathered v xs | false ↦ v ∷ gathered [] xs ] ++ gathered (elim b as (λ b. List ℕ) [ true ↦ remaining v xs | false ↦ remaining [] xs ]) ys)
-    × (elim b as (λ b. List ℕ) [ true ↦ remaining v (xs ++ ys) | false ↦ remaining [] (xs ++ ys) ]
-    ≡ remaining (elim b as (λ b. List ℕ) [ true ↦ remaining v xs | false ↦ remaining [] xs ]) ys))
-    (unfinished? v) (gathered-append v xs ys)
-    (ap (λ (l : List (List ℕ)). v ∷ l) (gathered-append [] xs ys .0), gathered-append [] xs ys .1)
-
 joined-last : (xss : List (List ℕ)) (w : List ℕ) → joined (xss ++ lastly w) ≡ joined xss ++ w
 unfolding joined
 joined-last [] [] = refl

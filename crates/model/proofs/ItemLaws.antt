@@ -15,11 +15,11 @@ use Rattle.model.specs.Bytes.{listFrom, put, scrolledDown, scrolledUp}
 use Rattle.model.specs.State.{State, putAt, withDisplay, withMode, withStored}
 use Rattle.model.specs.Checks.{InRanges, Passes, range}
 use Rattle.model.specs.Screens.{base, columnsHere, columnsOf, height, here, linesHere, linesOf, placeOf, size, textRows}
-use Rattle.model.specs.Sound.{Inside, Shaped, Sound, arrayRanges, keyRanges, mode0, mode1, mode2, plainRanges}
+use Rattle.model.specs.Sound.{Good, Inside, Shaped, Sound, arrayRanges, keyRanges, mode0, mode1, mode2, plainRanges}
 use Rattle.model.specs.Judging.{legal?, legalItem?, limitsOf, ranges}
 use Rattle.model.specs.Rules.{applyItem, centred, flagged, modeSet, obeyed, placed, withArrows, withKeys, withKindPatterns, withLed, withSettings}
 use Rattle.model.specs.Claims.{isMode}
-use Rattle.model.proofs.Frames.{Good, SameScreen}
+use Rattle.model.proofs.Frames.{SameScreen}
 use Rattle.model.proofs.Tests.{differ, ranges-true}
 use Rattle.model.proofs.ByteLaws.{length-down, length-listFrom, length-put, length-up}
 use Rattle.model.proofs.Keep.{Kept, height-high, height-low, kept-emptied, kept-flags, kept-layer, kept-refl, kept-stored-only, kept-trans, line-inside, same-emptied, same-trans, shaped-columns, shaped-height}

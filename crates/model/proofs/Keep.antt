@@ -16,9 +16,9 @@ use Rattle.model.specs.Bytes.{onPart}
 use Rattle.model.specs.State.{State, nowhere, withStored}
 use Rattle.model.specs.Checks.{InRanges, Passes, range}
 use Rattle.model.specs.Screens.{base, columnsHere, columnsOf, height, here, linesHere, linesOf, placeOf, size, textRows}
-use Rattle.model.specs.Sound.{Fits, Inside, Shaped, Sound, arrayRanges, keyRanges, mode0, mode1, mode2, plainRanges}
+use Rattle.model.specs.Sound.{Fits, Good, Inside, Shaped, Sound, arrayRanges, keyRanges, mode0, mode1, mode2, plainRanges}
 use Rattle.model.specs.Rules.{emptied, flagged, placed, withCells, withLayer, withSettings}
-use Rattle.model.proofs.Frames.{Good, SameScreen, cellsOf}
+use Rattle.model.proofs.Frames.{SameScreen, cellsOf}
 use Rattle.model.proofs.Tests.{cond-at, cond₂}
 use Rattle.model.proofs.ByteLaws.{length-onPart, onPart-after, onPart-before, set-before}
 

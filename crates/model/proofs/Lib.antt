@@ -1,5 +1,7 @@
 pub mod Bays
 pub mod Tests
+pub mod Arms
+pub mod Cases
 pub mod ByteLaws
 pub mod SoundLaws
 pub mod Gathering

@@ -13,12 +13,12 @@ use Rattle.model.specs.declared.Settings.{Settings}
 use Rattle.model.specs.Bytes.{joined, written}
 use Rattle.model.specs.State.{State}
 use Rattle.model.specs.Screens.{base, cellAt, columnsOf, lineAt, linesOf, size}
-use Rattle.model.specs.Sound.{Sound}
+use Rattle.model.specs.Sound.{Good, Sound}
 use Rattle.model.specs.Items.{Event, applyAll, blankAnswer, bytesRead}
 use Rattle.model.specs.Calls.{Call, Promised, Request, Terminal, accepted, answerOf, eventsIn, numberOf, printedBy, readsIn, requestOf, served}
 use Rattle.model.specs.Claims.{Apart, InOrder, On, Shown, Standing, setsMode}
 use Rattle.model.specs.Demand.{Demand, Demand3, Made, Nth, Resumed, Start, Stretch, acceptable, before, event, eventsOver, first, itemCount, later, left, next, none, opening, requests, resumed, sentBy, stands, stood}
-use Rattle.model.proofs.Frames.{Good, SameScreen}
+use Rattle.model.proofs.Frames.{SameScreen}
 use Rattle.model.proofs.Keep.{same-refl, same-trans, within}
 use Rattle.model.proofs.ItemLaws.{Obeyed}
 use Rattle.model.proofs.Events.{AllLegal, apply-append, at-next, cell-inside, chained, event-at, good-at, legal-append, refused-nothing, unchanged, window-at}

@@ -6,6 +6,7 @@ use mathlib.Core.List.{List, [], _∷_, _++_}
 use lib.ListN.{length, getD, replicate}
 use lib.Dec.{eqb}
 use Rattle.model.specs.declared.Answer.{Answer}
+use Rattle.model.specs.Bytes.{listFrom}
 use Rattle.model.specs.Screens.{linesOf, columnsOf, placeOf, cellAt}
 use Rattle.model.specs.Calls.{Terminal, Request, request, message, served, answerOf, printedBy}
 use Rattle.model.specs.Opening.{openedTerminal}
@@ -147,6 +148,40 @@ abc = 65 ∷ 13 ∷ 10 ∷ 66 ∷ 13 ∷ 10 ∷ 67 ∷ []
 abbrev last : List ℕ
 last = 27 ∷ 61 ∷ 54 ∷ 32 ∷ 65 ∷ 27 ∷ 61 ∷ 55 ∷ 32 ∷ 66 ∷ 27 ∷ 61 ∷ 53 ∷ 32 ∷ 67 ∷ []
 
+-- a sequence of one parameter, with each of these
+abbrev each : ℕ → List ℕ → List ℕ
+each c [] = []
+each c (p ∷ ps) = 27 ∷ c ∷ p ∷ each c ps
+
+-- the table of modes: both ends of its ranges
+abbrev modesIn : List ℕ
+modesIn =
+    27 ∷ 208 ∷ 0 ∷ 8 ∷ 40 ∷ 27 ∷ 208 ∷ 0 ∷ 40 ∷ 8 ∷ 27 ∷ 208 ∷ 1 ∷ 16 ∷ 27 ∷ 208 ∷ 1 ∷ 48 ∷ 27 ∷ 208 ∷ 2 ∷ 8 ∷ 1 ∷ 0
+    ∷ 27 ∷ 208 ∷ 2 ∷ 48 ∷ 78 ∷ 255 ∷ []
+
+-- one beyond each
+abbrev modesOut : List ℕ
+modesOut =
+    27 ∷ 208 ∷ 0 ∷ 8 ∷ 7 ∷ 27 ∷ 208 ∷ 0 ∷ 8 ∷ 41 ∷ 27 ∷ 208 ∷ 1 ∷ 15 ∷ 27 ∷ 208 ∷ 1 ∷ 49 ∷ 27 ∷ 208 ∷ 2 ∷ 7 ∷ 20 ∷ 35
+    ∷ 27 ∷ 208 ∷ 2 ∷ 49 ∷ 20 ∷ 35 ∷ 27 ∷ 208 ∷ 2 ∷ 10 ∷ 0 ∷ 35 ∷ 27 ∷ 208 ∷ 2 ∷ 10 ∷ 79 ∷ 35 ∷ []
+
+-- every letter of 67 and every state of 247
+abbrev letters : List ℕ
+letters =
+    each 67 (85 ∷ 70 ∷ 71 ∷ 69 ∷ 68 ∷ 87 ∷ 73 ∷ 83 ∷ 78 ∷ []) ++ each 247 (0 ∷ 2 ∷ 4 ∷ 6 ∷ 16 ∷ 18 ∷ 32 ∷ 34 ∷ 64 ∷ 66 ∷ [])
+
+-- both ends of the other ranges of one parameter
+abbrev ends : List ℕ
+ends =
+    each 148 (1 ∷ 8 ∷ []) ++ (each 149 (0 ∷ 1 ∷ []) ++ (each 209 (0 ∷ 1 ∷ []) ++ (each 211 (0 ∷ 1 ∷ []) ++ (each 214 (0 ∷ 3 ∷ [])
+    ++ (each 240 (0 ∷ 1 ∷ []) ++ (each 241 (1 ∷ 127 ∷ []) ++ each 242 (1 ∷ 127 ∷ [])))))))
+
+-- one beyond each, and letters and states that are not there
+abbrev beyond : List ℕ
+beyond =
+    each 67 (65 ∷ 117 ∷ []) ++ (each 247 (1 ∷ 8 ∷ []) ++ (each 148 (0 ∷ 9 ∷ []) ++ (each 149 (2 ∷ []) ++ (each 209 (2 ∷ [])
+    ++ (each 211 (2 ∷ []) ++ (each 214 (4 ∷ []) ++ (each 240 (2 ∷ []) ++ (each 241 (0 ∷ 128 ∷ []) ++ each 242 (0 ∷ 128 ∷ [])))))))))
+
 -- where the table is silent
 unfoldable pub added : List Example
 added =
@@ -203,4 +238,53 @@ added =
     ∷ example (27 ∷ 213 ∷ []) (counts 2 1 0 0 ∷ top 17 ∷ cursorAt 1 1 ∷ [])
     -- a second screen keeps its own cursor and cells
     ∷ example (65 ∷ 27 ∷ 209 ∷ 1 ∷ 66 ∷ 27 ∷ 209 ∷ []) (counts 7 2 0 0 ∷ cursorAt 1 2 ∷ cell 1 1 1 65 ∷ cell 2 1 1 66 ∷ shows 1 1 65 ∷ selected 1 ∷ [])
+    -- a copy shows a mark of the layer, and blanks alone under secret
+    ∷ withRoom 1312 (65 ∷ 27 ∷ 210 ∷ 1 ∷ 1 ∷ 90 ∷ 27 ∷ 80 ∷ 27 ∷ 123 ∷ 27 ∷ 80 ∷ []) (counts 12 4 0 1312 ∷ printedByte 0 90 ∷ printedByte 656 32 ∷ printedByte 736 13 ∷ [])
+    -- each copy is the picture at its own moment
+    ∷ withRoom 1312 (27 ∷ 80 ∷ 65 ∷ 27 ∷ 80 ∷ []) (counts 5 2 0 1312 ∷ printedByte 0 32 ∷ printedByte 656 65 ∷ [])
+    -- secret stays on over a 208, and hides the boundary
+    ∷ example (27 ∷ 123 ∷ 27 ∷ 208 ∷ 2 ∷ 8 ∷ 20 ∷ 35 ∷ 65 ∷ []) (counts 9 2 0 0 ∷ cell 1 1 1 65 ∷ blank ∷ [])
+    -- 208 blanks all cells and empties the layer
+    ∷ example (66 ∷ 27 ∷ 210 ∷ 1 ∷ 1 ∷ 90 ∷ 27 ∷ 208 ∷ 1 ∷ 16 ∷ []) (blankCells ∷ blank ∷ layer 1 1 0 0 ∷ cursorAt 1 1 ∷ [])
+    -- it selects screen 1, sets step 1 and tracking on
+    ∷ example (27 ∷ 148 ∷ 5 ∷ 27 ∷ 149 ∷ 1 ∷ 27 ∷ 209 ∷ 1 ∷ 27 ∷ 208 ∷ 0 ∷ 24 ∷ 24 ∷ replicate 10 10 ++ (27 ∷ 151 ∷ [])) (selected 1 ∷ top 5 ∷ [])
+    -- other settings stay, the boundary too but in mode 2
+    ∷ example (27 ∷ 208 ∷ 2 ∷ 8 ∷ 20 ∷ 35 ∷ 27 ∷ 50 ∷ 27 ∷ 214 ∷ 3 ∷ 27 ∷ 211 ∷ 0 ∷ 27 ∷ 67 ∷ 78 ∷ 27 ∷ 162 ∷ 27 ∷ 176 ∷ 27 ∷ 224 ∷ 224 ∷ 1 ∷ 2 ∷ 3 ∷ 4 ∷ 5 ∷ 6 ∷ 7 ∷ 8 ∷ 27 ∷ 243 ∷ 9 ∷ 9 ∷ 9 ∷ 9 ∷ 27 ∷ 208 ∷ 0 ∷ 24 ∷ 24 ∷ []) (displayed 0 3 0 35 ∷ keySettings 78 0 1 32 16 0 ∷ led 2 1 ∷ pattern 224 8 8 ∷ arrow 4 9 ∷ columns 80 80 ∷ [])
+    -- the table of modes
+    ∷ example modesIn (counts 30 6 0 0 ∷ lines 48 48 ∷ columns 78 1 ∷ [])
+    ∷ example modesOut (counts 42 0 8 0 ∷ lines 24 24 ∷ columns 80 80 ∷ [])
+    -- 42, and code 12, which is not counted
+    ∷ example (replicate 10 10 ++ (65 ∷ 27 ∷ 210 ∷ 1 ∷ 1 ∷ 90 ∷ 27 ∷ 42 ∷ [])) (counts 18 2 0 0 ∷ cursorAt 1 1 ∷ top 1 ∷ layer 1 1 0 0 ∷ blankCells ∷ [])
+    ∷ example (replicate 10 10 ++ (65 ∷ 27 ∷ 210 ∷ 1 ∷ 1 ∷ 90 ∷ 12 ∷ [])) (counts 17 1 0 0 ∷ cursorAt 1 1 ∷ top 1 ∷ layer 1 1 0 0 ∷ blankCells ∷ [])
+    -- 8 stays at column 1, 10 keeps the column; other codes do nothing
+    ∷ example (8 ∷ 65 ∷ 66 ∷ 8 ∷ 67 ∷ 10 ∷ 68 ∷ []) (counts 7 0 0 0 ∷ cell 1 1 1 65 ∷ cell 1 1 2 67 ∷ cell 1 2 3 68 ∷ cursorAt 2 4 ∷ [])
+    ∷ example (listFrom (λ n. n) 0 8 ++ (9 ∷ 11 ∷ listFrom (λ n. n) 14 13 ++ listFrom (λ n. n) 28 4)) (counts 27 0 0 0 ∷ cursorAt 1 1 ∷ blankCells ∷ [])
+    -- bytes from 127 on print; 37 prints any code, as the glass shows it
+    ∷ example (127 ∷ 255 ∷ 27 ∷ 37 ∷ 0 ∷ 27 ∷ 37 ∷ 255 ∷ []) (counts 8 2 0 0 ∷ cell 1 1 1 127 ∷ cell 1 1 2 255 ∷ shows 1 3 0 ∷ cell 1 1 4 255 ∷ [])
+    -- printing in the last place lifts
+    ∷ example (27 ∷ 61 ∷ 55 ∷ 111 ∷ 65 ∷ []) (cursorAt 24 1 ∷ cell 1 23 80 65 ∷ cell 1 24 80 32 ∷ top 17 ∷ [])
+    -- 84 and 89 reach the line's and the screen's last cell
+    ∷ example (27 ∷ 61 ∷ 32 ∷ 111 ∷ 65 ∷ 66 ∷ 27 ∷ 61 ∷ 32 ∷ 32 ∷ 27 ∷ 84 ∷ []) (cell 1 1 80 32 ∷ cell 1 2 1 66 ∷ [])
+    ∷ example (27 ∷ 61 ∷ 54 ∷ 111 ∷ 65 ∷ 27 ∷ 145 ∷ 0 ∷ 24 ∷ 27 ∷ 61 ∷ 32 ∷ 32 ∷ 27 ∷ 89 ∷ []) (counts 15 4 0 0 ∷ blankCells ∷ [])
+    -- 212 from the last window; 148 and 151 by all of mode 1's window
+    ∷ example (27 ∷ 213 ∷ 27 ∷ 212 ∷ []) (top 1 ∷ [])
+    ∷ example (27 ∷ 208 ∷ 1 ∷ 48 ∷ 27 ∷ 148 ∷ 16 ∷ 27 ∷ 151 ∷ 27 ∷ 148 ∷ 17 ∷ []) (counts 12 3 1 0 ∷ top 17 ∷ [])
+    -- a window below the cursor: by the least amount, for 61 as 215 does; one that shows its line stays
+    ∷ example (27 ∷ 61 ∷ 43 ∷ 32 ∷ 27 ∷ 213 ∷ 65 ∷ []) (cursorAt 12 2 ∷ top 12 ∷ [])
+    ∷ example (27 ∷ 213 ∷ 27 ∷ 61 ∷ 43 ∷ 32 ∷ []) (cursorAt 12 1 ∷ top 8 ∷ [])
+    ∷ example (27 ∷ 213 ∷ 27 ∷ 61 ∷ 51 ∷ 32 ∷ []) (cursorAt 20 1 ∷ top 17 ∷ [])
+    -- tracking on again; a top that it changes empties the layer
+    ∷ example (27 ∷ 149 ∷ 1 ∷ 27 ∷ 149 ∷ 0 ∷ replicate 10 10) (top 4 ∷ [])
+    ∷ example (27 ∷ 210 ∷ 2 ∷ 3 ∷ 90 ∷ replicate 8 10) (top 2 ∷ layer 2 3 0 0 ∷ [])
+    ∷ example (27 ∷ 210 ∷ 2 ∷ 3 ∷ 90 ∷ 27 ∷ 61 ∷ 43 ∷ 32 ∷ []) (top 8 ∷ layer 2 3 0 0 ∷ [])
+    -- what is switched on goes off, and on again
+    ∷ example (27 ∷ 160 ∷ 27 ∷ 162 ∷ 27 ∷ 164 ∷ 27 ∷ 163 ∷ 27 ∷ 165 ∷ 27 ∷ 176 ∷ 27 ∷ 177 ∷ 27 ∷ 50 ∷ 27 ∷ 51 ∷ []) (counts 18 9 0 0 ∷ led 1 1 ∷ led 2 0 ∷ led 3 0 ∷ keySettings 85 1 1 32 16 0 ∷ displayed 1 0 1 32 ∷ [])
+    -- the ranges of one parameter, the places of 61 and 210, the codes of 224
+    ∷ example letters (counts 57 19 0 0 ∷ [])
+    ∷ example ends (counts 48 16 0 0 ∷ [])
+    ∷ example beyond (counts 45 0 15 0 ∷ [])
+    ∷ example (27 ∷ 61 ∷ 31 ∷ 32 ∷ 27 ∷ 61 ∷ 32 ∷ 31 ∷ 27 ∷ 61 ∷ 32 ∷ 112 ∷ 27 ∷ 210 ∷ 0 ∷ 1 ∷ 9 ∷ 27 ∷ 210 ∷ 9 ∷ 1 ∷ 9 ∷ 27 ∷ 210 ∷ 1 ∷ 0 ∷ 9 ∷ 27 ∷ 210 ∷ 1 ∷ 81 ∷ 9 ∷ []) (counts 32 0 7 0 ∷ blank ∷ cursorAt 1 1 ∷ [])
+    ∷ example (27 ∷ 224 ∷ 223 ∷ replicate 8 1 ++ (27 ∷ 224 ∷ 255 ∷ replicate 8 1 ++ (27 ∷ 224 ∷ 254 ∷ replicate 8 1))) (counts 33 1 2 0 ∷ pattern 254 8 1 ∷ pattern 253 8 0 ∷ [])
+    -- 198, 199 and 246 take their bytes and do nothing
+    ∷ example (27 ∷ 198 ∷ replicate 11 27 ++ (27 ∷ 199 ∷ 1 ∷ 2 ∷ 3 ∷ 4 ∷ 27 ∷ 246 ∷ 65 ∷ [])) (counts 22 3 0 0 ∷ cell 1 1 1 65 ∷ cursorAt 1 2 ∷ [])
     ∷ []

@@ -10,6 +10,7 @@ use Rattle.model.specs.declared.Place.{Place}
 use Rattle.model.specs.declared.Keys.{Keys}
 use Rattle.model.specs.declared.Settings.{Settings}
 use Rattle.model.specs.Checks.{Check, range, among, inRanges?, InRanges}
+use Rattle.model.specs.State.{State}
 use Rattle.model.specs.Screens.{linesOf, columnsOf, placeOf, height}
 
 -- "cursor line 1 to lines, cursor column 1 to columns, top 1 to lines−H+1"
@@ -64,6 +65,12 @@ pub record Sound (s : Settings) : Type 0 where
   pub step-low : 1 ≤ s .step
   pub step-high : s .step ≤ height s
   pub plain : InRanges (plainRanges s)
+
+-- what stands, fit to be served and painted: sound settings, and "Cells: 3,840 bytes. Layer: 1,280 bytes"
+pub record Good (st : State) : Type 0 where
+  pub sound : Sound (st .settings)
+  pub cells-are : length (st .cells) ≡ 3840
+  pub layer-are : length (st .layer) ≡ 1280
 
 -- the same as a test: a cursor and a window in lines of columns, H tall
 unfoldable pub insideRanges : ℕ → ℕ → ℕ → Place → List Check

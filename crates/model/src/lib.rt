@@ -1,5 +1,17 @@
 // The types of the terminal. What they mean, and every rule, is in specs/.
 
+// "Cells: 3,840 bytes. Layer: 1,280 bytes. Shown screen: 640": the layer's first half marks the places of the shown screen, the second has
+// their codes. A printed copy takes 656 bytes, and a message has at most 4,096.
+pub const CELLS: usize = 3840;
+
+pub const LAYER: usize = 1280;
+
+pub const SHOWN: usize = 640;
+
+pub const COPY: usize = 656;
+
+pub const MESSAGE: usize = 4096;
+
 // Of one screen: cursor line, cursor column and window top, each from 1.
 #[repr(C)]
 pub struct Place {

@@ -1,5 +1,5 @@
 -- Where windows lie among the cells.
-use mathlib.Core.Path.{_≡_, refl}
+use mathlib.Core.Path.{_≡_, refl, subst, sym}
 use Prim.Native.Nat.{_*_, _+_, _-_, _<_, _≤_, ℕ}
 use native.Mathlib.Nat.{add-mul}
 use native.Mathlib.Omega.{arith}
@@ -20,14 +20,20 @@ module _ (s : Settings) (sound : Sound s) where
       let f : Fits (linesOf s k) (columnsOf s k) (height s) (placeOf s k) = sound .inside k l in
       omega (arith, within s sound k l, lines-inside (columnsOf s k) (placeOf s k .top - 1) (height s) (linesOf s k) (omega arith))
 
-  -- the windows of the two screens, by the settings
-  pub window-1 : Window s 0 (record { at = (placeOf s 0 .top - 1) * s .columns1; width = s .columns1 })
-  unfolding lineAt base columnsOf
-  window-1 = record { starts = omega arith; wide = refl; inside = omega (arith, window-inside 0 (omega arith)) }
+  -- the windows of the two screens, by the screen's number
+  abbrev first : ℕ → Pane
+  first k = record { at = (placeOf s k .top - 1) * s .columns1; width = s .columns1 }
 
-  pub window-2 : Window s 1 (record { at = s .lines1 * s .columns1 + (placeOf s 1 .top - 1) * s .columns2; width = s .columns2 })
+  abbrev second : ℕ → Pane
+  second k = record { at = s .lines1 * s .columns1 + (placeOf s k .top - 1) * s .columns2; width = s .columns2 }
+
+  pub window-1 : (k : ℕ) → k ≡ 0 → Window s k (first k)
   unfolding lineAt base columnsOf
-  window-2 = record { starts = refl; wide = refl; inside = window-inside 1 (omega arith) }
+  window-1 k e = subst (λ (k : ℕ). Window s k (first k)) (sym e) (record { starts = omega arith; wide = refl; inside = omega (arith, window-inside 0 (omega arith)) })
+
+  pub window-2 : (k : ℕ) → k ≡ 1 → Window s k (second k)
+  unfolding lineAt base columnsOf
+  window-2 k e = subst (λ (k : ℕ). Window s k (second k)) (sym e) (record { starts = refl; wide = refl; inside = window-inside 1 (omega arith) })
 
   -- the cell of a window at a row and a column from 0 is that of document 01's line and column from 1
   pub in-window : (k : ℕ) → k < 2 → {pane : Pane} → Window s k pane → (row column line c : ℕ) → line ≡ row + 1 → c ≡ column + 1

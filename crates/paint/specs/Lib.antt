@@ -1,4 +1,3 @@
-pub mod Paintable
 pub mod Panes
 pub mod Painted
 pub mod Copy

@@ -8,18 +8,22 @@ ghost use lib.ListN.{length, replicate};
 ghost use lib.Dec.{eqb};
 ghost use mathlib.Core.Bool.{cond, true};
 ghost use Rattle.model.specs.Bytes.{put};
+ghost use Rattle.model.specs.Sound.{Good};
 ghost use Rattle.model.specs.State.{state};
 ghost use Rattle.model.specs.Picture.{painting, copied};
-ghost use Rattle.paint.specs.Paintable.{Paintable};
 ghost use Rattle.paint.specs.Painted.{laid, painted};
 ghost use Rattle.paint.specs.Panes.{Framed, seen};
 use model::Settings;
+use rows::COPY_ROW;
+use rows::PLACES;
+use rows::ROW;
 use view::Pane;
+use view::TEXT_ROWS;
 use view::View;
 
 // "It always ends by painting all 640 places." A layer that is known to be empty is not laid.
 pub fn paint(settings: Settings, bare: bool, cells: &[u8], layer: &[u8], shown: &mut [u8])
-    requires { ⌜ (Paintable settings (now cells) (now layer)) × ((bare ≡ true → now layer ≡ replicate 1280 0) × (length (now shown) ≡ 640)) ⌝ }
+    requires { ⌜ (Good (state settings (now cells) (now layer))) × ((bare ≡ true → now layer ≡ replicate 1280 0) × (length (now shown) ≡ 640)) ⌝ }
     ensures { λ _. ⌜ now (shown .exit) ≡ painting (state settings (now (cells .entry)) (now (layer .entry))) ⌝ }
 {
     let panes = view::view_of(settings);
@@ -33,15 +37,27 @@ fn paint_panes(secret: u8, bare: bool, panes: View, cells: &[u8], layer: &[u8], 
     requires { ⌜ (bare ≡ true → now layer ≡ replicate 1280 0) ⌝ }
     ensures { λ _. ⌜ now (shown .exit) ≡ cond (eqb secret 1) (replicate 640 32) (painted 0 640 (laid (now (layer .entry)) (seen panes (now (cells .entry)))) (now (shown .entry))) ⌝ }
 {
+    paint_under(secret, panes, cells, shown);
     if secret == 1 {
-        store::fill(shown, 32);
         return;
     }
-    paint_view(panes, cells, shown);
     if bare {
         return;
     }
-    rows::lay(layer, shown, 0, 640);
+    rows::lay(layer, shown);
+}
+
+// What the layer is laid over: the panes, blank in secret mode.
+fn paint_under(secret: u8, panes: View, cells: &[u8], shown: &mut [u8])
+    requires { ⌜ Framed panes ⌝ }
+    requires { ⌜ (length (now cells) ≡ 3840) × (length (now shown) ≡ 640) ⌝ }
+    ensures { λ _. ⌜ now (shown .exit) ≡ cond (eqb secret 1) (replicate 640 32) (painted 0 640 (seen panes (now (cells .entry))) (now (shown .entry))) ⌝ }
+{
+    if secret != 1 {
+        paint_view(panes, cells, shown);
+        return;
+    }
+    store::fill(shown, 32);
 }
 
 // The panes. One as wide as the screen is one piece of the cells. Else there are 39, 2 and 39 places, or a gap of 1: these numbers are
@@ -53,8 +69,8 @@ fn paint_view(panes: View, cells: &[u8], shown: &mut [u8])
 {
     let left = panes.left;
     let right = panes.right;
-    if left.width == 80 {
-        store::copy_many(shown, 0, cells, left.at, 640);
+    if left.width == ROW {
+        store::copy_many(shown, 0, cells, left.at, PLACES);
         return;
     }
     if panes.gap == 2 {
@@ -87,7 +103,7 @@ fn paint_rows(panes: View, one: usize, gap: usize, two: usize, cells: &[u8], sho
     };
     // Counted by the screen's length: a count of eight would be written out eight times by the compiler.
     let mut row = 0;
-    while row * 80 < shown.len() {
+    while row * ROW < shown.len() {
         rows::paint_row(view, cells, shown, row);
         row += 1;
     }
@@ -95,15 +111,15 @@ fn paint_rows(panes: View, one: usize, gap: usize, two: usize, cells: &[u8], sho
 
 // ESC 80: "appends the picture at that moment, 8 rows of 80 with codes below 32 as 32, each followed by 13, 10".
 pub fn copy(settings: Settings, cells: &[u8], layer: &[u8], printer: &mut [u8], from: usize)
-    requires { ⌜ (Paintable settings (now cells) (now layer)) × (from + 656 ≤ length (now printer)) ⌝ }
+    requires { ⌜ (Good (state settings (now cells) (now layer))) × (from + 656 ≤ length (now printer)) ⌝ }
     ensures { λ _. ⌜ now (printer .exit) ≡ put from (copied (state settings (now (cells .entry)) (now (layer .entry)))) (now (printer .entry)) ⌝ }
 {
-    let mut picture = [0u8; 640];
+    let mut picture = [0u8; PLACES];
     let panes = view::view_of(settings);
     paint_panes(settings.secret, false, panes, cells, layer, &mut picture);
     let mut row = 0;
-    while row < 8 {
-        rows::copy_row(&picture, row * 80, printer, from + row * 82);
+    while row < TEXT_ROWS {
+        rows::copy_row(&picture, row * ROW, printer, from + row * COPY_ROW);
         row += 1;
     }
 }

@@ -9,6 +9,13 @@ ghost use Rattle.paint.specs.Copy.{rowCopied};
 use crate::view::View;
 use crate::view::start;
 
+// A row of the shown screen, all its places, and a row of a printed copy with the two codes behind it.
+pub(crate) const ROW: usize = 80;
+
+pub(crate) const PLACES: usize = 640;
+
+pub(crate) const COPY_ROW: usize = 82;
+
 // Row `row`, from 0, of the picture without secret and layer: the left pane, the gap, the right pane.
 pub(crate) fn paint_row(view: View, cells: &[u8], shown: &mut [u8], row: usize)
     requires { ⌜ (Framed view) × (row < 8) ⌝ }
@@ -17,7 +24,7 @@ pub(crate) fn paint_row(view: View, cells: &[u8], shown: &mut [u8], row: usize)
 {
     let left = view.left;
     let right = view.right;
-    let from = row * 80;
+    let from = row * ROW;
     let between = from + left.width;
     let to = between + view.gap;
     store::copy_in(shown, from, cells, start(left, row), left.width);
@@ -25,16 +32,15 @@ pub(crate) fn paint_row(view: View, cells: &[u8], shown: &mut [u8], row: usize)
     store::copy_in(shown, to, cells, start(right, row), right.width);
 }
 
-// "the layer's code if marked; else" what stands there, at `count` places from `from` on.
-pub(crate) fn lay(layer: &[u8], shown: &mut [u8], from: usize, count: usize)
-    requires { ⌜ (length (now layer) ≡ 1280) × ((length (now shown) ≡ 640) × (from + count ≤ 640)) ⌝ }
-    ensures { λ _. ⌜ now (shown .exit) ≡ painted from count (laid (now (layer .entry)) (λ p. getD (now (shown .entry)) p 0)) (now (shown .entry)) ⌝ }
+// "the layer's code if marked; else" what stands there, at all 640 places.
+pub(crate) fn lay(layer: &[u8], shown: &mut [u8])
+    requires { ⌜ (length (now layer) ≡ 1280) × (length (now shown) ≡ 640) ⌝ }
+    ensures { λ _. ⌜ now (shown .exit) ≡ painted 0 640 (laid (now (layer .entry)) (λ p. getD (now (shown .entry)) p 0)) (now (shown .entry)) ⌝ }
 {
-    let mut i = 0;
-    while i < count {
-        let place = from + i;
-        shown[place] = over(layer[place], layer[640 + place], shown[place]);
-        i += 1;
+    let mut place = 0;
+    while place < PLACES {
+        shown[place] = over(layer[place], layer[PLACES + place], shown[place]);
+        place += 1;
     }
 }
 
@@ -50,12 +56,12 @@ pub(crate) fn copy_row(picture: &[u8], at: usize, printer: &mut [u8], from: usiz
     ensures { λ _. ⌜ now (printer .exit) ≡ put from (rowCopied (now (picture .entry)) at) (now (printer .entry)) ⌝ }
 {
     let mut i = 0;
-    while i < 80 {
+    while i < ROW {
         printer[from + i] = printable(picture[at + i]);
         i += 1;
     }
-    printer[from + 80] = 13;
-    printer[from + 81] = 10;
+    printer[from + ROW] = 13;
+    printer[from + ROW + 1] = 10;
 }
 
 // "codes below 32 as 32"

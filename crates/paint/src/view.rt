@@ -27,45 +27,30 @@ pub(crate) fn start(pane: Pane, row: usize) -> usize
 }
 
 // The rows of the shown screen that show text: mode 1's right half starts so many lines after the left.
-const TEXT_ROWS: usize = 8;
+pub(crate) const TEXT_ROWS: usize = 8;
 
-// The window of screen 1. Screens are named, not numbered: an index that is not a literal would keep a compiler from taking the
-// settings apart, and so have them copied.
-fn window1(settings: Settings) -> Pane
-    requires { ⌜ Sound settings ⌝ }
-    ensures { λ r. ⌜ Window settings 0 r ⌝ }
+// The window of a screen, by its number: the place is picked from a copy of the two, since an index into the settings themselves that
+// is not a literal would keep a compiler from taking them apart. Screen 2's cells stand behind those of screen 1.
+fn window(settings: Settings, screen: u8) -> Pane
+    requires { ⌜ (Sound settings) × (screen < 2) ⌝ }
+    ensures { λ r. ⌜ Window settings screen r ⌝ }
 {
-    let place = settings.places[0];
-    let columns = settings.columns1 as usize;
-    Pane {
-        at: (place.top as usize - 1) * columns,
-        width: columns,
+    let places = settings.places;
+    let k = screen as usize;
+    let place = places[k];
+    let above = place.top as usize - 1;
+    let columns1 = settings.columns1 as usize;
+    if screen == 0 {
+        return Pane {
+            at: above * columns1,
+            width: columns1,
+        };
     }
-}
-
-// The window of screen 2, whose cells stand behind those of screen 1.
-fn window2(settings: Settings) -> Pane
-    requires { ⌜ Sound settings ⌝ }
-    ensures { λ r. ⌜ Window settings 1 r ⌝ }
-{
-    let place = settings.places[1];
-    let columns = settings.columns2 as usize;
-    let base = settings.lines1 as usize * settings.columns1 as usize;
+    let columns2 = settings.columns2 as usize;
+    let base = settings.lines1 as usize * columns1;
     Pane {
-        at: base + (place.top as usize - 1) * columns,
-        width: columns,
-    }
-}
-
-// The window of the selected screen.
-fn selected_window(settings: Settings) -> Pane
-    requires { ⌜ Sound settings ⌝ }
-    ensures { λ r. ⌜ Window settings (settings .selected) r ⌝ }
-{
-    if settings.selected == 0 {
-        window1(settings)
-    } else {
-        window2(settings)
+        at: base + above * columns2,
+        width: columns2,
     }
 }
 
@@ -77,13 +62,13 @@ pub(crate) fn view_of(settings: Settings) -> View
     let mode = settings.mode;
     if mode == 2 {
         return View {
-            left: window1(settings),
+            left: window(settings, 0),
             gap: 1,
             code: settings.boundary,
-            right: window2(settings),
+            right: window(settings, 1),
         };
     }
-    let left = selected_window(settings);
+    let left = window(settings, settings.selected);
     let width = left.width;
     if mode == 0 {
         return View {

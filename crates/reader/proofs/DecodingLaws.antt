@@ -10,10 +10,10 @@ use borrow.Author.Tests.{eq-eqb, ne-eqb}
 use Rattle.model.specs.Sequences.{Row, find, modeRowOf, refusal, rowOf, rows}
 use Rattle.model.specs.Reading.{kindOf}
 use Rattle.model.specs.declared.Item.the-variants.{Refused}
-use Rattle.reader.specs.Lengths.{lengthOf}
+use Rattle.tables.specs.Lengths.{lengthOf}
 use Rattle.reader.specs.Decoding.{kindFrom, sent, whole}
 use Rattle.reader.proofs.Needed.{length-none}
-use Rattle.reader.proofs.Arms.{NoneOf, armsOf, find-past}
+use Rattle.model.proofs.Arms.{NoneOf, armsOf, find-past}
 
 module _ (at : ℕ) (bs : List ℕ) where
   -- the kind, where the test for 208 is decided

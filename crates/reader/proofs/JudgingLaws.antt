@@ -20,7 +20,8 @@ use Rattle.model.specs.Checks.{Check, both, inRanges?, least, most, passes, ran
 use Rattle.model.specs.Sequences.{codeOf}
 use Rattle.model.specs.Judging.{allowed, fitting, judged, legal?, lineRanges}
 use Rattle.model.proofs.Tests.{ranges-true, true-ranges}
-use Rattle.reader.proofs.Arms.{key-of}
+use Rattle.model.proofs.Arms.{key-of}
+use Rattle.model.proofs.Cases.{none-passes}
 
 -- the cases of `Sequence`, by their numbers: those with no parameter that is judged, and those that are no copy
 abbrev pub free : List ℕ
@@ -30,60 +31,60 @@ abbrev pub others : List ℕ
 others = listFrom (λ n. n) 0 6 ++ listFrom (λ n. n) 7 39
 
 -- case by case
-told : (q : Seq) (s : Limits) → (T (hasKey free (tagOf the-type q)) → legal? q s ≡ true) × (T (hasKey others (tagOf the-type q)) → eqb (codeOf q) 80 ≡ false)
+told : (q : Seq) (s : Limits) → T (hasKey free (tagOf the-type q)) → legal? q s ≡ true
 unfolding legal? inRanges? passes
-told (PrintCode a) s = (λ t. refl, λ t. refl)
-told Clear s = (λ t. refl, λ t. refl)
-told CursorOff s = (λ t. refl, λ t. refl)
-told CursorOn s = (λ t. refl, λ t. refl)
-told (Put a b) s = (λ t. absurd t, λ t. refl)
-told (Charset a) s = (λ t. absurd t, λ t. refl)
-told Copy s = (λ t. refl, λ t. absurd t)
-told EraseLine s = (λ t. refl, λ t. refl)
-told EraseRest s = (λ t. refl, λ t. refl)
-told SecretOn s = (λ t. refl, λ t. refl)
-told SecretOff s = (λ t. refl, λ t. refl)
-told (LinesUp a b) s = (λ t. absurd t, λ t. refl)
-told (LinesDown a b) s = (λ t. absurd t, λ t. refl)
-told (Step a) s = (λ t. absurd t, λ t. refl)
-told (Tracking a) s = (λ t. absurd t, λ t. refl)
-told WindowUp s = (λ t. refl, λ t. refl)
-told WindowDown s = (λ t. refl, λ t. refl)
-told InsOn s = (λ t. refl, λ t. refl)
-told InsOff s = (λ t. refl, λ t. refl)
-told CapsOn s = (λ t. refl, λ t. refl)
-told CapsOff s = (λ t. refl, λ t. refl)
-told NumOn s = (λ t. refl, λ t. refl)
-told NumOff s = (λ t. refl, λ t. refl)
-told StringsOff s = (λ t. refl, λ t. refl)
-told StringsOn s = (λ t. refl, λ t. refl)
-told (DrawLine a b c d e f g h i j k) s = (λ t. refl, λ t. refl)
-told (DrawDot a b c d) s = (λ t. refl, λ t. refl)
-told (Mode0 a b) s = (λ t. absurd t, λ t. refl)
-told (Mode1 a) s = (λ t. absurd t, λ t. refl)
-told (Mode2 a b c) s = (λ t. absurd t, λ t. refl)
-told (Select a) s = (λ t. absurd t, λ t. refl)
-told (Mark a b c) s = (λ t. absurd t, λ t. refl)
-told (Display a) s = (λ t. absurd t, λ t. refl)
-told WindowTop s = (λ t. refl, λ t. refl)
-told WindowBottom s = (λ t. refl, λ t. refl)
-told (CursorKind a) s = (λ t. absurd t, λ t. refl)
-told WindowCursor s = (λ t. refl, λ t. refl)
-told (Pattern a b) s = (λ t. absurd t, λ t. refl)
-told (Repeat a) s = (λ t. absurd t, λ t. refl)
-told (RepeatDelay a) s = (λ t. absurd t, λ t. refl)
-told (RepeatInterval a) s = (λ t. absurd t, λ t. refl)
-told (Arrows1 a b c d) s = (λ t. refl, λ t. refl)
-told (Arrows2 a b c d) s = (λ t. refl, λ t. refl)
-told (Arrows3 a b c d) s = (λ t. refl, λ t. refl)
-told Nothing s = (λ t. refl, λ t. refl)
-told (Shift a) s = (λ t. absurd t, λ t. refl)
+told (PrintCode a) s t = refl
+told Clear s t = refl
+told CursorOff s t = refl
+told CursorOn s t = refl
+told (Put a b) s t = absurd t
+told (Charset a) s t = absurd t
+told Copy s t = refl
+told EraseLine s t = refl
+told EraseRest s t = refl
+told SecretOn s t = refl
+told SecretOff s t = refl
+told (LinesUp a b) s t = absurd t
+told (LinesDown a b) s t = absurd t
+told (Step a) s t = absurd t
+told (Tracking a) s t = absurd t
+told WindowUp s t = refl
+told WindowDown s t = refl
+told InsOn s t = refl
+told InsOff s t = refl
+told CapsOn s t = refl
+told CapsOff s t = refl
+told NumOn s t = refl
+told NumOff s t = refl
+told StringsOff s t = refl
+told StringsOn s t = refl
+told (DrawLine a b c d e f g h i j k) s t = refl
+told (DrawDot a b c d) s t = refl
+told (Mode0 a b) s t = absurd t
+told (Mode1 a) s t = absurd t
+told (Mode2 a b c) s t = absurd t
+told (Select a) s t = absurd t
+told (Mark a b c) s t = absurd t
+told (Display a) s t = absurd t
+told WindowTop s t = refl
+told WindowBottom s t = refl
+told (CursorKind a) s t = absurd t
+told WindowCursor s t = refl
+told (Pattern a b) s t = absurd t
+told (Repeat a) s t = absurd t
+told (RepeatDelay a) s t = absurd t
+told (RepeatInterval a) s t = absurd t
+told (Arrows1 a b c d) s t = refl
+told (Arrows2 a b c d) s t = refl
+told (Arrows3 a b c d) s t = refl
+told Nothing s t = refl
+told (Shift a) s t = absurd t
 
 pub free-legal : (q : Seq) (s : Limits) → OneOf free (tagOf the-type q) → legal? q s ≡ true
-free-legal q s o = told q s .0 (key-of free (tagOf the-type q) o)
+free-legal q s o = told q s (key-of free (tagOf the-type q) o)
 
 pub no-copy : (q : Seq) → OneOf others (tagOf the-type q) → eqb (codeOf q) 80 ≡ false
-no-copy q o = told q (record { lines = 0; columns = 0; height = 0 }) .1 (key-of others (tagOf the-type q) o)
+no-copy q = none-passes (λ c. eqb c 80) others q refl
 
 -- tests that imply each other
 same : (x y : Bool) → (x ≡ true → y ≡ true) → (y ≡ true → x ≡ true) → x ≡ y

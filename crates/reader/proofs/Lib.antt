@@ -1,5 +1,3 @@
-pub mod Arms
-pub mod LengthLaws
 pub mod Found
 pub mod Needed
 pub mod DecodingLaws

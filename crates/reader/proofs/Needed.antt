@@ -12,7 +12,7 @@ use lib.Dec.{eqb}
 use borrow.Author.Tests.{eq-eqb, ne-eqb}
 use Rattle.model.specs.Sequences.{Row, find, modeRowOf, refusal, rowOf, rows}
 use Rattle.model.specs.Reading.{afterEscape, afterMode, needed}
-use Rattle.reader.specs.Lengths.{lengthOf}
+use Rattle.tables.specs.Lengths.{lengthOf}
 use Rattle.reader.proofs.Found.{mode-least, row-least, two-defaults}
 
 -- the length by a second and a third byte, where the test for 208 is decided: as `length_of` has it, and by the rules

@@ -14,7 +14,7 @@ use Rattle.model.specs.Reading.{decoded, ended, itemOf, needed, ownBytes}
 use Rattle.model.specs.Judging.{allowed, fitting, judged}
 use Rattle.model.proofs.Loop.{own-some}
 use Rattle.model.proofs.Events.{legal-judged}
-use Rattle.reader.specs.Lengths.{lengthOf}
+use Rattle.tables.specs.Lengths.{lengthOf}
 use Rattle.reader.specs.Decoding.{whole}
 use Rattle.reader.specs.Reading.{ReadAt}
 use Rattle.reader.proofs.Needed.{needed-alone, needed-cut, needed-own, needed-plain, needed-unlisted, needed-whole, said, unlisted-own}
@@ -128,9 +128,9 @@ module _ (m : List ℕ) (at : ℕ) (s : Limits) (room : ℕ) (h : at < length m)
         pub reads-ended : length m - at < n → i ≡ ended (27 ∷ getD m (at + 1) 0 ∷ []) → Reads i (length m - at)
         reads-ended w d = reads-cut i (needed-cut rest two escape listed (omega (arith, says, length-drop at m))) (d ∙ sym (ended-by rest (getD m (at + 1) 0) second))
 
-        pub reads-sequence : n ≤ length m - at → (j : Item) → j ≡ whole at (own (at + n - at)) → i ≡ judged j s room → Reads i n
-        reads-sequence w j q d =
+        pub reads-sequence : {taken : ℕ} → taken ≡ n → n ≤ length m - at → (j : Item) → j ≡ whole at (own (at + n - at)) → i ≡ judged j s room → Reads i taken
+        reads-sequence r w j q d =
             let v : said rest ≤ length rest = omega (arith, says, length-drop at m) in
             let t : at + n - at ≡ n = omega arith in
-            reads-whole n j i (needed-whole rest two escape listed v ∙ says) (subst (λ (k : ℕ). needed (own k) ≡ k) says (needed-own rest two escape listed v)) w
-            (escape-own n (omega arith) ∙ sym (rw t at q)) d
+            rw r (reads-whole n j i (needed-whole rest two escape listed v ∙ says) (subst (λ (k : ℕ). needed (own k) ≡ k) says (needed-own rest two escape listed v)) w
+            (escape-own n (omega arith) ∙ sym (rw t at q)) d)

@@ -3,9 +3,9 @@ ghost use Prim.Native.Nat.{_+_};
 ghost use mathlib.Core.Bool.{_&&_};
 ghost use mathlib.Core.Path.{_≡_};
 ghost use lib.Dec.{leb};
-ghost use Rattle.model.specs.Checks.{inRanges?, member};
-ghost use Rattle.model.specs.Sound.{charsets, shifts};
+ghost use Rattle.model.specs.Checks.{inRanges?};
 ghost use Rattle.model.specs.Judging.{fitting, judged, legal?, lineRanges};
+use model::COPY;
 use model::Item;
 use model::Limits;
 use model::Sequence;
@@ -32,7 +32,7 @@ fn fit(room: usize, q: Sequence) -> Item
 {
     match q {
         Sequence::Copy => {
-            if room < 656 {
+            if room < COPY {
                 Item::Refused(13)
             } else {
                 Item::Sequence(q)
@@ -50,7 +50,7 @@ fn legal(limits: Limits, q: Sequence) -> bool
         Sequence::Put { line, column } => {
             shifted(line, limits.lines) & shifted(column, limits.columns)
         }
-        Sequence::Charset(n) => charset(n),
+        Sequence::Charset(n) => tables::charset(n),
         Sequence::LinesUp { from, count } => region(limits, from, count),
         Sequence::LinesDown { from, count } => region(limits, from, count),
         Sequence::Step(n) => within(1, n, limits.height),
@@ -66,7 +66,7 @@ fn legal(limits: Limits, q: Sequence) -> bool
         Sequence::Repeat(n) => within(0, n, 1),
         Sequence::RepeatDelay(n) => within(1, n, 127),
         Sequence::RepeatInterval(n) => within(1, n, 127),
-        Sequence::Shift(n) => shift(n),
+        Sequence::Shift(n) => tables::shift(n),
         _ => true,
     }
 }
@@ -101,24 +101,4 @@ fn two_screens(lines1: u8, lines2: u8) -> bool
 {
     let sum = lines1 as usize + lines2 as usize;
     (8 <= lines1) & ((8 <= lines2) & (sum <= 48))
-}
-
-// 67: "one of U F G E D W I S N".
-fn charset(n: u8) -> bool
-    ensures { λ r. ⌜ r ≡ member n charsets ⌝ }
-{
-    match n {
-        b'U' | b'F' | b'G' | b'E' | b'D' | b'W' | b'I' | b'S' | b'N' => true,
-        _ => false,
-    }
-}
-
-// 247: "0, 2, 4, 6, 16, 18, 32, 34, 64, 66".
-fn shift(n: u8) -> bool
-    ensures { λ r. ⌜ r ≡ member n shifts ⌝ }
-{
-    match n {
-        0 | 2 | 4 | 6 | 16 | 18 | 32 | 34 | 64 | 66 => true,
-        _ => false,
-    }
 }

@@ -8,12 +8,10 @@ ghost use Rattle.reader.specs.Reading.{ReadAt};
 
 mod decoding;
 mod judging;
-mod lengths;
 
 use decoding::byte;
 use decoding::decode;
 use judging::judge;
-use lengths::length_of;
 use model::Item;
 use model::Limits;
 use model::Sequence;
@@ -62,7 +60,7 @@ fn read_sequence(limits: Limits, room: usize, message: &[u8], at: usize) -> Read
         };
     }
     let second = message[at + 1];
-    let length = length_of(second, byte(message, at + 2));
+    let length = tables::length_of(second, byte(message, at + 2));
     if length == 0 {
         return Reading {
             item: Item::Refused(10),

@@ -1,6 +1,11 @@
 // Recordings of messages, read record by record from standard input and played: body length and kind, two bytes each,
 // little-endian, then the body.
+ghost use mathlib.Core.Path.{_≡_};
+ghost use Prim.Native.Nat.{_+_, _*_};
+ghost use Rattle.model.specs.Calls.{terminal};
+ghost use Rattle.recording.specs.Playing.{Opens, Plays};
 use libc::STDIN_FILENO;
+use model::Answer;
 use model::Settings;
 
 // What stands at the input: its end, a record that is cut, or a whole record, whose body is in the caller's buffer.
@@ -16,7 +21,8 @@ pub struct Played {
     pub printer: u32,
 }
 
-// The next record; the start of `body` is its body. Callers lend 65,536 bytes, in which every body fits.
+// The next record; the start of `body` is its body. Callers lend 65,536 bytes, in which every body fits. It only reads: what comes in
+// is not for a contract to say.
 pub fn next_record(body: &mut [u8]) -> Record {
     let mut head = [0u8; 4];
     let came = io::read_full(STDIN_FILENO, &mut head);
@@ -41,12 +47,16 @@ pub fn next_record(body: &mut [u8]) -> Record {
 }
 
 // Two bytes, little-endian.
-pub fn little(low: u8, high: u8) -> u16 {
+pub fn little(low: u8, high: u8) -> u16
+    ensures { λ r. ⌜ r ≡ low + 256 * high ⌝ }
+{
     (high as u16) * 256 + low as u16
 }
 
 // From an opening; no printer bytes yet.
-pub fn open(cells: &mut [u8], layer: &mut [u8], shown: &mut [u8]) -> Played {
+pub fn open(cells: &mut [u8], layer: &mut [u8], shown: &mut [u8]) -> Played
+    ensures { λ r. ⌜ Opens (now (cells .entry)) (now (layer .entry)) (now (shown .entry)) r (now (cells .exit)) (now (layer .exit)) (now (shown .exit)) ⌝ }
+{
     let opened = terminal::opening(cells, layer, shown);
     let settings = opened.settings;
     Played {
@@ -55,7 +65,7 @@ pub fn open(cells: &mut [u8], layer: &mut [u8], shown: &mut [u8]) -> Played {
     }
 }
 
-// One message call, and its line: `K answer A taken T accepted C refused R first F at O printed P`.
+// One message call, and its line.
 pub fn play(
     number: u64,
     played: Played,
@@ -64,20 +74,26 @@ pub fn play(
     layer: &mut [u8],
     shown: &mut [u8],
     printer: &mut [u8],
-) -> Played {
+) -> Played
+    ensures { λ r. ⌜ Plays (now (message .entry)) (terminal (played .settings) (now (cells .entry)) (now (layer .entry)) (now (shown .entry))) (now (printer .entry)) (played .printer) (r .printer) (terminal (r .settings) (now (cells .exit)) (now (layer .exit)) (now (shown .exit))) (now (printer .exit)) ⌝ }
+{
     let before = played.settings;
     let outcome = terminal::message(before, message, cells, layer, shown, printer);
     let settings = outcome.settings;
     let answer = outcome.answer;
-    let count = answer.printed;
-    report::say_number(b"", number);
-    report::say(b" ");
-    report::say_answer(answer);
-    report::say_number(b" printed ", count as u64);
-    report::say(b"\n");
-    let sum = report::adler32(played.printer, terminal::printed(printer, count));
+    say_line(number, answer);
+    let sum = report::adler32(played.printer, terminal::printed(printer, answer.printed));
     Played {
         settings,
         printer: sum,
     }
+}
+
+// `K answer A taken T accepted C refused R first F at O printed P`.
+fn say_line(number: u64, answer: Answer) {
+    report::say_number(b"", number);
+    report::say(b" ");
+    report::say_answer(answer);
+    report::say_number(b" printed ", answer.printed as u64);
+    report::say(b"\n");
 }

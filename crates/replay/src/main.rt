@@ -1,13 +1,17 @@
 // Plays a recording of messages from standard input, from an opening: a line a record, then what stands.
 ghost use Prim.Native.Nat.{_≤_};
+use model::CELLS;
+use model::COPY;
+use model::LAYER;
+use model::SHOWN;
 use recording::Record;
 
 // A recording holds at most 60,000 bytes.
 fn main() {
-    let mut cells = [0u8; 3840];
-    let mut layer = [0u8; 1280];
-    let mut shown = [0u8; 640];
-    let mut printer = [0u8; 1312];
+    let mut cells = [0u8; CELLS];
+    let mut layer = [0u8; LAYER];
+    let mut shown = [0u8; SHOWN];
+    let mut printer = [0u8; 2 * COPY];
     let mut body = [0u8; 65536];
     let mut played = recording::open(&mut cells, &mut layer, &mut shown);
     let mut number: u64 = 1;

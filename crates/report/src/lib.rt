@@ -1,4 +1,5 @@
-// What the programs print, on standard output: an answer, what stands, and the rows of the shown screen.
+// What the programs print, on standard output: an answer, what stands, and the rows of the shown screen. What is called `say` only writes:
+// it hands nothing back, and its contract is that it is safe and ends.
 mod adler;
 mod rows;
 mod standing;
@@ -9,6 +10,7 @@ use model::Answer;
 pub use rows::say_rows;
 pub use standing::say_standing;
 
+// The words alone.
 pub fn say(words: &[u8]) {
     io::write_all(STDOUT_FILENO, words);
 }

@@ -1,9 +1,12 @@
 // "the rows without trailing blanks (codes outside 32 to 126 as a dot)"
+ghost use mathlib.Core.Path.{_≡_};
 ghost use Prim.Native.Nat.{_<_};
+ghost use Rattle.report.specs.Letters.{letter};
 use libc::STDOUT_FILENO;
+use model::SHOWN;
 
 // The eight rows of the shown screen, each a line with its number.
-pub fn say_rows(shown: &[u8; 640]) {
+pub fn say_rows(shown: &[u8; SHOWN]) {
     let mut r: usize = 0;
     while r < 8 {
         say_row(shown, r);
@@ -12,7 +15,7 @@ pub fn say_rows(shown: &[u8; 640]) {
 }
 
 // Row r from 0. The line after its number starts with a blank, which goes too where the row is blank.
-fn say_row(shown: &[u8; 640], r: usize)
+fn say_row(shown: &[u8; SHOWN], r: usize)
     requires { ⌜ r < 8 ⌝ }
 {
     io::print_decimal(STDOUT_FILENO, r as u64 + 1);
@@ -33,7 +36,10 @@ fn say_row(shown: &[u8; 640], r: usize)
     io::write_all(STDOUT_FILENO, &line[..length]);
 }
 
-fn letter_of(code: u8) -> u8 {
+// The letter of a code: "codes outside 32 to 126 as a dot".
+fn letter_of(code: u8) -> u8
+    ensures { λ r. ⌜ r ≡ letter code ⌝ }
+{
     if code < 32 {
         return b'.';
     }

@@ -1,4 +1,6 @@
 // What stands: the settings in six lines, a line of sums, and the rows.
+ghost use mathlib.Core.Path.{_≡_};
+ghost use Rattle.report.specs.Adler.{adler32};
 use crate::adler::adler32;
 use crate::rows::say_rows;
 use crate::say;
@@ -6,6 +8,7 @@ use crate::say_byte;
 use crate::say_number;
 use model::Keys;
 use model::Place;
+use model::SHOWN;
 use model::Settings;
 
 // `printer` is the sum of all printer bytes so far.
@@ -13,7 +16,7 @@ pub fn say_standing(
     settings: Settings,
     cells: &[u8],
     layer: &[u8],
-    shown: &[u8; 640],
+    shown: &[u8; SHOWN],
     printer: u32,
 ) {
     let places = settings.places;
@@ -32,7 +35,9 @@ pub fn say_standing(
     say_rows(shown);
 }
 
-fn patterns_sum(patterns: &[u8; 248]) -> u32 {
+fn patterns_sum(patterns: &[u8; 248]) -> u32
+    ensures { λ r. ⌜ r ≡ adler32 (now (patterns .entry)) ⌝ }
+{
     adler32(1, patterns)
 }
 

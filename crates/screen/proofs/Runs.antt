@@ -1,11 +1,12 @@
 -- A run of printed bytes, part by part.
-use mathlib.Core.Path.{_≡_, refl, subst}
-use Prim.Native.Nat.{_+_, _-_, _<_, _≤_, ℕ}
+use mathlib.Core.Path.{_≡_, refl, subst, sym}
+use Prim.Native.Nat.{_+_, _-_, _<_, _≤_, suc, zero, ℕ}
+use native.Mathlib.Numerals.{add-one}
 use native.Mathlib.Omega.{arith}
 use mathlib.Core.Bool.{Bool, _&&_, false, true}
 use mathlib.Core.List.{List, [], _++_, _∷_}
 use lib.ListN.{drop, getD, length, take}
-use lib.Dec.{leb, ltb}
+use lib.Dec.{ltb}
 use borrow.Author.Tests.{leb-true, ltb-false, ltb-true}
 use lib.Seq.{drop-cons, drop-drop, take-add}
 use Rattle.model.specs.declared.Place.{Place}
@@ -16,14 +17,14 @@ use Rattle.screen.specs.declared.Frame.{Frame}
 use Rattle.screen.specs.declared.run.Run.{Run}
 use Rattle.screen.specs.Frame.{Ready}
 use Rattle.screen.specs.Acts.{Acts}
-use Rattle.screen.specs.Run.{Part, Printing, Prints, Ran, printedAll}
+use Rattle.screen.specs.Run.{Part, Printing, Ran, WholeRun, allPrint?, printedAll, prints?}
 use Rattle.screen.proofs.Acting.{likewise, still, then}
 
 -- bytes behind others
-all-more : (xs ys : List ℕ) (st : State) → printedAll (xs ++ ys) st ≡ printedAll ys (printedAll xs st)
+printed-more : (xs ys : List ℕ) (st : State) → printedAll (xs ++ ys) st ≡ printedAll ys (printedAll xs st)
 unfolding printedAll
-all-more [] ys st = refl
-all-more (x ∷ xs) ys st = all-more xs ys (printed x st)
+printed-more [] ys st = refl
+printed-more (x ∷ xs) ys st = printed-more xs ys (printed x st)
 
 -- the bytes of m from an offset on, as far as another
 bytes-more : (m : List ℕ) (from at to : ℕ) → from ≤ at → at ≤ to → take (to - from) (drop from m) ≡ take (at - from) (drop from m) ++ take (to - at) (drop at m)
@@ -32,35 +33,59 @@ bytes-more m from at to h k =
     let d : from + (at - from) ≡ at = omega arith in
     rw (n, take-add (at - from) (to - at) (drop from m), drop-drop (at - from) from m, d)
 
+-- no byte
+pub beyond : (m : List ℕ) (at : ℕ) → length m ≤ at → getD m at 0 ≡ 0
+beyond [] at h = refl
+beyond (x ∷ xs) zero h = absurd (omega (arith, h))
+beyond (x ∷ xs) (suc n) h = beyond xs n (omega (arith, h))
+
+-- a byte that prints is there
+pub there : (m : List ℕ) (at : ℕ) → prints? m at ≡ true → at < length m
+there m at h = go (ltb at (length m)) refl
+  where
+    go : (b : Bool) → ltb at (length m) ≡ b → at < length m
+    go true e = ltb-true at (length m) e
+    go false e = absurd (omega (arith, beyond m at (ltb-false at (length m) e), leb-true 32 (getD m at 0) h))
+
 -- bytes that print, and those behind them
 pub printing-more : {m : List ℕ} {at to end : ℕ} → Printing m at to → Printing m to end → Printing m at end
 printing-more {m} {at} {to} {end} h k = record { some = omega (arith, h .some, k .some); inside = k .inside; print = λ j u v. go j u v (ltb j to) refl }
   where
-    go : (j : ℕ) → at ≤ j → j < end → (b : Bool) → ltb j to ≡ b → 32 ≤ getD m j 0
+    go : (j : ℕ) → at ≤ j → j < end → (b : Bool) → ltb j to ≡ b → prints? m j ≡ true
     go j u v true e = h .print j u (ltb-true j to e)
     go j u v false e = k .print j (ltb-false j to e) v
 
-pub printing-one : {m : List ℕ} {at : ℕ} → Prints m at → Printing m at (at + 1)
+pub printing-one : {m : List ℕ} {at : ℕ} → prints? m at ≡ true → Printing m at (at + 1)
 printing-one {m} {at} h = record {
   some = omega arith;
-  inside = omega (arith, h .inside);
-  print = λ j u v. let z : at ≡ j = omega (arith, u, v) in subst (λ (n : ℕ). 32 ≤ getD m n 0) z (h .prints);
+  inside = omega (arith, there m at h);
+  print = λ j u v. let z : at ≡ j = omega (arith, u, v) in subst (λ (n : ℕ). prints? m n ≡ true) z h;
 }
 
--- a block of bytes: whether all so far print, and one more
+-- a block of bytes, one more of it, and each of it
 module _ (m : List ℕ) (at : ℕ) where
-  abbrev pub Upto : Bool → ℕ → Type 0
-  Upto all k = all ≡ true → (j : ℕ) → at ≤ j → j < at + k → 32 ≤ getD m j 0
+  pub all-more : (n : ℕ) {all : Bool} → all ≡ allPrint? m at n → (all && prints? m (at + n)) ≡ allPrint? m at (n + 1)
+  unfolding allPrint?
+  all-more n e = rw (e, add-one n)
 
-  pub upto-more : (all : Bool) (k : ℕ) → Upto all k → Upto (all && leb 32 (getD m (at + k) 0)) (k + 1)
-  upto-more all k h e j u v = go (ltb j (at + k)) refl
+  each : (n : ℕ) → allPrint? m at n ≡ true → (j : ℕ) → at ≤ j → j < at + n → prints? m j ≡ true
+  unfolding allPrint?
+  each zero h j u v = absurd (omega (arith, u, v))
+  each (suc n) h j u v = go (each n (and-left (allPrint? m at n) (prints? m (at + n)) h)) (ltb j (at + n)) refl
     where
-      one : leb 32 (getD m (at + k) 0) ≡ true
-      one = and-right all (leb 32 (getD m (at + k) 0)) e
+      go : ((j : ℕ) → at ≤ j → j < at + n → prints? m j ≡ true) → (b : Bool) → ltb j (at + n) ≡ b → prints? m j ≡ true
+      go before true i = before j u (ltb-true j (at + n) i)
+      go before false i = let z : at + n ≡ j = omega (arith, v, ltb-false j (at + n) i) in subst (λ (k : ℕ). prints? m k ≡ true) z (and-right (allPrint? m at n) (prints? m (at + n)) h)
 
-      go : (b : Bool) → ltb j (at + k) ≡ b → 32 ≤ getD m j 0
-      go true i = h (and-left all (leb 32 (getD m (at + k) 0)) e) j u (ltb-true j (at + k) i)
-      go false i = let z : at + k ≡ j = omega (arith, v, ltb-false j (at + k) i) in subst (λ (n : ℕ). 32 ≤ getD m n 0) z (leb-true 32 (getD m (at + k) 0) one)
+  pub all-printing : allPrint? m at 16 ≡ true → Printing m at (at + 16)
+  all-printing h = record { some = omega arith; inside = omega (arith, there m (at + 15) (each 16 h (at + 15) (omega arith) (omega arith))); print = each 16 h }
+
+  pub too-few : length m - at < 16 → false ≡ allPrint? m at 16
+  too-few few = go (allPrint? m at 16) refl
+    where
+      go : (b : Bool) → allPrint? m at 16 ≡ b → false ≡ allPrint? m at 16
+      go true e = absurd (omega (arith, few, all-printing e .inside))
+      go false e = sym e
 
 -- the bytes from an offset up to `at` were printed
 pub record Along (m : List ℕ) (f : Frame) (from : ℕ) (p : Place) (c l : List ℕ) (at : ℕ) (q : Place) (c′ l′ : List ℕ) : Type 0 where
@@ -88,8 +113,8 @@ module _ {m : List ℕ} {f : Frame} {p : Place} {c l : List ℕ} where
   pub along-part : {from at to : ℕ} {q : Place} {r : Run} {c₁ l₁ c₂ l₂ : List ℕ} → Along m f from p c l at q c₁ l₁ → Part m at to f q r c₁ l₁ c₂ l₂ → Along m f from p c l (r .at) (r .place) c₂ l₂
   along-part {from} {at} {r = r} a w = record {
     low = omega (arith, a .low, w .some);
-    acts = likewise (λ s i k. rw (bytes-more m from at (r .at) (a .low) (omega (arith, w .some))) (all-more _ _ _)) (then (a .acts) (w .acts));
+    acts = likewise (λ s i k. rw (bytes-more m from at (r .at) (a .low) (omega (arith, w .some))) (printed-more _ _ _)) (then (a .acts) (w .acts));
   }
 
-  pub along-all : {at to : ℕ} {r : Run} {c₁ l₁ : List ℕ} → Printing m at to → r .at ≡ to → Along m f at p c l (r .at) (r .place) c₁ l₁ → Ran m at f p r c l c₁ l₁
-  along-all h e a = record { some = omega (arith, h .some); inside = omega (arith, h .inside); print = λ j u v. h .print j u (omega (arith, v)); acts = a .acts }
+  pub along-all : {at to : ℕ} {r : Run} {c₁ l₁ : List ℕ} → WholeRun m at to → r .at ≡ to → Along m f at p c l (r .at) (r .place) c₁ l₁ → Ran m at f p r c l c₁ l₁
+  along-all {at} h e a = record { run = subst (WholeRun m at) (sym e) h; acts = a .acts }

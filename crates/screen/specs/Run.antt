@@ -1,7 +1,10 @@
 -- A run of printed bytes of a message.
-use Prim.Native.Nat.{ℕ, zero, suc, _-_, _≤_, _<_}
+use mathlib.Core.Path.{_≡_}
+use Prim.Native.Nat.{ℕ, zero, suc, _+_, _-_, _≤_, _<_}
+use mathlib.Core.Bool.{Bool, true, false, _&&_}
 use mathlib.Core.List.{List, [], _∷_}
 use lib.ListN.{length, getD, take, drop}
+use lib.Dec.{leb}
 use Rattle.model.specs.declared.Place.{Place}
 use Rattle.model.specs.State.{State}
 use Rattle.model.specs.Rules.{printed, unmark}
@@ -14,23 +17,30 @@ unfoldable pub printedAll : List ℕ → State → State
 printedAll [] st = st
 printedAll (b ∷ bs) st = printedAll bs (printed b st)
 
--- the bytes of m from an offset up to where the run ends are printed; there is at least one, and "Bytes 32 to 255 print"
-pub record Ran (m : List ℕ) (at : ℕ) (f : Frame) (p : Place) (r : Run) (cells layer cells′ layer′ : List ℕ) : Type 0 where
-  pub some : at < r .at
-  pub inside : r .at ≤ length m
-  pub print : (j : ℕ) → at ≤ j → j < r .at → 32 ≤ getD m j 0
-  pub acts : Acts (printedAll (take (r .at - at) (drop at m))) f p (r .place) cells layer cells′ layer′
+-- "Bytes 32 to 255 print": the byte of m at an offset does; where there is none, none does
+abbrev pub prints? : List ℕ → ℕ → Bool
+prints? m at = leb 32 (getD m at 0)
 
--- a byte of m that prints
-pub record Prints (m : List ℕ) (at : ℕ) : Type 0 where
-  pub inside : at < length m
-  pub prints : 32 ≤ getD m at 0
+-- so do as many bytes from an offset on
+unfoldable pub allPrint? : List ℕ → ℕ → ℕ → Bool
+allPrint? m at zero = true
+allPrint? m at (suc n) = allPrint? m at n && prints? m (at + n)
 
 -- the bytes of m from an offset up to another print; there is at least one
 pub record Printing (m : List ℕ) (at to : ℕ) : Type 0 where
   pub some : at < to
   pub inside : to ≤ length m
-  pub print : (j : ℕ) → at ≤ j → j < to → 32 ≤ getD m j 0
+  pub print : (j : ℕ) → at ≤ j → j < to → prints? m j ≡ true
+
+-- these are a whole run: what follows does not print
+pub record WholeRun (m : List ℕ) (at to : ℕ) : Type 0 where
+  pub printing : Printing m at to
+  pub ends : prints? m to ≡ false
+
+-- a whole run is printed
+pub record Ran (m : List ℕ) (at : ℕ) (f : Frame) (p : Place) (r : Run) (cells layer cells′ layer′ : List ℕ) : Type 0 where
+  pub run : WholeRun m at (r .at)
+  pub acts : Acts (printedAll (take (r .at - at) (drop at m))) f p (r .place) cells layer cells′ layer′
 
 -- of the bytes of m from an offset up to another the first are printed, at least one
 pub record Part (m : List ℕ) (at to : ℕ) (f : Frame) (p : Place) (r : Run) (cells layer cells′ layer′ : List ℕ) : Type 0 where

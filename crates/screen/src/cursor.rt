@@ -56,7 +56,7 @@ pub(crate) fn down(frame: Frame, place: Place, cells: &mut [u8], layer: &mut [u8
     if place.line < frame.lines {
         places::put_at(place, place.line + 1, place.column)
     } else {
-        lines::up(frame, place, 0, frame.lines, cells, layer);
+        lines::scroll(frame, place, lines::UP, 0, frame.lines, cells, layer);
         place
     }
 }

@@ -54,7 +54,7 @@ pub fn frame_of(settings: Settings, bare: bool) -> Frame
             lines: settings.lines1,
             columns: settings.columns1,
             rows: ROWS,
-            height: height_of(settings.mode),
+            height: tables::height_of(settings.mode),
             shift: 0,
             step: settings.step,
             tracking: settings.tracking,
@@ -66,7 +66,7 @@ pub fn frame_of(settings: Settings, bare: bool) -> Frame
             lines: settings.lines2,
             columns: settings.columns2,
             rows: ROWS,
-            height: height_of(settings.mode),
+            height: tables::height_of(settings.mode),
             shift: shift_of(settings.mode, settings.columns1),
             step: settings.step,
             tracking: settings.tracking,
@@ -127,11 +127,11 @@ pub fn act(frame: Frame, place: Place, q: Sequence, cells: &mut [u8], layer: &mu
             place
         }
         Sequence::LinesUp { from, count } => {
-            lines::up(frame, place, from, count, cells, layer);
+            lines::scroll(frame, place, lines::UP, from, count, cells, layer);
             place
         }
         Sequence::LinesDown { from, count } => {
-            lines::down(frame, place, from, count, cells, layer);
+            lines::scroll(frame, place, lines::DOWN, from, count, cells, layer);
             place
         }
         Sequence::WindowUp => window::turn(frame, place, window::less(frame, place), layer),
@@ -173,13 +173,6 @@ fn put(frame: Frame, place: Place, line: u8, column: u8, layer: &mut [u8]) -> Pl
 {
     let next = places::put_at(place, line - 31, column - 31);
     window::track_far(frame, next, layer)
-}
-
-// "H is the window's height": the rows, in mode 1 twice as many.
-fn height_of(mode: u8) -> u8
-    ensures { λ r. ⌜ r ≡ cond (eqb mode 1) 16 8 ⌝ }
-{
-    if mode == 1 { 2 * ROWS } else { ROWS }
 }
 
 // In mode 2 the picture shows screen 2 behind screen 1 and the boundary.

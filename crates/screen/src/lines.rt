@@ -6,6 +6,7 @@ use super::times;
 use super::wide;
 use model::Place;
 ghost use mathlib.Core.Path.{_≡_};
+ghost use mathlib.Core.Bool.{cond};
 ghost use Prim.Native.Nat.{_+_, _≤_};
 ghost use Rattle.model.specs.Bytes.{scrolledUp, scrolledDown};
 ghost use Rattle.model.specs.State.{State};
@@ -23,33 +24,17 @@ pub(crate) fn cell(frame: Frame, place: Place) -> usize
     frame.base + times(place.line - 1, frame.columns) + wide(place.column - 1)
 }
 
-// "Within lines a+1 to a+m, contents move up by one": line a+1 is lost, line a+m is blank. A lift is the whole screen.
-pub(crate) fn up(
-    frame: Frame,
-    place: Place,
-    from: u8,
-    count: u8,
-    cells: &mut [u8],
-    layer: &mut [u8],
-)
-    requires { ⌜ Ready frame place (now cells) (now layer) ⌝ }
-    requires { ⌜ (1 ≤ count) × (from + count ≤ frame .lines) ⌝ }
-    ensures { λ _. ⌜ Acts (λ (st : State). onLines from count (scrolledUp (columnsHere st)) st) frame place place (now (cells .entry)) (now (layer .entry)) (now (cells .exit)) (now (layer .exit)) ⌝ }
-{
-    let start = frame.base + times(from, frame.columns);
-    store::scroll_up(
-        cells,
-        start,
-        times(count, frame.columns),
-        wide(frame.columns),
-    );
-    marks::empty(frame, layer);
-}
+// Which way lines move.
+pub(crate) const UP: bool = false;
 
-// "Or down by one": line a+m is lost, line a+1 is blank.
-pub(crate) fn down(
+pub(crate) const DOWN: bool = true;
+
+// "Within lines a+1 to a+m, contents move up or down by one": line a+1 is lost and line a+m is blank, or the other way round. A lift is
+// the whole screen, up.
+pub(crate) fn scroll(
     frame: Frame,
     place: Place,
+    down: bool,
     from: u8,
     count: u8,
     cells: &mut [u8],
@@ -57,16 +42,17 @@ pub(crate) fn down(
 )
     requires { ⌜ Ready frame place (now cells) (now layer) ⌝ }
     requires { ⌜ (1 ≤ count) × (from + count ≤ frame .lines) ⌝ }
-    ensures { λ _. ⌜ Acts (λ (st : State). onLines from count (scrolledDown (columnsHere st)) st) frame place place (now (cells .entry)) (now (layer .entry)) (now (cells .exit)) (now (layer .exit)) ⌝ }
+    ensures { λ _. ⌜ Acts (λ (st : State). onLines from count (cond down scrolledDown scrolledUp (columnsHere st)) st) frame place place (now (cells .entry)) (now (layer .entry)) (now (cells .exit)) (now (layer .exit)) ⌝ }
 {
     let start = frame.base + times(from, frame.columns);
-    store::scroll_down(
-        cells,
-        start,
-        times(count, frame.columns),
-        wide(frame.columns),
-    );
+    let size = times(count, frame.columns);
+    let width = wide(frame.columns);
     marks::empty(frame, layer);
+    if down {
+        store::scroll_down(cells, start, size, width);
+    } else {
+        store::scroll_up(cells, start, size, width);
+    }
 }
 
 // 42: "blanks the screen, cursor home, top 1, layer empty".

@@ -6,7 +6,7 @@ ghost use lib.ListN.{drop, length, take};
 ghost use Rattle.screen.specs.Frame.{Ready};
 ghost use Rattle.screen.specs.Acts.{Acts, Reads};
 ghost use Rattle.screen.specs.Here.{lost};
-ghost use Rattle.screen.specs.Run.{Part, Printing, Prints, Ran, printedAll};
+ghost use Rattle.screen.specs.Run.{Part, Ran, WholeRun, allPrint?, printedAll, prints?};
 use crate::Frame;
 use crate::cursor;
 use crate::least;
@@ -29,7 +29,7 @@ pub struct Run {
 
 // Whether a byte is there, and prints.
 fn prints(message: &[u8], at: usize) -> bool
-    ensures { λ r. ⌜ (r ≡ true → Prints (now (message .entry)) at) ⌝ }
+    ensures { λ r. ⌜ r ≡ prints? (now (message .entry)) at ⌝ }
 {
     if at < message.len() {
         message[at] >= 32
@@ -41,7 +41,7 @@ fn prints(message: &[u8], at: usize) -> bool
 // Whether BLOCK bytes are there, and all print. The loop never stops early, so that a compiler tests them all at once.
 fn block_prints(message: &[u8], at: usize) -> bool
     requires { ⌜ at ≤ length (now message) ⌝ }
-    ensures { λ r. ⌜ (r ≡ true → Printing (now (message .entry)) at (at + 16)) ⌝ }
+    ensures { λ r. ⌜ r ≡ allPrint? (now (message .entry)) at 16 ⌝ }
 {
     if message.len() - at < BLOCK {
         return false;
@@ -55,10 +55,10 @@ fn block_prints(message: &[u8], at: usize) -> bool
     all
 }
 
-// The offset behind a byte that prints and those behind it that print.
+// Where the run that begins at an offset ends: at the first byte that does not print, or behind the last of the message.
 fn run_end(message: &[u8], at: usize) -> usize
-    requires { ⌜ Prints (now message) at ⌝ }
-    ensures { λ r. ⌜ Printing (now (message .entry)) at r ⌝ }
+    requires { ⌜ prints? (now message) at ≡ true ⌝ }
+    ensures { λ r. ⌜ WholeRun (now (message .entry)) at r ⌝ }
 {
     let mut i = at + 1;
     while block_prints(message, i) {
@@ -122,7 +122,7 @@ fn print_part(
     }
 }
 
-// The byte at an offset, and those behind it that print.
+// The run that begins at an offset: the byte there, and all behind it up to the first that does not print.
 pub fn print_run(
     frame: Frame,
     place: Place,
@@ -132,7 +132,7 @@ pub fn print_run(
     layer: &mut [u8],
 ) -> Run
     requires { ⌜ Ready frame place (now cells) (now layer) ⌝ }
-    requires { ⌜ Prints (now message) at ⌝ }
+    requires { ⌜ prints? (now message) at ≡ true ⌝ }
     ensures { λ r. ⌜ Ran (now (message .entry)) at frame place r (now (cells .entry)) (now (layer .entry)) (now (cells .exit)) (now (layer .exit)) ⌝ }
 {
     let end = run_end(message, at);

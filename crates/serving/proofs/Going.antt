@@ -11,13 +11,13 @@ use Rattle.model.specs.declared.Item.the-variants.{Control, Printed, Refused, S
 use Rattle.model.specs.declared.Outcome.{Outcome}
 use Rattle.model.specs.Bytes.{put, written}
 use Rattle.model.specs.State.{State, state}
+use Rattle.model.specs.Sound.{Good}
 use Rattle.model.specs.Picture.{painting}
 use Rattle.model.specs.Judging.{judged, legalItem?, limitsOf}
 use Rattle.model.specs.Reading.{Read, itemOf, ownBytes}
 use Rattle.model.specs.Rules.{applyItem}
 use Rattle.model.specs.Items.{applyAll, blankAnswer, copies, copyOf, counted, countedAll, eventsOf, obeyedBy, printerBytes}
 use Rattle.model.proofs.ByteLaws.{length-put}
-use Rattle.model.proofs.Frames.{Good}
 use Rattle.model.proofs.ItemLaws.{obeyed-item}
 use Rattle.model.proofs.Loop.{answers, answers-turn, ends, ends-turn, prints, prints-turn, readAt, rest, rest-end}
 use Rattle.model.proofs.Patterns.{obeyed-in-message}

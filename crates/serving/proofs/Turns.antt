@@ -1,12 +1,12 @@
--- The loop's invariant over its own variables, and its four turns: a run of printed bytes, an item of the selected screen, 224, and
--- another item that changes the settings. Each takes what the functions that the turn calls ensure. What stands is the settings with
--- the place that is kept beside them.
+-- The loop's invariant over its own variables, and its turns: a run of printed bytes, another item of the selected screen, and an item
+-- that does not stay there. Each takes what the functions that the turn calls ensure. What stands is the settings with the place that is kept
+-- beside them.
 use mathlib.Core.Path.{_∙_, _≡_, ap, refl, subst, sym}
 use Prim.Native.Nat.{_+_, _-_, _^_, _<_, _≤_, ℕ}
 use native.Mathlib.Omega.{arith}
 use mathlib.Core.Bool.{Bool, cond, false, true}
 use mathlib.Core.List.{List, []}
-use lib.ListN.{drop, getD, length, replicate, take}
+use lib.ListN.{drop, getD, length, replicate, set, take}
 use lib.Dec.{eqb}
 use borrow.Author.Tests.{eqb-true}
 use Rattle.model.specs.declared.Item.{Item}
@@ -14,13 +14,12 @@ use Rattle.model.specs.declared.Item.the-variants.{Control, Printed, Refused, S
 use Rattle.model.specs.declared.Limits.{Limits}
 use Rattle.model.specs.declared.Outcome.{Outcome}
 use Rattle.model.specs.declared.Place.{Place}
-use Rattle.model.specs.declared.Sequence.{Sequence as Seq}
 use Rattle.model.specs.declared.Settings.{Settings}
 use Rattle.model.specs.Bytes.{put}
-use Rattle.model.specs.State.{State, state, withStored}
+use Rattle.model.specs.State.{State, state, withPlaces}
 use Rattle.model.specs.Checks.{member}
-use Rattle.model.specs.Screens.{base, columnsOf, height, linesOf, placeOf, textRows}
-use Rattle.model.specs.Sound.{Sound}
+use Rattle.model.specs.Screens.{placeOf}
+use Rattle.model.specs.Sound.{Good}
 use Rattle.model.specs.Judging.{allowed, judged, legalItem?, limitsOf}
 use Rattle.model.specs.Picture.{copied, painting}
 use Rattle.model.specs.Reading.{itemOf, ownBytes}
@@ -29,7 +28,6 @@ use Rattle.model.specs.Sequences.{codeOf}
 use Rattle.model.specs.Items.{copyOf, printerBytes}
 use Rattle.model.specs.OnScreen.{onScreen?, onScreenCodes, staysOnScreen?}
 use Rattle.model.proofs.Tests.{cond-at, differ}
-use Rattle.model.proofs.Frames.{Good}
 use Rattle.model.proofs.ItemLaws.{obeyed-item}
 use Rattle.model.proofs.Printing.{fits-room}
 use Rattle.reader.specs.declared.Reading.{Reading}
@@ -38,42 +36,46 @@ use Rattle.screen.specs.declared.Frame.{Frame}
 use Rattle.screen.specs.declared.run.Run.{Run}
 use Rattle.screen.specs.Frame.{FrameOf, Framed, Ready, Stands, limitsIn}
 use Rattle.screen.specs.Acts.{withPlace}
-use Rattle.screen.specs.Run.{Ran, printedAll}
-use Rattle.screen.proofs.Acting.{carried, framed-placed, placed-there, same-place}
+use Rattle.screen.specs.Run.{printedAll}
+use Rattle.screen.proofs.Acting.{carried, framed-placed, same-place}
 use Rattle.screen.proofs.Frames.{limits-are}
-use Rattle.paint.specs.Paintable.{Paintable}
 use Rattle.serving.specs.declared.Counts.{Counts}
 use Rattle.serving.specs.Counting.{Countable, answerAt, countsWith, noCounts}
-use Rattle.serving.specs.Acting.{Applied, Applying, BareThen, ItemAsked, ItemStored, Moves, applied, isPattern?}
+use Rattle.serving.specs.Acting.{Applied, Applying, Moves, Offered, applied, bareThen, printed?}
 use Rattle.serving.specs.Serves.{Servable, Serves}
 use Rattle.serving.proofs.Going.{Going, finish, start, turn}
 use Rattle.store.proofs.Laws.{put-none}
-use Rattle.serving.proofs.Runs.{run}
+use Rattle.serving.proofs.Runs.{begins, run}
+use Rattle.serving.proofs.Layers.{bare-left}
 
--- a sequence by a test of its code that 80 does not meet is no copy; so an item of the selected screen, and 224
-no-copy : (t : ℕ → Bool) → t 80 ≡ false → (q : Seq) (st : State) → t (codeOf q) ≡ true → copyOf (Sequence q) st ≡ []
-no-copy t n q st h = cond-at (λ (l : List ℕ). l ≡ []) (eqb (codeOf q) 80) (copied st) [] (λ e. absurd (differ (sym h ∙ ap t (eqb-true (codeOf q) 80 e) ∙ n))) (λ e. refl)
-
+-- an item of the selected screen is no copy
 stays-unprinted : (i : Item) (st : State) → staysOnScreen? i ≡ true → copyOf i st ≡ []
 unfolding onScreen? member
 stays-unprinted (Printed b) st h = refl
 stays-unprinted (Control c) st h = refl
-stays-unprinted (Sequence q) st h = no-copy (λ n. member n onScreenCodes) refl q st h
+stays-unprinted (Sequence q) st h =
+    cond-at (λ (l : List ℕ). l ≡ []) (eqb (codeOf q) 80) (copied st) [] (λ e. absurd (differ (sym h ∙ ap (λ (n : ℕ). member n onScreenCodes) (eqb-true (codeOf q) 80 e)))) (λ e. refl)
 stays-unprinted (Refused n) st h = refl
 
-pattern-unprinted : (i : Item) (st : State) → isPattern? i ≡ true → copyOf i st ≡ []
-pattern-unprinted (Printed b) st h = refl
-pattern-unprinted (Control c) st h = refl
-pattern-unprinted (Sequence q) st h = no-copy (λ n. eqb n 224) refl q st h
-pattern-unprinted (Refused n) st h = refl
+-- a printed byte counts nothing, and nothing more is known of the layer after it
+printed-counts : (i : Item) (at : ℕ) (c : Counts) → printed? i ≡ true → countsWith i at c ≡ c
+printed-counts (Printed b) at c h = refl
+printed-counts (Control d) at c h = absurd (differ (sym h))
+printed-counts (Sequence q) at c h = absurd (differ (sym h))
+printed-counts (Refused n) at c h = absurd (differ (sym h))
 
--- 224 does not stay on the selected screen
-pattern-away : (i : Item) → isPattern? i ≡ true → staysOnScreen? i ≡ false
-unfolding onScreen? member
-pattern-away (Printed b) h = absurd (differ (sym h))
-pattern-away (Control c) h = absurd (differ (sym h))
-pattern-away (Sequence q) h = ap (λ (n : ℕ). member n onScreenCodes) (eqb-true (codeOf q) 224 h)
-pattern-away (Refused n) h = absurd (differ (sym h))
+printed-bare : (i : Item) (b : Bool) → printed? i ≡ true → bareThen i b ≡ b
+printed-bare (Printed c) b h = refl
+printed-bare (Control c) b h = absurd (differ (sym h))
+printed-bare (Sequence q) b h = absurd (differ (sym h))
+printed-bare (Refused n) b h = absurd (differ (sym h))
+
+-- an item that does not stay is no printed byte
+away : (i : Item) → staysOnScreen? i ≡ false → printed? i ≡ false
+away (Printed b) h = h
+away (Control c) h = refl
+away (Sequence q) h = refl
+away (Refused n) h = refl
 
 -- a frame that says otherwise of the layer
 abbrev bared : Frame → Bool → Frame
@@ -100,27 +102,6 @@ ready-bared b h k = let d = h .stands in record {
   layer-are = record { size = h .layer-are .size; empty = k };
 }
 
--- patterns are no part of a frame
-framed-stored : {s : Settings} {f : Frame} (ps : List ℕ) → Framed s f → Framed (withStored s (s .kind) (s .keys) ps) f
-unfolding linesOf columnsOf textRows height base
-framed-stored ps e = record {
-  two-places = e .two-places;
-  selected-low = e .selected-low;
-  lines-are = e .lines-are;
-  columns-are = e .columns-are;
-  base-is = e .base-is;
-  rows-are = e .rows-are;
-  height-is = e .height-is;
-  shift-is = e .shift-is;
-  step-is = e .step-is;
-  tracking-is = e .tracking-is;
-}
-
--- what is known of the layer after an item, by what was known before it
-bare-then : {i : Item} {b r : Bool} → BareThen i b r → (m : ℕ → ℕ) (st : State) → (b ≡ true → applyItem m i st .layer ≡ replicate 1280 0) → r ≡ true → applyItem m i st .layer ≡ replicate 1280 0
-bare-then {b = true} h m st k e = k refl
-bare-then {b = false} h m st k e = h .clears e refl m st
-
 module _ (m cells₀ layer₀ printer₀ : List ℕ) (s₀ : Settings) where
   pub record Loop (cells layer printer : List ℕ) (s : Settings) (p : Place) (f : Frame) (c : Counts) (at : ℕ) : Type 0 where
     pub going : Going m (state s₀ cells₀ layer₀) printer₀ at (state (withPlace s p) cells layer) c printer
@@ -133,12 +114,12 @@ module _ (m cells₀ layer₀ printer₀ : List ℕ) (s₀ : Settings) where
   begin {p = p} v f k h e = record {
     going = subst (λ x. Going m (state s₀ cells₀ layer₀) printer₀ 0 (state (withPlace s₀ p) cells₀ layer₀) x printer₀) (sym e)
         (subst (λ (x : Settings). Going m (state s₀ cells₀ layer₀) printer₀ 0 (state x cells₀ layer₀) noCounts printer₀) (sym (same-place s₀ p (sym h)))
-        (start m (state s₀ cells₀ layer₀) printer₀ (record { sound = v .sound; cells-are = v .cells-are; layer-are = v .layer-are })));
+        (start m (state s₀ cells₀ layer₀) printer₀ (v .good)));
     framed = f .0 .framed;
     ready = record {
       stands = subst (Stands _) (sym h) (f .0 .stands);
-      cells-are = v .cells-are;
-      layer-are = record { size = v .layer-are; empty = λ t. k (sym (f .1) ∙ t) ∙ ap (λ (n : ℕ). replicate n 0) (v .layer-are) };
+      cells-are = v .good .cells-are;
+      layer-are = record { size = v .good .layer-are; empty = λ t. k (sym (f .1) ∙ t) ∙ ap (λ (n : ℕ). replicate n 0) (v .good .layer-are) };
     };
     short = v .short;
   }
@@ -147,21 +128,6 @@ module _ (m cells₀ layer₀ printer₀ : List ℕ) (s₀ : Settings) where
     -- what stands
     abbrev st : State
     st = state (withPlace s p) cells layer
-
-    pub paintable : Paintable (withPlace s p) cells layer
-    paintable = record { sound = g .going .good .sound; cells-are = g .going .good .cells-are; layer-are = g .going .good .layer-are }
-
-    pub ran : {cells′ layer′ : List ℕ} (r : Run) → Ran m at f p r cells layer cells′ layer′ → Loop cells′ layer′ printer s (r .place) f c (r .at)
-    ran {cells′} {layer′} r w =
-        let n : at + (r .at - at) ≡ r .at = omega (arith, w .some) in
-        let g₂ = run m (state s₀ cells₀ layer₀) printer₀ (r .at - at) at st c printer (g .going) (omega (arith, n, w .inside)) (λ j u v. w .print j u (omega (arith, n, v))) in
-        record {
-          going = subst (λ (x : State). Going m (state s₀ cells₀ layer₀) printer₀ (r .at) x c printer) (carried (g .framed) (w .acts))
-              (subst (λ (x : ℕ). Going m (state s₀ cells₀ layer₀) printer₀ x (printedAll (take (r .at - at) (drop at m)) st) c printer) n g₂);
-          framed = g .framed;
-          ready = w .acts .ready;
-          short = g .short;
-        }
 
     limits : limitsIn f ≡ limitsOf (withPlace s p)
     limits = sym (limits-are (framed-placed p (g .framed)))
@@ -199,70 +165,94 @@ module _ (m cells₀ layer₀ printer₀ : List ℕ) (s₀ : Settings) where
       unprinted : copyOf (r .item) st ≡ [] → printer ≡ put (c .printed) (copyOf (r .item) st) printer
       unprinted h = sym (ap (λ (ys : List ℕ). put (c .printed) ys printer) h ∙ put-none (c .printed) printer)
 
-      pub acted : {cells′ layer′ : List ℕ} {q : Place} {b : Bool} {c′ : Counts} → staysOnScreen? (r .item) ≡ true → Moves (r .item) f p q cells layer cells′ layer′ → BareThen (r .item) (f .bare) b
-          → c′ ≡ countsWith (r .item) at c → Loop cells′ layer′ printer s q (bared f b) c′ (at + r .length)
-      acted {cells′} {layer′} {q} {b} h a t k =
-          let d = a h (λ o. getD m o 0) in
-          let e : rule st ≡ state (withPlace s q) cells′ layer′ = carried (g .framed) d in
-          let l : rule st .layer ≡ layer′ = ap (λ (x : State). x .layer) e in
-          obeyed (framed-bared b (g .framed)) (ready-bared b (d .ready) (λ u. sym l ∙ bare-then t (λ o. getD m o 0) st (λ v. l ∙ d .ready .layer-are .empty v) u)) (sym e) (unprinted (stays-unprinted (r .item) st h)) k
+      pub offered : Offered m at (r .length) (r .item) (limitsIn f)
+      offered = record {
+        inside = w .inside;
+        short = g .short;
+        legal = w .legal;
+        prints = λ h. begins m at more (limitsIn f) (length printer - c .printed) (subst (λ (i : Item). printed? i ≡ true) (w .item-is) h);
+      }
 
-      -- the settings with the place put back into them
-      module _ {s₁ : Settings} (back : s₁ ≡ withPlace s p) where
-        abbrev stood : State
-        stood = state s₁ cells layer
+      -- what the item did on the selected screen, what is known of the layer then, and the counts
+      module _ {v : Run} {cells₁ layer₁ : List ℕ} (d : Moves m at (r .length) (r .item) f p v cells layer cells₁ layer₁) {b : Bool} (t : b ≡ bareThen (r .item) (f .bare)) {c′ : Counts} (k : c′ ≡ countsWith (r .item) at c) where
+        abbrev Next : ℕ → Type 0
+        Next at′ = Loop cells₁ layer₁ printer s (v .place) (bared f b) c′ at′
 
-        same : stood ≡ st
-        same = ap (λ (x : Settings). state x cells layer) back
+        ran : printed? (r .item) ≡ true → Next (v .at)
+        ran h =
+            let u = d .run h in
+            let q = u .run .printing in
+            let n : at + (v .at - at) ≡ v .at = omega (arith, q .some) in
+            let g₂ = run m (state s₀ cells₀ layer₀) printer₀ (v .at - at) at st c printer (g .going) (omega (arith, n, q .inside)) (λ j x y. q .print j x (omega (arith, n, y))) in
+            let g₃ = subst (λ (x : State). Going m (state s₀ cells₀ layer₀) printer₀ (v .at) x c printer) (carried (g .framed) (u .acts))
+            (subst (λ (x : ℕ). Going m (state s₀ cells₀ layer₀) printer₀ x (printedAll (take (v .at - at) (drop at m)) st) c printer) n g₂) in
+            record {
+              going = subst (λ (x : Counts). Going m (state s₀ cells₀ layer₀) printer₀ (v .at) (state (withPlace s (v .place)) cells₁ layer₁) x printer) (sym (k ∙ printed-counts (r .item) at c h)) g₃;
+              framed = framed-bared b (g .framed);
+              ready = ready-bared b (u .acts .ready) (λ x. u .acts .ready .layer-are .empty (sym (t ∙ printed-bare (r .item) (f .bare) h) ∙ x));
+              short = g .short;
+            }
 
-        pub ready-to-paint : Paintable s₁ cells layer
-        ready-to-paint = subst (λ (x : Settings). Paintable x cells layer) (sym back) paintable
+        moved : printed? (r .item) ≡ false → staysOnScreen? (r .item) ≡ true → Next (v .at)
+        moved n h =
+            let a = d .acts n h (λ o. getD m o 0) in
+            let e : rule st ≡ state (withPlace s (v .place)) cells₁ layer₁ = carried (g .framed) a in
+            let l : rule st .layer ≡ layer₁ = ap (λ (x : State). x .layer) e in
+            let known : b ≡ true → layer₁ ≡ replicate 1280 0 =
+            λ x. sym l ∙ bare-left (r .item) (f .bare) (λ o. getD m o 0) st (sym t ∙ x) (λ y. ((λ off. absurd (differ (sym h ∙ off))), (λ on. l ∙ a .ready .layer-are .empty y))) in
+            subst Next (sym (d .next n)) (obeyed (framed-bared b (g .framed)) (ready-bared b (a .ready) known) (sym e) (unprinted (stays-unprinted (r .item) st h)) k)
 
-        legal-back : legalItem? (r .item) (limitsOf s₁) ≡ true
-        legal-back = subst (λ (x : Settings). legalItem? (r .item) (limitsOf x) ≡ true) (sym back) legal
+        -- one that stays
+        pub acted : staysOnScreen? (r .item) ≡ true → Next (v .at)
+        acted h = go (printed? (r .item)) refl
+          where
+            go : (x : Bool) → printed? (r .item) ≡ x → Next (v .at)
+            go true e = ran e
+            go false e = moved e h
 
-        pub applying : Applying s₁ (r .item) cells layer
-        applying = let e = ready-to-paint in record { sound = e .sound; cells-are = e .cells-are; layer-are = e .layer-are; legal = legal-back }
+        pub further : at < v .at
+        further = go (printed? (r .item)) refl
+          where
+            go : (x : Bool) → printed? (r .item) ≡ x → at < v .at
+            go true e = d .run e .run .printing .some
+            go false e = omega (arith, d .next e, w .some)
 
-        pub storing : ItemAsked s₁ (r .item) m
-        storing = record { sound = ready-to-paint .sound; legal = legal-back; rows = w .rows-inside }
+        -- one that does not: the place goes back into the settings
+        module _ (h : staysOnScreen? (r .item) ≡ false) {ps : List Place} (back : ps ≡ set (s .places) (s .selected) (v .place)) where
+          abbrev stood : State
+          stood = state (withPlaces s ps) cells₁ layer₁
 
-        did : {x : State} → staysOnScreen? (r .item) ≡ false → x ≡ applied m (r .item) stood → x ≡ rule st
-        unfolding applied
-        did h a = a ∙ ap (λ (b : Bool). cond b stood (rule stood)) h ∙ ap rule same
+          same : stood ≡ st
+          same =
+              let e = d .rests h in
+              let j : ps ≡ set (s .places) (s .selected) p = back ∙ ap (set (s .places) (s .selected)) (e .0) in
+              λ i. state (withPlaces s (j i)) (e .1 .0 i) (e .1 .1 i)
 
-        -- 224
-        pub stored-pattern : {s′ : Settings} {c′ : Counts} → isPattern? (r .item) ≡ true → ItemStored s₁ (r .item) m s′ → c′ ≡ countsWith (r .item) at c → Loop cells layer printer s′ p f c′ (at + r .length)
-        unfolding placeOf
-        stored-pattern {s′} h d k =
-            let e : Framed s₁ f = subst (λ (x : Settings). Framed x f) (sym back) (framed-placed p (g .framed)) in
-            let here : placeOf s₁ (s₁ .selected) ≡ p = ap (λ (x : Settings). placeOf x (x .selected)) back ∙ placed-there p (g .framed) in
-            let here′ : placeOf s′ (s′ .selected) ≡ p = ap (λ (x : Settings). placeOf x (x .selected)) (d .rest) ∙ here in
-            obeyed (subst (λ (x : Settings). Framed x f) (sym (d .rest)) (framed-stored (s′ .patterns) e)) (g .ready)
-            (ap (λ (x : Settings). state x cells layer) (same-place s′ p here′) ∙ did (pattern-away (r .item) h) (d .does h cells layer)) (unprinted (pattern-unprinted (r .item) st h)) k
+          pub applying : Applying (withPlaces s ps) (r .item) m cells₁ layer₁ printer (c .printed)
+          applying = record {
+            good = subst Good (sym same) (g .going .good);
+            legal = subst (λ (x : State). legalItem? (r .item) (limitsOf (x .settings)) ≡ true) (sym same) legal;
+            rows = w .rows-inside;
+            roomy = roomy;
+          }
 
-        -- another item that changes the settings
-        module _ {cells′ layer′ : List ℕ} {s′ s₂ : Settings} (h : staysOnScreen? (r .item) ≡ false) (j : isPattern? (r .item) ≡ false) (a : Applied s₁ (r .item) s′ cells layer cells′ layer′) (e : s₂ ≡ s′) where
-          done : state s₂ cells′ layer′ ≡ rule st
-          done = ap (λ (x : Settings). state x cells′ layer′) e ∙ did h (a .does j m)
+          module _ {s₂ : Settings} {cells₂ layer₂ printer₂ : List ℕ} (a : Applied (withPlaces s ps) (r .item) m (c .printed) s₂ cells₁ layer₁ printer cells₂ layer₂ printer₂) where
+            done : state s₂ cells₂ layer₂ ≡ rule st
+            unfolding applied
+            done = a .does ∙ ap (λ (x : Bool). cond x stood (rule stood)) h ∙ ap rule same
 
-          good : Good (state s₂ cells′ layer′)
-          good = subst Good (sym done) (obeyed-item (λ o. getD m o 0) (r .item) st (g .going .good) legal .good)
+            pub good : Good (state s₂ cells₂ layer₂)
+            good = subst Good (sym done) (obeyed-item (λ o. getD m o 0) (r .item) st (g .going .good) legal .good)
 
-          pub sound-then : Sound s₂
-          sound-then = good .sound
-
-          pub changed : {printer′ : List ℕ} {p₂ : Place} {f₂ : Frame} {b : Bool} {c′ : Counts} → p₂ ≡ placeOf s₂ (s₂ .selected) → (FrameOf s₂ f₂) × (f₂ .bare ≡ b) → BareThen (r .item) (f .bare) b
-              → printer′ ≡ put (c .printed) (copyOf (r .item) stood) printer → c′ ≡ countsWith (r .item) at c → Loop cells′ layer′ printer′ s₂ p₂ f₂ c′ (at + r .length)
-          changed {p₂ = p₂} {f₂ = f₂} i q t u k =
-              let l : rule st .layer ≡ layer′ = ap (λ (x : State). x .layer) (sym done) in
-              obeyed (q .0 .framed)
-              (record {
-                stands = subst (Stands f₂) (sym i) (q .0 .stands);
-                cells-are = good .cells-are;
-                layer-are = record { size = good .layer-are; empty = λ v. sym l ∙ bare-then t (λ o. getD m o 0) st (λ x. t .keeps (sym (q .1) ∙ v) h (λ o. getD m o 0) st (g .ready .layer-are .empty x)) (sym (q .1) ∙ v) };
-              })
-              (ap (λ (x : Settings). state x cells′ layer′) (same-place s₂ p₂ (sym i)) ∙ done) (u ∙ ap (λ (x : State). put (c .printed) (copyOf (r .item) x) printer) same) k
+            pub changed : {p₂ : Place} {f₂ : Frame} → p₂ ≡ placeOf s₂ (s₂ .selected) → (FrameOf s₂ f₂) × (f₂ .bare ≡ b) → Loop cells₂ layer₂ printer₂ s₂ p₂ f₂ c′ (v .at)
+            changed {p₂} {f₂} i q =
+                let l : rule st .layer ≡ layer₂ = ap (λ (x : State). x .layer) (sym done) in
+                let known : f₂ .bare ≡ true → layer₂ ≡ replicate 1280 0 =
+                λ x. sym l ∙ bare-left (r .item) (f .bare) (λ o. getD m o 0) st (sym t ∙ sym (q .1) ∙ x) (λ y. ((λ off. g .ready .layer-are .empty y), (λ on. absurd (differ (sym on ∙ h))))) in
+                subst (λ (x : ℕ). Loop cells₂ layer₂ printer₂ s₂ p₂ f₂ c′ x) (sym (d .next (away (r .item) h)))
+                (obeyed (q .0 .framed)
+                (record { stands = subst (Stands f₂) (sym i) (q .0 .stands); cells-are = good .cells-are; layer-are = record { size = good .layer-are; empty = known } })
+                (ap (λ (x : Settings). state x cells₂ layer₂) (same-place s₂ p₂ (sym i)) ∙ done) (a .prints ∙ ap (λ (x : State). put (c .printed) (copyOf (r .item) x) printer) same) k)
 
     pub end : (r : Outcome) {shown : List ℕ} → length m ≤ at → r .settings ≡ withPlace s p → r .answer ≡ answerAt at c → shown ≡ painting (state (withPlace s p) cells layer)
         → Serves m (state s₀ cells₀ layer₀) printer₀ r cells layer shown printer

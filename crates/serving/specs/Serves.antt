@@ -7,17 +7,15 @@ use Rattle.model.specs.declared.Outcome.{Outcome}
 use Rattle.model.specs.declared.Settings.{Settings}
 use Rattle.model.specs.Bytes.{written}
 use Rattle.model.specs.State.{State, state}
-use Rattle.model.specs.Sound.{Sound}
+use Rattle.model.specs.Sound.{Good}
 use Rattle.model.specs.Picture.{painting}
 use Rattle.model.specs.Reading.{Read, uncut}
 use Rattle.model.specs.Items.{applyAll, blankAnswer, copies, countedAll, eventsOf, readsOf}
 
--- what serving asks: sound settings, stores of their sizes, a message that is not too long
+-- what serving asks: that what stands is good, a message that is not too long, and a shown screen of its size
 pub record Servable (s : Settings) (m cells layer shown : List ℕ) : Type 0 where
-  pub sound : Sound s
+  pub good : Good (state s cells layer)
   pub short : length m ≤ 4096
-  pub cells-are : length cells ≡ 3840
-  pub layer-are : length layer ≡ 1280
   pub shown-are : length shown ≡ 640
 
 -- the items of a message, read from what stands, with a printer buffer

@@ -4,14 +4,12 @@ ghost use Prim.Native.Nat.{_+_, _<_, _≤_};
 ghost use lib.ListN.{length};
 ghost use Rattle.model.specs.Bytes.{put};
 ghost use Rattle.model.specs.State.{state};
+ghost use Rattle.model.specs.Sound.{Good};
 ghost use Rattle.model.specs.Items.{copyOf, printerBytes};
 ghost use Rattle.model.specs.OnScreen.{staysOnScreen?};
-ghost use mathlib.Core.Bool.{true};
-ghost use Rattle.model.specs.Judging.{legalItem?};
 ghost use Rattle.reader.specs.Reading.{ReadAt};
 ghost use Rattle.screen.specs.Frame.{Ready, limitsIn};
-ghost use Rattle.paint.specs.Paintable.{Paintable};
-ghost use Rattle.serving.specs.Acting.{Moves, BareThen, Applying, Applied, isPattern?, ItemAsked, ItemStored};
+ghost use Rattle.serving.specs.Acting.{Offered, Moves, bareThen, Applying, Applied};
 use crate::counting::is_copy;
 use model::Item;
 use model::Limits;
@@ -20,6 +18,7 @@ use model::Sequence;
 use model::Settings;
 use reader::Reading;
 use screen::Frame;
+use screen::run::Run;
 
 // The item at an offset, judged by the selected screen's limits.
 pub(crate) fn read_at(frame: Frame, room: usize, message: &[u8], at: usize) -> Reading
@@ -35,7 +34,7 @@ pub(crate) fn read_at(frame: Frame, room: usize, message: &[u8], at: usize) -> R
     reader::read_item(limits, room, message, at)
 }
 
-// Whether an item needs none of the settings but the selected screen's place.
+// Whether an item acts on the selected screen alone.
 pub(crate) fn stays(item: Item) -> bool
     ensures { λ r. ⌜ r ≡ staysOnScreen? item ⌝ }
 {
@@ -43,36 +42,47 @@ pub(crate) fn stays(item: Item) -> bool
         Item::Printed(_) => true,
         Item::Control(_) => true,
         Item::Sequence(q) => screen::on_screen(q),
-        Item::Refused(_) => true,
+        Item::Refused(_) => false,
     }
 }
 
-// An item that stays on the selected screen: where the cursor and the window are then.
+// What an item at an offset, with so many bytes, does on the selected screen: where the cursor and the window are then, and where the next
+// item begins. A printed byte begins a run, and all of it is printed at once. An item that does not stay leaves all as it is.
 pub(crate) fn act(
     frame: Frame,
     place: Place,
     item: Item,
+    message: &[u8],
+    at: usize,
+    size: usize,
     cells: &mut [u8],
     layer: &mut [u8],
-) -> Place
+) -> Run
     requires { ⌜ Ready frame place (now cells) (now layer) ⌝ }
-    requires { ⌜ legalItem? item (limitsIn frame) ≡ true ⌝ }
-    ensures { λ r. ⌜ Moves item frame place r (now (cells .entry)) (now (layer .entry)) (now (cells .exit)) (now (layer .exit)) ⌝ }
+    requires { ⌜ Offered (now message) at size item (limitsIn frame) ⌝ }
+    ensures { λ r. ⌜ Moves (now (message .entry)) at size item frame place r (now (cells .entry)) (now (layer .entry)) (now (cells .exit)) (now (layer .exit)) ⌝ }
 {
+    let next = at + size;
     match item {
-        Item::Printed(b) => screen::print(frame, place, b, cells, layer),
-        Item::Control(c) => screen::control(frame, place, c, cells, layer),
-        Item::Sequence(q) => screen::act(frame, place, q, cells, layer),
-        Item::Refused(_) => place,
+        Item::Printed(_) => screen::run::print_run(frame, place, message, at, cells, layer),
+        Item::Control(c) => Run {
+            place: screen::control(frame, place, c, cells, layer),
+            at: next,
+        },
+        Item::Sequence(q) => Run {
+            place: screen::act(frame, place, q, cells, layer),
+            at: next,
+        },
+        Item::Refused(_) => Run { place, at: next },
     }
 }
 
 // What is known of the layer after an item: it is empty (true), or nothing is known of it.
 pub(crate) fn bare_after(item: Item, bare: bool) -> bool
-    ensures { λ r. ⌜ BareThen item bare r ⌝ }
+    ensures { λ r. ⌜ r ≡ bareThen item bare ⌝ }
 {
     match item {
-        Item::Control(c) => bare | (c == 12),
+        Item::Control(c) => (c == 12) | bare,
         Item::Sequence(q) => bare_then(q, bare),
         _ => bare,
     }
@@ -80,7 +90,7 @@ pub(crate) fn bare_after(item: Item, bare: bool) -> bool
 
 // The same of a sequence: 210 marks the layer, these others "empty the whole layer".
 fn bare_then(q: Sequence, bare: bool) -> bool
-    ensures { λ r. ⌜ BareThen (Item.Sequence q) bare r ⌝ }
+    ensures { λ r. ⌜ r ≡ bareThen (Item.Sequence q) bare ⌝ }
 {
     match q {
         Sequence::Mark {
@@ -109,54 +119,42 @@ fn bare_then(q: Sequence, bare: bool) -> bool
 }
 
 // "A refused sequence changes nothing but the counts and the first refusal": the accepted case is taken apart, else the settings
-// are those that were given. 224 is not done here.
-pub(crate) fn apply(settings: Settings, item: Item, cells: &mut [u8], layer: &mut [u8]) -> Settings
-    requires { ⌜ Applying settings item (now cells) (now layer) ⌝ }
-    ensures { λ r. ⌜ Applied settings item r (now (cells .entry)) (now (layer .entry)) (now (cells .exit)) (now (layer .exit)) ⌝ }
+// are those that were given.
+pub(crate) fn apply(
+    settings: Settings,
+    item: Item,
+    message: &[u8],
+    cells: &mut [u8],
+    layer: &mut [u8],
+    printer: &mut [u8],
+    from: usize,
+) -> Settings
+    requires { ⌜ Applying settings item (now message) (now cells) (now layer) (now printer) from ⌝ }
+    ensures { λ r. ⌜ Applied settings item (now (message .entry)) from r (now (cells .entry)) (now (layer .entry)) (now (printer .entry)) (now (cells .exit)) (now (layer .exit)) (now (printer .exit)) ⌝ }
 {
     let Item::Sequence(q) = item else {
         return settings;
     };
+    print_copy(settings, q, cells, layer, printer, from);
+    if settings::is_pattern(q) {
+        return settings::store_pattern(settings, q, message);
+    }
     settings::obey(settings, q, cells, layer)
 }
 
-// Whether an item is 224.
-pub(crate) fn is_pattern(item: Item) -> bool
-    ensures { λ r. ⌜ r ≡ isPattern? item ⌝ }
-{
-    let Item::Sequence(q) = item else {
-        return false;
-    };
-    settings::is_pattern(q)
-}
-
-// 224: "its eight rows stored".
-pub(crate) fn store_pattern(settings: Settings, item: Item, message: &[u8]) -> Settings
-    requires { ⌜ ItemAsked settings item (now message) ⌝ }
-    ensures { λ r. ⌜ ItemStored settings item (now (message .entry)) r ⌝ }
-{
-    let Item::Sequence(q) = item else {
-        return settings;
-    };
-    settings::store_pattern(settings, q, message)
-}
-
-// 80: "appends the picture at that moment"; any other item prints nothing.
-pub(crate) fn print_copy(
+// 80: "appends the picture at that moment"; any other sequence prints nothing.
+fn print_copy(
     settings: Settings,
-    item: Item,
+    q: Sequence,
     cells: &[u8],
     layer: &[u8],
     printer: &mut [u8],
     from: usize,
 )
-    requires { ⌜ Paintable settings (now cells) (now layer) ⌝ }
-    requires { ⌜ from + printerBytes item ≤ length (now printer) ⌝ }
-    ensures { λ _. ⌜ now (printer .exit) ≡ put from (copyOf item (state settings (now (cells .entry)) (now (layer .entry)))) (now (printer .entry)) ⌝ }
+    requires { ⌜ Good (state settings (now cells) (now layer)) ⌝ }
+    requires { ⌜ from + printerBytes (Item.Sequence q) ≤ length (now printer) ⌝ }
+    ensures { λ _. ⌜ now (printer .exit) ≡ put from (copyOf (Item.Sequence q) (state settings (now (cells .entry)) (now (layer .entry)))) (now (printer .entry)) ⌝ }
 {
-    let Item::Sequence(q) = item else {
-        return;
-    };
     if is_copy(q) {
         paint::copy(settings, cells, layer, printer, from);
     }

@@ -11,6 +11,9 @@ use model::Answer;
 use model::Item;
 use model::Sequence;
 
+// The bytes of a printed copy: 8 rows of 82.
+const COPY: usize = 656;
+
 // None yet.
 pub(crate) fn no_counts() -> Counts
     ensures { λ r. ⌜ r ≡ noCounts ⌝ }
@@ -52,7 +55,7 @@ fn accept(counts: Counts, copied: bool) -> Counts
     let mut c = counts;
     c.accepted += 1;
     if copied {
-        c.printed += 656;
+        c.printed += COPY;
     }
     c
 }

@@ -7,18 +7,15 @@ ghost use mathlib.Core.Path.{_≡_};
 ghost use mathlib.Core.Bool.{true};
 ghost use lib.ListN.{length, replicate};
 ghost use Rattle.model.specs.State.{state};
+ghost use Rattle.model.specs.Sound.{Good};
 ghost use Rattle.model.specs.Picture.{painting};
 ghost use Rattle.screen.specs.Acts.{withPlace};
-ghost use Rattle.paint.specs.Paintable.{Paintable};
 ghost use Rattle.serving.specs.Serves.{Servable, Serves};
 use acting::act;
 use acting::apply;
 use acting::bare_after;
-use acting::is_pattern;
-use acting::print_copy;
 use acting::read_at;
 use acting::stays;
-use acting::store_pattern;
 use counting::answer_of;
 use counting::count;
 use counting::no_counts;
@@ -26,7 +23,6 @@ use model::Answer;
 use model::Outcome;
 use model::Place;
 use model::Settings;
-use places::keep_patterns;
 use places::placed;
 use places::selected_place;
 
@@ -40,8 +36,7 @@ pub struct Counts {
 }
 
 // "An accepted message is read into items; each in turn changes what stands as its rule says"; "it always ends by painting". The settings
-// stay where they are: the selected screen's place is kept beside them, and a run of printed bytes and an item of that screen only move
-// it. Nothing here takes an index into the settings that is not a literal, so that a compiler can take them apart into their fields.
+// stay where they are: the selected screen's place is kept beside them, and an item of that screen only moves it.
 pub fn serve(
     settings: Settings,
     message: &[u8],
@@ -59,36 +54,22 @@ pub fn serve(
     let mut counts = no_counts();
     let mut at = 0;
     while at < message.len() {
-        if message[at] >= 32 {
-            let run = screen::run::print_run(frame, place, message, at, cells, layer);
-            place = run.place;
-            at = run.at;
-            continue;
-        }
         let printed = counts.printed;
         let read = read_at(frame, printer.len() - printed, message, at);
         let item = read.item;
-        let size = read.length;
         counts = count(counts, item, at);
+        let run = act(frame, place, item, message, at, read.length, cells, layer);
+        place = run.place;
+        at = run.at;
+        frame.bare = bare_after(item, frame.bare);
         if stays(item) {
-            place = act(frame, place, item, cells, layer);
-            frame.bare = bare_after(item, frame.bare);
-            at += size;
             continue;
         }
         let places = placed(s, place);
         s.places = places;
-        if is_pattern(item) {
-            s = store_pattern(s, item, message);
-            at += size;
-            continue;
-        }
-        print_copy(s, item, cells, layer, printer, printed);
-        let next = apply(s, item, cells, layer);
-        s = keep_patterns(s, next);
+        s = apply(s, item, message, cells, layer, printer, printed);
         place = selected_place(s);
-        frame = screen::frame_of(s, bare_after(item, frame.bare));
-        at += size;
+        frame = screen::frame_of(s, frame.bare);
     }
     let answer = answer_of(counts, at);
     finish(s, place, frame.bare, answer, cells, layer, shown)
@@ -104,7 +85,7 @@ fn finish(
     layer: &[u8],
     shown: &mut [u8],
 ) -> Outcome
-    requires { ⌜ (Paintable (withPlace settings place) (now cells) (now layer)) × ((bare ≡ true → now layer ≡ replicate 1280 0) × (length (now shown) ≡ 640)) ⌝ }
+    requires { ⌜ (Good (state (withPlace settings place) (now cells) (now layer))) × ((bare ≡ true → now layer ≡ replicate 1280 0) × (length (now shown) ≡ 640)) ⌝ }
     ensures { λ r. ⌜ (r .settings ≡ withPlace settings place) × ((r .answer ≡ answer) × (now (shown .exit) ≡ painting (state (withPlace settings place) (now (cells .entry)) (now (layer .entry))))) ⌝ }
 {
     let mut s = settings;

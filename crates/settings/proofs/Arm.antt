@@ -1,4 +1,4 @@
--- An arm of `obey` that has one sequence, and not 224: what stands is what the rules make of it, and they leave the patterns.
+-- An arm that has one sequence, k: what stands is what the rules make of it, and they leave the patterns.
 use mathlib.Core.Path.{_≡_, _∙_, ap, sym}
 use Prim.Native.Nat.{ℕ}
 use mathlib.Core.Bool.{false}
@@ -6,10 +6,16 @@ use mathlib.Core.List.{List, []}
 use lib.Dec.{eqb}
 use Rattle.model.specs.declared.Settings.{Settings}
 use Rattle.model.specs.declared.Sequence.{Sequence as Seq}
+use Rattle.model.specs.Checks.{member}
 use Rattle.model.specs.State.{State, state}
 use Rattle.model.specs.Sequences.{codeOf}
 use Rattle.model.proofs.Tests.{differ}
-use Rattle.settings.specs.Obey.{Obeyed, settled}
+use Rattle.settings.specs.Obey.{Obeyed, Setting, more, settled}
 
+-- in `obey`, where it is not 224
 pub arm : {s r : Settings} {q k : Seq} {cells layer cells′ layer′ : List ℕ} → q ≡ k → ((m : List ℕ) → state r cells′ layer′ ≡ settled m k (state s cells layer)) → settled [] k (state s cells layer) .settings .patterns ≡ s .patterns → eqb (codeOf k) 224 ≡ false → Obeyed s q r cells layer cells′ layer′
 arm is stands kept other = record { does = λ e m. rw is (stands m); left = λ e. absurd (differ (sym e ∙ ap (λ (j : Seq). eqb (codeOf j) 224) is ∙ other)); keeps = ap (λ (st : State). st .settings .patterns) (stands []) ∙ kept }
+
+-- in `set`, where it changes no store
+pub set-arm : {s r : Settings} {q k : Seq} → q ≡ k → ((m cells layer : List ℕ) → state r cells layer ≡ settled m k (state s cells layer)) → settled [] k (state s [] []) .settings .patterns ≡ s .patterns → member (codeOf k) more ≡ false → Setting s q r
+set-arm is stands kept other = record { does = λ e m cells layer. rw is (stands m cells layer); left = λ e. absurd (differ (sym e ∙ ap (λ (j : Seq). member (codeOf j) more) is ∙ other)); keeps = ap (λ (st : State). st .settings .patterns) (stands [] [] []) ∙ kept }

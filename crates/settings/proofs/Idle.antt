@@ -1,5 +1,5 @@
--- What the last arms know of a sequence, case by case. In `obey` it changes nothing (crate screen's, 80, 198, 199 and 246) or is 224; in
--- `is_pattern` and `store_pattern` it is not 224.
+-- What the last arms know of a sequence. In `set` it changes nothing (crate screen's, 80, 198, 199 and 246) or does more than set something;
+-- in `obey` it changes no store, in `is_pattern` and `store_pattern` it is not 224.
 use mathlib.Core.Path.{_≡_, refl}
 use Prim.Native.Nat.{ℕ}
 use mathlib.Core.Bool.{false}
@@ -17,70 +17,76 @@ use Rattle.model.specs.OnScreen.{onScreen?}
 use Rattle.model.specs.Rules.{obeyed}
 use Rattle.model.proofs.Sequence.{the-type}
 use Rattle.model.proofs.Tests.{differ}
-use Rattle.settings.specs.Obey.{settled}
+use Rattle.model.proofs.Cases.{none-passes}
+use Rattle.settings.specs.Obey.{more, settled}
 
--- the variants, by their position, that `obey` leaves to its last arm
-abbrev last-arm : List ℕ
-last-arm = 0 ∷ 1 ∷ 4 ∷ 6 ∷ 7 ∷ 8 ∷ 11 ∷ 12 ∷ 15 ∷ 16 ∷ 25 ∷ 26 ∷ 33 ∷ 34 ∷ 36 ∷ 37 ∷ 44 ∷ []
+-- the variants, by their position, that `set` leaves to its last arm
+abbrev unset : List ℕ
+unset = 0 ∷ 1 ∷ 4 ∷ 6 ∷ 7 ∷ 8 ∷ 11 ∷ 12 ∷ 15 ∷ 16 ∷ 25 ∷ 26 ∷ 27 ∷ 28 ∷ 29 ∷ 30 ∷ 31 ∷ 33 ∷ 34 ∷ 36 ∷ 37 ∷ 44 ∷ []
+
+-- those that `obey` leaves to its own
+abbrev only-set : List ℕ
+only-set = listFrom (λ n. n) 0 27 ++ listFrom (λ n. n) 32 14
 
 -- those that `is_pattern` and `store_pattern` leave to theirs: all but 224
 abbrev not-224 : List ℕ
 not-224 = listFrom (λ n. n) 0 37 ++ listFrom (λ n. n) 38 8
 
--- those of the first list change nothing, 224 apart; those of the second are not 224
-told : (q : Seq) → (OneOf last-arm (tagOf the-type q) → eqb (codeOf q) 224 ≡ false → (m : List ℕ) (st : State) → st ≡ settled m q st) × (OneOf not-224 (tagOf the-type q) → eqb (codeOf q) 224 ≡ false)
+-- what `set` leaves changes nothing, unless it does more than set something
+pub idle : (q : Seq) → OneOf unset (tagOf the-type q) → member (codeOf q) more ≡ false → (m : List ℕ) (st : State) → st ≡ settled m q st
 unfolding settled onScreen? member obeyed
-told (PrintCode a) = (λ z e m st. refl, λ z. refl)
-told Clear = (λ z e m st. refl, λ z. refl)
-told CursorOff = (λ z. absurd (miss last-arm 2 tt z), λ z. refl)
-told CursorOn = (λ z. absurd (miss last-arm 3 tt z), λ z. refl)
-told (Put a b) = (λ z e m st. refl, λ z. refl)
-told (Charset a) = (λ z. absurd (miss last-arm 5 tt z), λ z. refl)
-told Copy = (λ z e m st. refl, λ z. refl)
-told EraseLine = (λ z e m st. refl, λ z. refl)
-told EraseRest = (λ z e m st. refl, λ z. refl)
-told SecretOn = (λ z. absurd (miss last-arm 9 tt z), λ z. refl)
-told SecretOff = (λ z. absurd (miss last-arm 10 tt z), λ z. refl)
-told (LinesUp a b) = (λ z e m st. refl, λ z. refl)
-told (LinesDown a b) = (λ z e m st. refl, λ z. refl)
-told (Step a) = (λ z. absurd (miss last-arm 13 tt z), λ z. refl)
-told (Tracking a) = (λ z. absurd (miss last-arm 14 tt z), λ z. refl)
-told WindowUp = (λ z e m st. refl, λ z. refl)
-told WindowDown = (λ z e m st. refl, λ z. refl)
-told InsOn = (λ z. absurd (miss last-arm 17 tt z), λ z. refl)
-told InsOff = (λ z. absurd (miss last-arm 18 tt z), λ z. refl)
-told CapsOn = (λ z. absurd (miss last-arm 19 tt z), λ z. refl)
-told CapsOff = (λ z. absurd (miss last-arm 20 tt z), λ z. refl)
-told NumOn = (λ z. absurd (miss last-arm 21 tt z), λ z. refl)
-told NumOff = (λ z. absurd (miss last-arm 22 tt z), λ z. refl)
-told StringsOff = (λ z. absurd (miss last-arm 23 tt z), λ z. refl)
-told StringsOn = (λ z. absurd (miss last-arm 24 tt z), λ z. refl)
-told (DrawLine a b c d e f g h i j k) = (λ z e m st. refl, λ z. refl)
-told (DrawDot a b c d) = (λ z e m st. refl, λ z. refl)
-told (Mode0 a b) = (λ z. absurd (miss last-arm 27 tt z), λ z. refl)
-told (Mode1 a) = (λ z. absurd (miss last-arm 28 tt z), λ z. refl)
-told (Mode2 a b c) = (λ z. absurd (miss last-arm 29 tt z), λ z. refl)
-told (Select a) = (λ z. absurd (miss last-arm 30 tt z), λ z. refl)
-told (Mark a b c) = (λ z. absurd (miss last-arm 31 tt z), λ z. refl)
-told (Display a) = (λ z. absurd (miss last-arm 32 tt z), λ z. refl)
-told WindowTop = (λ z e m st. refl, λ z. refl)
-told WindowBottom = (λ z e m st. refl, λ z. refl)
-told (CursorKind a) = (λ z. absurd (miss last-arm 35 tt z), λ z. refl)
-told WindowCursor = (λ z e m st. refl, λ z. refl)
-told (Pattern a b) = (λ z e. absurd (differ e), λ z. absurd (miss not-224 37 tt z))
-told (Repeat a) = (λ z. absurd (miss last-arm 38 tt z), λ z. refl)
-told (RepeatDelay a) = (λ z. absurd (miss last-arm 39 tt z), λ z. refl)
-told (RepeatInterval a) = (λ z. absurd (miss last-arm 40 tt z), λ z. refl)
-told (Arrows1 a b c d) = (λ z. absurd (miss last-arm 41 tt z), λ z. refl)
-told (Arrows2 a b c d) = (λ z. absurd (miss last-arm 42 tt z), λ z. refl)
-told (Arrows3 a b c d) = (λ z. absurd (miss last-arm 43 tt z), λ z. refl)
-told Nothing = (λ z e m st. refl, λ z. refl)
-told (Shift a) = (λ z. absurd (miss last-arm 45 tt z), λ z. refl)
+idle (PrintCode a) z o m st = refl
+idle Clear z o m st = refl
+idle CursorOff z o m st = absurd (miss unset 2 tt z)
+idle CursorOn z o m st = absurd (miss unset 3 tt z)
+idle (Put a b) z o m st = refl
+idle (Charset a) z o m st = absurd (miss unset 5 tt z)
+idle Copy z o m st = refl
+idle EraseLine z o m st = refl
+idle EraseRest z o m st = refl
+idle SecretOn z o m st = absurd (miss unset 9 tt z)
+idle SecretOff z o m st = absurd (miss unset 10 tt z)
+idle (LinesUp a b) z o m st = refl
+idle (LinesDown a b) z o m st = refl
+idle (Step a) z o m st = absurd (miss unset 13 tt z)
+idle (Tracking a) z o m st = absurd (miss unset 14 tt z)
+idle WindowUp z o m st = refl
+idle WindowDown z o m st = refl
+idle InsOn z o m st = absurd (miss unset 17 tt z)
+idle InsOff z o m st = absurd (miss unset 18 tt z)
+idle CapsOn z o m st = absurd (miss unset 19 tt z)
+idle CapsOff z o m st = absurd (miss unset 20 tt z)
+idle NumOn z o m st = absurd (miss unset 21 tt z)
+idle NumOff z o m st = absurd (miss unset 22 tt z)
+idle StringsOff z o m st = absurd (miss unset 23 tt z)
+idle StringsOn z o m st = absurd (miss unset 24 tt z)
+idle (DrawLine a b c d e f g h i j k) z o m st = refl
+idle (DrawDot a b c d) z o m st = refl
+idle (Mode0 a b) z o m st = absurd (differ o)
+idle (Mode1 a) z o m st = absurd (differ o)
+idle (Mode2 a b c) z o m st = absurd (differ o)
+idle (Select a) z o m st = absurd (differ o)
+idle (Mark a b c) z o m st = absurd (differ o)
+idle (Display a) z o m st = absurd (miss unset 32 tt z)
+idle WindowTop z o m st = refl
+idle WindowBottom z o m st = refl
+idle (CursorKind a) z o m st = absurd (miss unset 35 tt z)
+idle WindowCursor z o m st = refl
+idle (Pattern a b) z o m st = absurd (differ o)
+idle (Repeat a) z o m st = absurd (miss unset 38 tt z)
+idle (RepeatDelay a) z o m st = absurd (miss unset 39 tt z)
+idle (RepeatInterval a) z o m st = absurd (miss unset 40 tt z)
+idle (Arrows1 a b c d) z o m st = absurd (miss unset 41 tt z)
+idle (Arrows2 a b c d) z o m st = absurd (miss unset 42 tt z)
+idle (Arrows3 a b c d) z o m st = absurd (miss unset 43 tt z)
+idle Nothing z o m st = refl
+idle (Shift a) z o m st = absurd (miss unset 45 tt z)
 
--- what `obey` leaves to its last arm changes nothing, unless it is 224
-pub idle : {st : State} (q : Seq) → OneOf last-arm (tagOf the-type q) → eqb (codeOf q) 224 ≡ false → (m : List ℕ) → st ≡ settled m q st
-idle {st} q z e m = told q .0 z e m st
+-- what `obey` leaves to `set` changes no store
+pub storeless : (q : Seq) → OneOf only-set (tagOf the-type q) → eqb (codeOf q) 224 ≡ false → member (codeOf q) more ≡ false
+unfolding member
+storeless q z e = rw e (none-passes (λ c. member c (208 ∷ 209 ∷ 210 ∷ [])) only-set q refl z)
 
 -- what `is_pattern` and `store_pattern` leave to their last arms is not 224
 pub no-pattern : (q : Seq) → OneOf not-224 (tagOf the-type q) → eqb (codeOf q) 224 ≡ false
-no-pattern q = told q .1
+no-pattern q = none-passes (λ c. eqb c 224) not-224 q refl

@@ -1,5 +1,4 @@
 pub mod Arm
 pub mod Idle
 pub mod Parts
-pub mod Ranged
 pub mod Rows

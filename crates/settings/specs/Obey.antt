@@ -1,7 +1,7 @@
 -- What obeying a sequence asks for, and what it leaves: 224 apart, since the patterns are its alone.
 use mathlib.Core.Path.{_≡_}
 use mathlib.Core.Bool.{true, false, cond}
-use mathlib.Core.List.{List}
+use mathlib.Core.List.{List, [], _∷_}
 use Prim.Native.Nat.{ℕ, _+_, _≤_}
 use lib.ListN.{length, getD}
 use lib.Dec.{eqb}
@@ -9,6 +9,7 @@ use Rattle.model.specs.declared.Settings.{Settings}
 use Rattle.model.specs.declared.Sequence.{Sequence as Seq}
 use Rattle.model.specs.declared.Sequence.the-variants.{Pattern}
 use Rattle.model.specs.State.{State, state, withStored}
+use Rattle.model.specs.Checks.{member}
 use Rattle.model.specs.Sound.{Sound}
 use Rattle.model.specs.Sequences.{codeOf}
 use Rattle.model.specs.Judging.{legal?, limitsOf}
@@ -33,6 +34,18 @@ pub record Obeyed (s : Settings) (q : Seq) (r : Settings) (cells layer cells′ 
   -- 224 changes nothing here
   pub left : eqb (codeOf q) 224 ≡ true → state r cells′ layer′ ≡ state s cells layer
   -- the patterns are 224's alone
+  pub keeps : r .patterns ≡ s .patterns
+
+-- the second bytes of those that do more than set something: the patterns are 224's, a store is changed by the others
+abbrev pub more : List ℕ
+more = 224 ∷ 208 ∷ 209 ∷ 210 ∷ []
+
+-- what `set` leaves of settings s: settings r
+pub record Setting (s : Settings) (q : Seq) (r : Settings) : Type 0 where
+  -- every other sequence does what the rules say of it, whatever the message, and touches no store
+  pub does : member (codeOf q) more ≡ false → (m cells layer : List ℕ) → state r cells layer ≡ settled m q (state s cells layer)
+  -- these change nothing here
+  pub left : member (codeOf q) more ≡ true → r ≡ s
   pub keeps : r .patterns ≡ s .patterns
 
 -- for 224: sound settings, its code in its range, and the eight rows of the pattern in the message

@@ -10,15 +10,38 @@ mod patterns;
 ghost use mathlib.Core.Path.{_≡_};
 ghost use lib.Dec.{eqb};
 ghost use Rattle.model.specs.Sequences.{codeOf};
-ghost use Rattle.settings.specs.Obey.{Obeying, Obeyed, PatternAsked, PatternStored};
+ghost use mathlib.Core.Bool.{true};
+ghost use Rattle.model.specs.Sound.{Sound};
+ghost use Rattle.model.specs.Judging.{legal?, limitsOf};
+ghost use Rattle.settings.specs.Obey.{Obeying, Obeyed, PatternAsked, PatternStored, Setting};
 use model::Sequence;
 use model::Settings;
 
-// Does what an accepted sequence says, unless it is 224, and leaves the patterns. The last arm is what changes nothing here: the
-// sequences of crate screen, 80 (the copy is made from the picture), 198, 199 and 246, and 224, which `store_pattern` does.
+// Does what an accepted sequence says, unless it is 224, and leaves the patterns. 208 changes all stores, 209 and 210 the layer.
 pub fn obey(settings: Settings, q: Sequence, cells: &mut [u8], layer: &mut [u8]) -> Settings
     requires { ⌜ Obeying settings q (now cells) (now layer) ⌝ }
     ensures { λ r. ⌜ Obeyed settings q r (now (cells .entry)) (now (layer .entry)) (now (cells .exit)) (now (layer .exit)) ⌝ }
+{
+    match q {
+        Sequence::Mode0 { lines1, lines2 } => modes::mode0(settings, lines1, lines2, cells, layer),
+        Sequence::Mode1 { lines } => modes::mode1(settings, lines, cells, layer),
+        Sequence::Mode2 {
+            lines,
+            columns,
+            boundary,
+        } => modes::mode2(settings, lines, columns, boundary, cells, layer),
+        Sequence::Select(n) => flags::select(settings, n, layer),
+        Sequence::Mark { row, column, code } => layer::mark(settings, row, column, code, layer),
+        _ => set(settings, q),
+    }
+}
+
+// The sequences that only set something. The last arm is what changes nothing here: the sequences of crate screen, 80 (the copy is made
+// from the picture), 198, 199 and 246, and those that are done elsewhere: 208 to 210 above, 224 by `store_pattern`.
+fn set(settings: Settings, q: Sequence) -> Settings
+    requires { ⌜ Sound settings ⌝ }
+    requires { ⌜ legal? q (limitsOf settings) ≡ true ⌝ }
+    ensures { λ r. ⌜ Setting settings q r ⌝ }
 {
     match q {
         Sequence::CursorOff => flags::cursor(settings, 0),
@@ -36,15 +59,6 @@ pub fn obey(settings: Settings, q: Sequence, cells: &mut [u8], layer: &mut [u8])
         Sequence::NumOff => keys::led(settings, 2, 0),
         Sequence::StringsOff => keys::strings(settings, 0),
         Sequence::StringsOn => keys::strings(settings, 1),
-        Sequence::Mode0 { lines1, lines2 } => modes::mode0(settings, lines1, lines2, cells, layer),
-        Sequence::Mode1 { lines } => modes::mode1(settings, lines, cells, layer),
-        Sequence::Mode2 {
-            lines,
-            columns,
-            boundary,
-        } => modes::mode2(settings, lines, columns, boundary, cells, layer),
-        Sequence::Select(n) => flags::select(settings, n, layer),
-        Sequence::Mark { row, column, code } => layer::mark(settings, row, column, code, layer),
         Sequence::Display(n) => flags::display(settings, n),
         Sequence::CursorKind(n) => flags::kind(settings, n),
         Sequence::Repeat(n) => keys::repeat(settings, n),

@@ -1,18 +1,18 @@
 -- Comparisons joined from the left, as code joins them, are the test of a list of ranges, which joins pairs from the right.
-use mathlib.Core.Path.{_∙_, _≡_, ap, refl}
+use mathlib.Core.Path.{_≡_, ap}
 use Prim.Native.Nat.{ℕ, _+_, _-_}
 use native.Mathlib.Omega.{arith}
-use mathlib.Core.Bool.{Bool, true, _&&_, and-assoc, and-true, cond}
+use mathlib.Core.Bool.{Bool, true, _&&_, and-assoc, and-true}
 use mathlib.Core.List.{[], _∷_}
 use lib.ListN.{getD}
-use lib.Dec.{eqb, leb}
+use lib.Dec.{leb}
 use Rattle.model.specs.declared.Keys.{Keys}
 use Rattle.model.specs.declared.Place.{Place}
 use Rattle.model.specs.declared.Settings.{Settings}
 use Rattle.model.specs.Checks.{inRanges?, member, passes, range}
-use Rattle.model.specs.Screens.{columnsOf, height, linesOf, placeOf, textRows}
+use Rattle.model.specs.Screens.{columnsOf, height, linesOf, placeOf}
 use Rattle.model.specs.State.{nowhere}
-use Rattle.model.proofs.Tests.{cond₂}
+use Rattle.model.proofs.Keep.{height-low}
 use Rattle.model.specs.Sound.{arrayRanges, charsets, inside?, insideRanges, keyRanges, otherRanges, plainRanges, shapeRanges, shifts, sound?}
 
 pub three : (a b c d e f : Bool) → (a && b && c && d && e && f) ≡ ((a && b) && ((c && d) && ((e && f) && true)))
@@ -75,19 +75,18 @@ all s x y k u v z a b c d e =
     rw (z, ← a, ← b, ← c, ← d, ← e)
     (whole x y (leb 0 (s .tracking)) (leb (s .tracking) 1) (leb 0 (s .secret)) (leb (s .secret) 1) (leb 0 (s .cursor)) (leb (s .cursor) 1) (leb 0 (s .display)) (leb (s .display) 1) k u v)
 
-module _ (s : Settings) (less : ℕ) (e : less ≡ cond (eqb (s .mode) 1) 15 7) where
-  -- H from what the code has of it
-  tall : less + 1 ≡ height s
-  unfolding height textRows
-  tall = ap (λ (n : ℕ). n + 1) e ∙ cond₂ (λ (a b : ℕ). a + 1 ≡ b) (eqb (s .mode) 1) (eqb (s .mode) 1) 15 7 16 8 refl (λ t. refl) (λ t. refl)
+-- of settings whose H is known: H less one is what the code has
+module _ (s : Settings) (h : ℕ) (e : h ≡ height s) where
+  tall : h - 1 + 1 ≡ height s
+  tall = omega (arith, height-low s)
 
-  pub step-of : inRanges? (otherRanges (s .selected) (s .step) (less + 1)) ≡ inRanges? (otherRanges (s .selected) (s .step) (height s))
-  step-of = ap (λ (n : ℕ). inRanges? (otherRanges (s .selected) (s .step) n)) tall
+  pub step-of : inRanges? (otherRanges (s .selected) (s .step) h) ≡ inRanges? (otherRanges (s .selected) (s .step) (height s))
+  step-of = ap (λ (n : ℕ). inRanges? (otherRanges (s .selected) (s .step) n)) e
 
-  pub first-of : inRanges? (insideRanges (s .lines1) (s .columns1) (less + 1) (getD (s .places) 0 nowhere)) ≡ inside? s 0
+  pub first-of : inRanges? (insideRanges (s .lines1) (s .columns1) (h - 1 + 1) (getD (s .places) 0 nowhere)) ≡ inside? s 0
   unfolding inside? linesOf columnsOf placeOf
   first-of = ap (λ (n : ℕ). inRanges? (insideRanges (s .lines1) (s .columns1) n (getD (s .places) 0 nowhere))) tall
 
-  pub second-of : inRanges? (insideRanges (s .lines2) (s .columns2) (less + 1) (getD (s .places) 1 nowhere)) ≡ inside? s 1
+  pub second-of : inRanges? (insideRanges (s .lines2) (s .columns2) (h - 1 + 1) (getD (s .places) 1 nowhere)) ≡ inside? s 1
   unfolding inside? linesOf columnsOf placeOf
   second-of = ap (λ (n : ℕ). inRanges? (insideRanges (s .lines2) (s .columns2) n (getD (s .places) 1 nowhere))) tall

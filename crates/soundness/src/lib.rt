@@ -1,12 +1,10 @@
 // Number 3: whether settings are sound, "each in its range" (model's specs/Sound). One test for each list of ranges there, its
 // comparisons in the same order; the arrays' lengths are those of their types.
 ghost use mathlib.Core.Path.{_≡_};
-ghost use mathlib.Core.Bool.{cond};
-ghost use lib.Dec.{eqb};
 ghost use lib.ListN.{length};
-ghost use Prim.Native.Nat.{_+_, _-_, _≤_};
-ghost use Rattle.model.specs.Checks.{member, inRanges?};
-ghost use Rattle.model.specs.Sound.{charsets, shifts, shapeRanges, insideRanges, otherRanges, keyRanges, sound?};
+ghost use Prim.Native.Nat.{_+_, _-_};
+ghost use Rattle.model.specs.Checks.{inRanges?};
+ghost use Rattle.model.specs.Sound.{shapeRanges, insideRanges, otherRanges, keyRanges, sound?};
 use model::Keys;
 use model::Place;
 use model::Settings;
@@ -16,37 +14,6 @@ fn minus(a: u8, b: u8) -> u8
     ensures { λ r. ⌜ r ≡ a - b ⌝ }
 {
     if b <= a { a - b } else { 0 }
-}
-
-// 67: "one of U F G E D W I S N"
-fn charset(n: u8) -> bool
-    ensures { λ r. ⌜ r ≡ member n charsets ⌝ }
-{
-    (n == 85)
-        | (n == 70)
-        | (n == 71)
-        | (n == 69)
-        | (n == 68)
-        | (n == 87)
-        | (n == 73)
-        | (n == 83)
-        | (n == 78)
-}
-
-// 247: "0, 2, 4, 6, 16, 18, 32, 34, 64, 66"
-fn shift(n: u8) -> bool
-    ensures { λ r. ⌜ r ≡ member n shifts ⌝ }
-{
-    (n == 0)
-        | (n == 2)
-        | (n == 4)
-        | (n == 6)
-        | (n == 16)
-        | (n == 18)
-        | (n == 32)
-        | (n == 34)
-        | (n == 64)
-        | (n == 66)
 }
 
 // the table of modes
@@ -87,7 +54,7 @@ fn shape(mode: u8, lines1: u8, lines2: u8, columns1: u8, columns2: u8) -> bool
         & (lines2 <= lines1)
 }
 
-// a cursor and a window in lines of columns, H tall
+// a cursor and a window in lines of columns; `less` is H less one
 fn inside(lines: u8, columns: u8, less: u8, p: Place) -> bool
     ensures { λ r. ⌜ r ≡ inRanges? (insideRanges lines columns (less + 1) p) ⌝ }
 {
@@ -114,8 +81,8 @@ fn keys_in_range(kind: u8, keys: Keys) -> bool
     let ins = keys.leds[0];
     let caps = keys.leds[1];
     let num = keys.leds[2];
-    let known = charset(keys.charset);
-    let shifted = shift(keys.shift);
+    let known = tables::charset(keys.charset);
+    let shifted = tables::shift(keys.shift);
     (0 <= kind)
         & (kind <= 3)
         & (0 <= ins)
@@ -136,18 +103,12 @@ fn keys_in_range(kind: u8, keys: Keys) -> bool
         & shifted
 }
 
-// H less one
-fn height_less(mode: u8) -> u8
-    ensures { λ r. ⌜ (r ≡ cond (eqb mode 1) 15 7) × (r ≤ 15) ⌝ }
-{
-    if mode == 1 { 15 } else { 7 }
-}
-
 // "Settings are sound exactly when each lies in the range that the rules give"
 pub fn sound(settings: Settings) -> bool
     ensures { λ r. ⌜ r ≡ sound? settings ⌝ }
 {
-    let less = height_less(settings.mode);
+    let height = tables::height_of(settings.mode);
+    let less = height - 1;
     let first = settings.places[0];
     let second = settings.places[1];
     let keys = settings.keys;
@@ -158,7 +119,7 @@ pub fn sound(settings: Settings) -> bool
         settings.columns1,
         settings.columns2,
     );
-    let other = chosen(settings.selected, settings.step, less + 1);
+    let other = chosen(settings.selected, settings.step, height);
     let stored = keys_in_range(settings.kind, keys);
     let one = inside(settings.lines1, settings.columns1, less, first);
     let two = inside(settings.lines2, settings.columns2, less, second);

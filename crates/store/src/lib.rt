@@ -6,6 +6,7 @@ ghost use Prim.Native.Nat.{_+_, _≤_};
 ghost use lib.ListN.{length, take, drop, replicate};
 ghost use mathlib.Core.Bool.{true};
 ghost use Rattle.model.specs.Bytes.{onPart, blanked, scrolledUp, scrolledDown, put};
+use model::CELLS;
 
 // Every byte of `region` becomes `value`.
 pub fn fill(region: &mut [u8], value: u8)
@@ -90,7 +91,7 @@ pub fn copy_many(dst: &mut [u8], from: usize, src: &[u8], at: usize, count: usiz
     requires { ⌜ (from + count ≤ length (now dst)) × ((at + count ≤ length (now src)) × (count ≤ 3840)) ⌝ }
     ensures { λ _. ⌜ now (dst .exit) ≡ put from (take count (drop at (now (src .entry)))) (now (dst .entry)) ⌝ }
 {
-    let mut held = [0u8; 3840];
+    let mut held = [0u8; CELLS];
     copy_bytes(&mut held, 0, src, at, count);
     copy_bytes(dst, from, &held, 0, count);
 }
@@ -122,7 +123,7 @@ fn move_within(region: &mut [u8], to: usize, from: usize, count: usize)
     requires { ⌜ (to + count ≤ length (now region)) × ((from + count ≤ length (now region)) × (count ≤ 3840)) ⌝ }
     ensures { λ _. ⌜ now (region .exit) ≡ put to (take count (drop from (now (region .entry)))) (now (region .entry)) ⌝ }
 {
-    let mut held = [0u8; 3840];
+    let mut held = [0u8; CELLS];
     copy_bytes(&mut held, 0, region, from, count);
     copy_bytes(region, to, &held, 0, count);
 }

@@ -46,7 +46,7 @@ module _ (s : Settings) (m cells layer shown : List ℕ) where
   servable e = go (sized given) (short m) (soundIn given) refl refl refl
     where
       go : (a b c : Bool) → sized given ≡ a → short m ≡ b → soundIn given ≡ c → Servable s m cells layer shown
-      go true true true p q r = let z = sizes given p in record { sound = sound-true s r; short = leb-true (length m) 4096 q; cells-are = z .0; layer-are = z .1; shown-are = z .2 }
+      go true true true p q r = let z = sizes given p in record { good = record { sound = sound-true s r; cells-are = z .0; layer-are = z .1 }; short = leb-true (length m) 4096 q; shown-are = z .2 }
       go true true false p q r = absurd (omega (arith, e, numbered given m true true false p q r))
       go true false c p q r = absurd (omega (arith, e, numbered given m true false c p q r))
       go false b c p q r = absurd (omega (arith, e, numbered given m false b c p q r))

@@ -4,13 +4,17 @@ ghost use Rattle.model.specs.Calls.{Asked, firstOf, reasons, sized, terminal};
 ghost use Rattle.model.specs.Items.{blankAnswer};
 ghost use Rattle.model.specs.Opening.{unopened};
 use model::Answer;
+use model::CELLS;
+use model::LAYER;
+use model::MESSAGE;
+use model::SHOWN;
 use model::Settings;
 
 // 1: "a store is not of its size"; here, that all are
 pub(crate) fn stores_sized(cells: &[u8], layer: &[u8], shown: &[u8]) -> bool
     ensures { λ r. ⌜ r ≡ sized (unopened (now (cells .entry)) (now (layer .entry)) (now (shown .entry))) ⌝ }
 {
-    (cells.len() == 3840) & ((layer.len() == 1280) & (shown.len() == 640))
+    (cells.len() == CELLS) & ((layer.len() == LAYER) & (shown.len() == SHOWN))
 }
 
 // "Calls are checked in the order 1, 2, 3": the number of a message call
@@ -24,7 +28,7 @@ pub(crate) fn call_number(
     ensures { λ r. ⌜ r ≡ firstOf (reasons (terminal settings (now (cells .entry)) (now (layer .entry)) (now (shown .entry))) (Asked.message (now (message .entry)))) ⌝ }
 {
     if stores_sized(cells, layer, shown) {
-        if message.len() <= 4096 {
+        if message.len() <= MESSAGE {
             if soundness::sound(settings) { 0 } else { 3 }
         } else {
             2

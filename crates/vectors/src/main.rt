@@ -4,6 +4,9 @@
 // - 2: the printer room of the messages that follow in the case, four bytes, little-endian; at most 65,536.
 // Prints for each case its name, a line a message, and what stands after the last. A bad record ends the file with `bad record`.
 ghost use Prim.Native.Nat.{_<_};
+use model::CELLS;
+use model::LAYER;
+use model::SHOWN;
 use recording::Played;
 use recording::Record;
 
@@ -23,9 +26,9 @@ struct Case {
 }
 
 fn main() {
-    let mut cells = [0u8; 3840];
-    let mut layer = [0u8; 1280];
-    let mut shown = [0u8; 640];
+    let mut cells = [0u8; CELLS];
+    let mut layer = [0u8; LAYER];
+    let mut shown = [0u8; SHOWN];
     let mut printer = [0u8; 65536];
     let mut body = [0u8; 65536];
     let mut case = new_case(BEFORE, &mut cells, &mut layer, &mut shown);

@@ -3,8 +3,10 @@
 const ESC: u8 = 27;
 const LETTERS: &[u8] = b"ABCDEFGHIJKLMNOPQRSTUVWXYZ0123456789    ,.";
 const LINES: usize = 24;
+/// Bytes of text on each screen at the start.
+const FILLING: usize = 1800;
 
-#[derive(Clone, Copy)]
+#[derive(Clone, Copy, PartialEq)]
 pub enum Kind {
     Paint,
     Text,
@@ -44,13 +46,30 @@ impl Case {
         let mut messages = vec![mode.to_vec()];
         for screen in 0..2 {
             messages.push(vec![ESC, 209, screen]);
-            messages.push(random.text(1800));
+            messages.push(random.text(FILLING));
         }
         messages.push(vec![ESC, 209, 0]);
-        let home: &[u8] = &[ESC, 61, 32, 32];
-        let bottom: &[u8] = &[ESC, 61, 31 + LINES as u8, 32];
-        messages.push(if matches!(self.kind, Kind::Lifts) { bottom } else { home }.to_vec());
+        messages.push(vec![ESC, 61, 31 + self.first_line() as u8, 32]);
         messages
+    }
+
+    /// The bytes that bring a terminal of the VT100's kind, 24 by 80, to what
+    /// stands on screen 1 then; none if its bytes for the messages are others.
+    pub fn start_of_vt100(&self) -> Option<Vec<u8>> {
+        if self.mode != 0 || self.kind == Kind::Mixed {
+            return None;
+        }
+        let mut bytes = Random(1).text(FILLING);
+        bytes.extend(format!("\x1b[{};1H", self.first_line()).bytes());
+        Some(bytes)
+    }
+
+    fn first_line(&self) -> usize {
+        if self.kind == Kind::Lifts {
+            LINES
+        } else {
+            1
+        }
     }
 
     pub fn messages(&self) -> Vec<Vec<u8>> {

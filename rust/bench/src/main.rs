@@ -1,7 +1,8 @@
 //! `bench [WORD]`: the proved library ("ours") against plain Rust (`tuned`),
 //! both built for release, on one machine and the same input. Each line is
 //! `bench NAME ours NS plain NS ratio R`, in nanoseconds a message call; with
-//! a word, only the names that hold it.
+//! a word, only the names that hold it. Where the machine has libvterm, lines
+//! whose input is the same for it end with `libvterm NS`.
 //!
 //! The input is made from fixed seeds and is the same on every machine:
 //!
@@ -27,17 +28,27 @@
 //!
 //! A run sends them often enough to last some milliseconds. Each run starts
 //! from the same settings and stores; within a run nothing is cleared. The
-//! two sides take turns, and the best of the runs counts for each. At the end
-//! of every run both must have left the same settings and stores.
+//! sides take turns, and the best of the runs counts for each. At the end of
+//! every run ours and the plain side must have left the same settings and
+//! stores.
+//!
+//! libvterm takes the same bytes on a screen of 24 by 80 with the same text,
+//! and after every message the eight rows of a window that follows its cursor
+//! are read back, all 640 places; they must be those that ours shows. That is
+//! `paint`, `text`, `lifts` and `pieces` in mode 0: it knows no sequence of
+//! `mixed`, nor modes 1 and 2. Its runs are as long in time, not in messages.
 
 mod input;
 mod side;
+#[cfg_attr(not(vterm), path = "no_vterm.rs")]
+mod vterm;
 
 use input::{Case, Kind};
-use side::{Board, Calls, Plain, Side};
+use side::{Board, Plain, Side, Takes};
 use std::hint::black_box;
 use std::process::ExitCode;
 use std::time::{Duration, Instant};
+use vterm::Vterm;
 
 const RUNS: usize = 75;
 const SIZES: [usize; 4] = [1, 20, 200, 4096];
@@ -49,12 +60,10 @@ fn main() -> ExitCode {
         eprintln!("bench: build it with --release");
         return ExitCode::from(2);
     }
+    eprintln!("bench: libvterm {}", vterm::VERSION);
     let word = std::env::args().nth(1).unwrap_or_default();
-    let chosen = all_cases().into_iter().filter(|case| case.name().contains(&word));
-    for case in chosen {
-        let [ours, plain] = measure(&case);
-        let name = case.name();
-        println!("bench {name} ours {ours:.1} plain {plain:.1} ratio {:.2}", ours / plain);
+    for case in all_cases().iter().filter(|case| case.name().contains(&word)) {
+        println!("{}", line(case));
     }
     ExitCode::SUCCESS
 }
@@ -71,41 +80,82 @@ fn all_cases() -> Vec<Case> {
     cases
 }
 
-/// The best time a message of each side, ours first.
-fn measure(case: &Case) -> [f64; 2] {
+/// A line of the output.
+fn line(case: &Case) -> String {
+    let Times { ours, plain, vterm } = measure(case);
+    let beside = vterm.map_or(String::new(), |time| format!(" libvterm {time:.1}"));
+    format!("bench {} ours {ours:.1} plain {plain:.1} ratio {:.2}{beside}", case.name(), ours / plain)
+}
+
+/// The best time a message of each side, in nanoseconds.
+struct Times {
+    ours: f64,
+    plain: f64,
+    vterm: Option<f64>,
+}
+
+fn measure(case: &Case) -> Times {
     let messages = case.messages();
     let ours = Side::<Board>::start(&case.start());
     let plain = Side::<Plain>::start(&case.start());
-    let rounds = enough_rounds(&plain, &messages);
-    let mut best = [Duration::MAX; 2];
+    let rounds = enough_rounds(|| plain.clone(), &messages);
+    let beside = vterm_at(case).map(|_| enough_rounds(|| vterm_at(case).unwrap(), &messages));
+    assert!(same_picture(case), "{}: libvterm shows something else", case.name());
+    let mut best = [Duration::MAX; 3];
     for run in 0..RUNS {
         // who comes first changes, so that neither always warms the caches
         let (left, right);
         if run % 2 == 0 {
-            left = timed(&ours, &messages, rounds);
-            right = timed(&plain, &messages, rounds);
+            left = timed(ours.clone(), &messages, rounds);
+            right = timed(plain.clone(), &messages, rounds);
         } else {
-            right = timed(&plain, &messages, rounds);
-            left = timed(&ours, &messages, rounds);
+            right = timed(plain.clone(), &messages, rounds);
+            left = timed(ours.clone(), &messages, rounds);
         }
         assert!(left.1.same_as(&right.1), "{}: the two sides differ", case.name());
-        best = [best[0].min(left.0), best[1].min(right.0)];
+        best = [best[0].min(left.0), best[1].min(right.0), best[2]];
+        if let (Some(rounds), Some(vterm)) = (beside, vterm_at(case)) {
+            best[2] = best[2].min(timed(vterm, &messages, rounds).0);
+        }
     }
-    let calls = (rounds * messages.len()) as f64;
-    best.map(|time| time.as_nanos() as f64 / calls)
+    let each = |time: Duration, rounds: usize| time.as_nanos() as f64 / (rounds * messages.len()) as f64;
+    Times {
+        ours: each(best[0], rounds),
+        plain: each(best[1], rounds),
+        vterm: beside.map(|rounds| each(best[2], rounds)),
+    }
+}
+
+/// libvterm at the start of a line, if it is there and the line is for it.
+fn vterm_at(case: &Case) -> Option<Vterm> {
+    Vterm::start(&case.start_of_vt100()?)
+}
+
+/// Whether libvterm, if it is asked, shows what ours shows after the messages.
+/// A letter is sent behind them: a VT100 goes to the next line only when a
+/// letter comes for it, and ours when the line is full.
+fn same_picture(case: &Case) -> bool {
+    let Some(mut vterm) = vterm_at(case) else {
+        return true;
+    };
+    let mut ours = Side::<Board>::start(&case.start());
+    for message in case.messages().iter().map(Vec::as_slice).chain([&b"x"[..]]) {
+        ours.message(message);
+        vterm.message(message);
+    }
+    ours.shown() == vterm.shown()
 }
 
 /// Doubles the rounds until a run is long enough to be measured.
-fn enough_rounds(side: &Side<Plain>, messages: &[Vec<u8>]) -> usize {
+fn enough_rounds<T: Takes>(start: impl Fn() -> T, messages: &[Vec<u8>]) -> usize {
     let mut rounds = 1;
-    while timed(side, messages, rounds).0 < SHORTEST_RUN {
+    while timed(start(), messages, rounds).0 < SHORTEST_RUN {
         rounds *= 2;
     }
     rounds
 }
 
-fn timed<C: Calls>(start: &Side<C>, messages: &[Vec<u8>], rounds: usize) -> (Duration, Side<C>) {
-    let mut side = start.clone();
+fn timed<T: Takes>(mut side: T, messages: &[Vec<u8>], rounds: usize) -> (Duration, T) {
     let begin = Instant::now();
     for _ in 0..rounds {
         for message in messages {
@@ -114,4 +164,18 @@ fn timed<C: Calls>(start: &Side<C>, messages: &[Vec<u8>], rounds: usize) -> (Dur
     }
     let time = begin.elapsed();
     (time, black_box(side))
+}
+
+#[cfg(test)]
+mod tests {
+    use super::*;
+
+    #[test]
+    fn the_sides_leave_the_same() {
+        for case in all_cases() {
+            let ours = timed(Side::<Board>::start(&case.start()), &case.messages(), 1).1;
+            let plain = timed(Side::<Plain>::start(&case.start()), &case.messages(), 1).1;
+            assert!(ours.same_as(&plain) && same_picture(&case), "{}", case.name());
+        }
+    }
 }

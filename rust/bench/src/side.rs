@@ -1,6 +1,14 @@
-//! The two sides: the same stores, and the calls of one implementation.
+//! The sides: what each takes and shows. Ours and the plain one have the same
+//! stores, and the calls of one implementation.
 
 use std::fmt::Debug;
+
+/// A side that takes messages, and has all 640 places ready after each.
+pub trait Takes {
+    fn message(&mut self, message: &[u8]);
+
+    fn shown(&self) -> &[u8];
+}
 
 /// The calls of one implementation, on its own type of settings.
 pub trait Calls: Clone {
@@ -87,13 +95,6 @@ impl<C: Calls> Side<C> {
         side
     }
 
-    pub fn message(&mut self, message: &[u8]) {
-        let Side { settings, cells, layer, shown, .. } = self;
-        let (after, clean) = C::message(*settings, message, cells, layer, shown);
-        self.settings = after;
-        self.clean &= clean;
-    }
-
     /// Whether both did the same work: the input is meant to be accepted
     /// whole. Settings are compared by their text, field by field.
     pub fn same_as<D: Calls>(&self, other: &Side<D>) -> bool {
@@ -103,5 +104,18 @@ impl<C: Calls> Side<C> {
             && self.layer == other.layer
             && self.shown == other.shown
             && format!("{:?}", self.settings) == format!("{:?}", other.settings)
+    }
+}
+
+impl<C: Calls> Takes for Side<C> {
+    fn message(&mut self, message: &[u8]) {
+        let Side { settings, cells, layer, shown, .. } = self;
+        let (after, clean) = C::message(*settings, message, cells, layer, shown);
+        self.settings = after;
+        self.clean &= clean;
+    }
+
+    fn shown(&self) -> &[u8] {
+        &self.shown
     }
 }

@@ -66,6 +66,7 @@ pub fn cases() -> Vec<Case> {
     tracking(&mut cases);
     windows(&mut cases);
     wraps_and_lifts(&mut cases);
+    what_else_shows(&mut cases);
     cases.0
 }
 
@@ -600,4 +601,19 @@ fn wraps_and_lifts(cases: &mut Cases) {
         add("back-from-column-1", 3, 1, &[8, 88]);
         add("back-from-the-last-column", 3, columns, &[8, 88]);
     }
+}
+
+/// What shows only beside something else: a flag turned back, a last cell that
+/// is not blank, a mode setting that keeps what is stored.
+fn what_else_shows(cases: &mut Cases) {
+    cases.add("off-and-on-again", &[&[27, 176, 27, 50, 27, 240, 0], &[27, 177, 27, 51, 27, 240, 1]]);
+    let stored = b"\x1b2\x1b\xd6\x03\x1b\xd3\x00\x1bCN\x1b\xa2\x1b\xb0\x1b\xf1\x01\x1b\xf7\x42\x1b\xf3\x01\x02\x03\x04";
+    let pattern = [27, 224, 254, 1, 2, 3, 4, 5, 6, 7, 8];
+    cases.add("mode-setting-keeps-what-is-stored", &[stored, &pattern, &[27, 208, 1, 16]]);
+    // 145 brings what was printed in the line before to the last line
+    let last_cells = b"\x1b=\x36nABC\x1b\x91\x00\x18";
+    cases.add("erase-to-the-line's-last-cell", &[last_cells, &[27, 61, 55, 32, 27, 84]]);
+    cases.add("erase-to-the-screen's-last-cell", &[last_cells, &[27, 61, 54, 33, 27, 89]]);
+    let every: Vec<u8> = (0..=255).filter(|&code| code != 27).collect();
+    cases.add("every-byte-but-27", &[&every]);
 }

@@ -1,7 +1,7 @@
 //! A terminal that owns its stores.
 
 use crate::calls;
-use crate::types::{Answer, Settings, CELLS, COPY, LAYER, ROWS, SHOWN, WIDTH};
+use crate::types::{Answer, Settings, CELLS, COPY, LAYER, MESSAGE_MOST, ROWS, SHOWN, WIDTH};
 
 /// A terminal with its settings and stores.
 ///
@@ -38,8 +38,9 @@ impl Terminal {
     }
 
     /// A terminal taken up again from what was saved. Nothing is judged here:
-    /// with settings that are not sound every message is refused with 3. The
-    /// shown screen is painted by the next message.
+    /// with settings that are not sound every message is refused, by 3 or, if
+    /// it is too long, by 2. The shown screen is painted by the next message
+    /// that is served.
     ///
     /// ```
     /// let mut terminal = px8::Terminal::open();
@@ -57,7 +58,9 @@ impl Terminal {
         Terminal { settings, cells, layer, shown }
     }
 
-    /// Reads a message, with printer room for every copy that it asks for.
+    /// Reads a message, with printer room for every copy that it asks for. A
+    /// sequence that is refused is skipped alone, and what follows is obeyed:
+    /// [`Answer::is_clean`] says whether there was none.
     ///
     /// ```
     /// let mut terminal = px8::Terminal::open();
@@ -127,8 +130,12 @@ impl Terminal {
 }
 
 /// An ESC 80 takes two bytes of its own, so there are no more copies than
-/// places where these two stand together.
+/// places where these two stand together; a message that is too long prints
+/// nothing.
 fn copies_at_most(message: &[u8]) -> usize {
+    if message.len() > MESSAGE_MOST {
+        return 0;
+    }
     message.windows(2).filter(|pair| *pair == [27, 80]).count()
 }
 

@@ -49,8 +49,8 @@ pub struct Place {
     pub top: u8,
 }
 
-/// The keyboard's settings: stored for the board, and nothing else in the
-/// library depends on them.
+/// The keyboard's settings: stored for the board. Of what the library does
+/// only number 3 depends on them, by their ranges.
 #[repr(C)]
 #[derive(Clone, Copy, Debug, PartialEq, Eq)]
 pub struct Keys {
@@ -116,7 +116,8 @@ pub struct Settings {
 #[repr(C)]
 #[derive(Clone, Copy, Debug, PartialEq, Eq)]
 pub struct Answer {
-    /// [`SERVED`], or why the whole call was refused: 1, 2 or 3.
+    /// [`SERVED`], or why the whole call was refused: 1, 2 or 3. Sequences may
+    /// be refused in a call that was served: see [`Answer::is_clean`].
     pub number: u8,
     /// Bytes taken: all of the message, if served.
     pub taken: u32,

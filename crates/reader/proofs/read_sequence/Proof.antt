@@ -1,4 +1,5 @@
 -- `reader::read_sequence` meets its contract: a law for each way, in the order of the numbers.
+use native.Mathlib.Omega.{arith}
 use borrow.Author.Needs.{needs}
 use Rattle.reader.proofs.ReadLaws.{reads-alone, reads-ended, reads-sequence, reads-unlisted}
 use Rattle.reader.proofs.read_sequence.Statement.{statement}
@@ -35,4 +36,4 @@ read-sequence-spec =
     let l = w .before .before in
     let t = l .before .before .before in
     let p = t .before .before .pre in
-    reads-sequence _ _ _ _ (p .0) (p .1 .1) _ _ (l .before .byte .ensures) (l .length-of .ensures) (t .if1 .left) (w .before .if2 .left) _ (w .if3 .left) _ (d .decode .ensures) (c .judge .ensures)))
+    reads-sequence _ _ _ _ (p .0) (p .1 .1) _ _ (l .before .byte .ensures) (l .length-of .ensures) (t .if1 .left) (w .before .if2 .left) _ (omega arith) (w .if3 .left) _ (d .decode .ensures) (c .judge .ensures)))

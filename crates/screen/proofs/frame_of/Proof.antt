@@ -17,7 +17,7 @@ frame-of-spec =
     (λ c κs. search needs)
     (λ c κs. columns-high (c .before .before .before .before .pre))
     (λ c. let k = c .before .if1 .taken in
-    (frame (c .before .before .before .pre) (rw k) (rw k) (rw k) (c .height-of .ensures) (shift-first (c .before .before .before .args .settings) k) refl refl refl, refl))
-    (λ c. let s = c .before .before .before .before .before .args .settings in
+    (frame (c .before .before .before .pre) (rw k) (rw k) (rw k) (c .height-of .ensures _ refl) (shift-first (c .before .before .before .args .settings) k) refl refl refl, refl))
+    (λ c. let entry = c .before .before .before .before .before in let s = entry .args .settings in
     let k : s .selected ≡ 1 = omega arith in
-    (frame (c .before .before .before .before .before .pre) (rw k) (rw k) (rw k (c .before .before .times .ensures .0)) (c .before .height-of2 .ensures) (c .shift-of .ensures ∙ shift-second s k) refl refl refl, refl)))
+    (frame (c .before .before .before .before .before .pre) (rw k) (rw k) (rw k (c .before .before .times .ensures .0)) (c .before .height-of2 .ensures _ refl) (c .shift-of .ensures ∙ shift-second s k) refl refl refl, refl)))

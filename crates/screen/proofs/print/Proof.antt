@@ -15,4 +15,4 @@ print-spec =
     (λ c κs. search needs)
     (λ c. search needs)
     (λ c. search needs)
-    (λ c. then-above (then (c .before .before .before .before .before .before .before .before .before .before .before .before .before .before .before .store .ensures) (c .before .before .before .before .before .before .before .before .right .ensures)) (c .before .before .track .ensures)))
+    (λ c. let done = c .before .before .before .before .before .before .before .before in let done2 = done .before .before .before .before .before .before .before in then-above (then (done2 .store .ensures) (done .right .ensures)) (c .before .before .track .ensures)))

@@ -16,4 +16,4 @@ put-spec =
     (λ c κs. search needs)
     (λ c κs. (put-stands (c .before .before .before .pre .0) (omega arith) (omega arith) (omega arith) (omega arith) (c .before .put-at .ensures), search needs))
     (λ c. search needs)
-    (λ c cells m. then-above (put-acts (record { stands = c .before .before .before .before .before .before .pre .0; cells-are = m; layer-are = c .before .before .before .before .before .before .pre .1 .0 }) _ _ (omega arith) (omega arith) (omega arith) (omega arith) (c .before .before .before .before .put-at .ensures)) (c .before .before .track-far .ensures)))
+    (λ c cells m. let entry = c .before .before .before .before .before .before in then-above (put-acts (record { stands = entry .pre .0; cells-are = m; layer-are = entry .pre .1 .0 }) _ _ (omega arith) (omega arith) (omega arith) (omega arith) (c .before .before .before .before .put-at .ensures)) (c .before .before .track-far .ensures)))

@@ -4,8 +4,8 @@ use mathlib.Core.List.{List}
 use borrow.Author.Needs.{needs}
 use Rattle.model.specs.declared.Place.{Place}
 use Rattle.model.specs.State.{state, withPlaces}
+use Rattle.model.specs.Sound.{Good}
 use Rattle.model.specs.Picture.{painting}
-use Rattle.paint.specs.Paintable.{Paintable}
 use Rattle.serving.proofs.finish.Statement.{statement}
 use Rattle.serving.proofs.finish.Tie as tie
 
@@ -13,7 +13,7 @@ paint-requires : tie.Need-paint-requires
 paint-requires c κs =
     let entry = c .before .before .before .before .before in
     let a = entry .args in
-    (subst (λ (ps : List Place). Paintable (withPlaces (a .settings) ps) (a .cells .now) (a .layer .now)) (sym (c .before .placed .ensures)) (entry .pre .0), entry .pre .1)
+    (subst (λ (ps : List Place). Good (state (withPlaces (a .settings) ps) (a .cells .now) (a .layer .now))) (sym (c .before .placed .ensures)) (entry .pre .0), entry .pre .1)
 
 returns : tie.Need-returns
 returns c =

@@ -11,9 +11,9 @@ use Rattle.model.specs.Checks.{member}
 use Rattle.model.specs.OnScreen.{onScreen?}
 use Rattle.model.specs.Rules.{obeyed, withSettings, withKindPatterns}
 use Rattle.model.proofs.Tests.{differ}
+use Rattle.model.proofs.Cases.{ranged}
 use Rattle.settings.specs.Obey.{settled}
 use Rattle.settings.proofs.Idle.{no-pattern}
-use Rattle.settings.proofs.Ranged.{ranged}
 use Rattle.settings.proofs.Rows.{taken-listed}
 use Rattle.settings.proofs.store_pattern.Statement.{statement}
 use Rattle.settings.proofs.store_pattern.Tie as tie

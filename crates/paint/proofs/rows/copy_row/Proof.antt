@@ -56,6 +56,7 @@ copy-row-spec =
     (λ c. search needs)
     (λ c. search needs)
     (λ c. search needs)
+    (λ c. search needs)
     (λ c. simp length-set (omega arith))
     (λ c. simp length-set (omega arith))
     returns)

@@ -14,11 +14,11 @@ use Rattle.paint.proofs.rows.lay.Statement.{statement}
 use Rattle.paint.proofs.rows.lay.Tie as tie
 
 abbrev Inv-loop : tie.InvT-loop
-Inv-loop layer shown₀ from count i₀ shown i =
-    (i ≤ count) × ((length shown ≡ 640) × (shown ≡ painted from i (laid layer (λ (p : ℕ). getD shown₀ p 0)) shown₀))
+Inv-loop layer shown₀ place₀ shown place =
+    (place ≤ 640) × ((length shown ≡ 640) × (shown ≡ painted 0 place (laid layer (λ (p : ℕ). getD shown₀ p 0)) shown₀))
 
 abbrev μ-loop : tie.MeasureT-loop
-μ-loop layer shown₀ from count i₀ shown i = count - i
+μ-loop layer shown₀ place₀ shown place = 640 - place
 
 loop-holds : tie.Need-loop-holds Inv-loop μ-loop
 loop-holds c = (search needs, (search needs, painted-none _ _ _))
@@ -29,17 +29,16 @@ loop-again c =
     let at = c .before .before .before .before .before .loop in
     let a = c .before .before .before .before .before .before .before .before .args in
     let f = laid (a .layer .now) (λ (p : ℕ). getD (a .shown .now) p 0) in
-    let n : length (listFrom f (a .from) (at .i)) ≡ at .i = length-listFrom f (a .from) (at .i) in
-    let place = a .from + at .i in
-    let read : getD (at .shown) place 0 ≡ getD (a .shown .now) place 0 =
-    ap (λ (l : List ℕ). getD l place 0) (at .inv .1 .1) ∙ put-ahead (a .from) (listFrom f (a .from) (at .i)) (a .shown .now) (omega arith) place (omega arith)
+    let n : length (listFrom f 0 (at .place)) ≡ at .place = length-listFrom f 0 (at .place) in
+    let read : getD (at .shown) (at .place) 0 ≡ getD (a .shown .now) (at .place) 0 =
+    ap (λ (l : List ℕ). getD l (at .place) 0) (at .inv .1 .1) ∙ put-ahead 0 (listFrom f 0 (at .place)) (a .shown .now) (omega arith) (at .place) (omega arith)
     in
-    let v = c .over .ensures ∙ ap (marked (getD (a .layer .now) place 0) (getD (a .layer .now) (640 + place) 0)) read in
-    (omega arith, (simp length-set (omega arith), painted-more (a .from) f (a .shown .now) (at .i) (at .inv .1 .1) refl v (omega arith)))
+    let v = c .over .ensures ∙ ap (marked (getD (a .layer .now) (at .place) 0) (getD (a .layer .now) (640 + at .place) 0)) read in
+    (omega arith, (simp length-set (omega arith), painted-more 0 f (a .shown .now) (at .place) (at .inv .1 .1) (omega arith) (v ∙ ap f (omega arith)) (omega arith)))
 
 returns : tie.Need-returns Inv-loop μ-loop
 returns c =
-    let end : c .before .loop .i ≡ c .before .before .before .before .args .count = omega arith in
+    let end : c .before .loop .place ≡ 640 = omega arith in
     rw end at (c .before .loop .inv .1 .1)
 
 pub lay-spec : {M : Type 1} → statement M
@@ -49,7 +48,6 @@ lay-spec =
     Inv-loop
     μ-loop
     loop-holds
-    (λ c. search needs)
     (λ c. search needs)
     (λ c. search needs)
     (λ c. search needs)

@@ -32,5 +32,5 @@ longest-spec =
     (λ c κs. tt)
     (λ c κs. tt)
     (λ c. simp (c .before .match .keys1, c .byte .ensures, behind))
-    (λ c. rw (c .before .before .before .before .before .before .before .before .before .before .before .match .keys2) (cc))
+    (λ c. let arms = c .before .before .before .before .before .before .before .before .before .before .before in rw (arms .match .keys2) (cc))
     (λ c. rw (handed-on 41 2 _ (c .match .rest))))

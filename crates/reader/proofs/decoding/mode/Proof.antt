@@ -1,7 +1,7 @@
 -- `reader::decoding::mode` meets its contract: arm by arm, by the row that the mode byte picks.
 use mathlib.Core.List.{[]}
 use Rattle.model.specs.Sequences.{find, modeRowOf, modeRows, refusal}
-use Rattle.reader.proofs.Arms.{find-past}
+use Rattle.model.proofs.Arms.{find-past}
 use Rattle.reader.proofs.decoding.mode.Statement.{statement}
 use Rattle.reader.proofs.decoding.mode.Tie as tie
 

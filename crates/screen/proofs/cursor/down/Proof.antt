@@ -14,4 +14,4 @@ down-spec =
     (λ c. down-moves (search needs) (c .before .before .if1 .taken) (c .put-at .ensures))
     (λ c. search needs)
     (λ c. search needs)
-    (λ c. down-lifts (c .before .before .before .before .before .before .before .if1 .left) (c .before .before .before .before .up .ensures)))
+    (λ c. let test = c .before .before .before .before .before .before .before in down-lifts (test .if1 .left) (c .before .before .before .before .scroll .ensures)))

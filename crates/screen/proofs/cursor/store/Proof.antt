@@ -16,4 +16,4 @@ store-spec =
     (λ c κs. search needs)
     (λ c. search needs)
     (λ c. search needs)
-    (λ c. stored-acts (search needs) _ (c .before .before .before .before .before .cell .ensures) (c .before .before .before .before .shown .ensures) (c .before .before .empty-at .ensures)))
+    (λ c. let done = c .before .before .before .before .before in stored-acts (search needs) _ (done .cell .ensures) (c .before .before .before .before .shown .ensures) (c .before .before .empty-at .ensures)))

@@ -13,4 +13,4 @@ blank-from-spec =
     (λ c κs. search needs)
     (λ c. search needs)
     (λ c. search needs)
-    (λ c. blank-acts (search needs) (c .before .before .empty .ensures) _ (c .before .before .before .before .before .before .before .before .before .before .before .pre .1) (c .before .before .before .before .before .before .before .before .cell .ensures) (c .before .before .before .before .before .before .blank .ensures)))
+    (λ c. let done = c .before .before .before .before .before .before in let done2 = done .before .before in let entry = done2 .before .before .before in blank-acts (search needs) (c .before .before .empty .ensures) _ (entry .pre .1) (done2 .cell .ensures) (done .blank .ensures)))

@@ -14,4 +14,4 @@ clear-spec =
     (λ c κs. search needs)
     (λ c. search needs)
     (λ c. search needs)
-    (λ c. cleared-acts (search needs) (c .before .before .before .empty .ensures) (c .before .before .before .before .before .before .before .before .times .ensures .0) (c .before .before .before .before .before .before .before .blank .ensures) (c .home-place .ensures)))
+    (λ c. let done = c .before .before .before .before .before .before .before in let done2 = done .before in cleared-acts (search needs) (c .before .before .before .empty .ensures) (done2 .times .ensures .0) (done .blank .ensures) (c .home-place .ensures)))

@@ -15,7 +15,7 @@ erase-line-spec =
     (λ c. search needs)
     (λ c κs. search needs)
     (λ c. search needs)
-    (λ c κs. (c .before .before .before .before .before .before .pre, omega (arith, cell-room (c .before .before .before .before .before .before .pre .stands))))
+    (λ c κs. let entry = c .before .before .before .before .before .before in (entry .pre, omega (arith, cell-room (entry .pre .stands))))
     (λ c. search needs)
     (λ c. search needs)
     (λ c. at-value blankFrom (line-rest (omega arith)) (c .before .before .before .before .blank-from .ensures)))

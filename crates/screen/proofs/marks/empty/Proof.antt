@@ -13,4 +13,4 @@ empty-spec =
     (λ c. c .before .before .pre .empty (c .if1 .taken))
     (λ c κs. search needs)
     (λ c. search needs)
-    (λ c. c .before .before .fill .ensures ∙ ap (λ (n : ℕ). replicate n 0) (c .before .before .before .before .before .before .pre .size)))
+    (λ c. let entry = c .before .before .before .before .before .before in c .before .before .fill .ensures ∙ ap (λ (n : ℕ). replicate n 0) (entry .pre .size)))

@@ -1,29 +1,35 @@
--- `block_prints`: the loop's test holds only if the first k bytes of the block print.
-use mathlib.Core.Path.{_≡_, sym}
+-- `block_prints`: the loop's test is that of the first k bytes of the block.
+use mathlib.Core.Path.{_∙_, _≡_, ap}
 use Prim.Native.Nat.{_-_, _≤_}
 use native.Mathlib.Omega.{arith}
 use borrow.Author.Needs.{needs}
-use Rattle.model.proofs.Tests.{differ}
-use Rattle.screen.proofs.Runs.{Upto, upto-more}
+use Rattle.screen.specs.Run.{allPrint?}
+use Rattle.screen.proofs.Runs.{all-more, too-few}
 use Rattle.screen.proofs.run.block_prints.Statement.{statement}
 use Rattle.screen.proofs.run.block_prints.Tie as tie
 
 abbrev Inv-loop : tie.InvT-loop
-Inv-loop message at all₀ k₀ all k = (k ≤ 16) × Upto message at all k
+Inv-loop message at all₀ k₀ all k = (k ≤ 16) × (all ≡ allPrint? message at k)
 
 abbrev μ-loop : tie.MeasureT-loop
 μ-loop message at all₀ k₀ all k = 16 - k
+
+loop-holds : tie.Need-loop-holds Inv-loop μ-loop
+unfolding allPrint?
+loop-holds c = search needs
 
 loop-again : tie.Need-loop-again Inv-loop μ-loop
 loop-again c =
     let a = c .before .before .before .before .args in
     let l = c .before .before .loop in
-    (search needs, upto-more (a .message .now) (a .at) (l .all) (l .k) (l .inv .1))
+    (search needs, all-more (a .message .now) (a .at) (l .k) (l .inv .1))
 
 returns-2 : tie.Need-returns-2 Inv-loop μ-loop
 returns-2 c =
-    let k : c .before .loop .k ≡ 16 = omega arith in
-    λ e. record { some = omega arith; inside = search needs; print = λ j u v. c .before .loop .inv .1 e j u (omega (arith, v, k)) }
+    let a = c .before .before .before .args in
+    let l = c .before .loop in
+    let k : l .k ≡ 16 = omega arith in
+    l .inv .1 ∙ ap (allPrint? (a .message .now) (a .at)) k
 
 pub block-prints-spec : {M : Type 1} → statement M
 block-prints-spec =
@@ -32,8 +38,8 @@ block-prints-spec =
     Inv-loop
     μ-loop
     (λ c. search needs)
-    (λ c. λ e. absurd (differ (sym e)))
-    (λ c. (search needs, λ e j u v. absurd (omega (arith, u, v))))
+    (λ c. too-few _ _ (omega arith))
+    loop-holds
     (λ c. search needs)
     (λ c. search needs)
     (λ c. search needs)

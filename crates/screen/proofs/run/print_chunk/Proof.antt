@@ -17,7 +17,7 @@ print-chunk-spec =
     tie.close
     (tie.spec
     (λ c κs. search needs)
-    (λ c κs. (omega (arith, cell-room (c .before .before .before .before .before .pre .0 .stands)), search needs))
+    (λ c κs. let entry = c .before .before .before .before .before in (omega (arith, cell-room (entry .pre .0 .stands)), search needs))
     (λ c κs. search needs)
     (λ c κs. search needs)
     (λ c. search needs)

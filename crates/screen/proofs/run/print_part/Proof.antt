@@ -38,7 +38,7 @@ print-part-spec =
     (λ c. search needs)
     (λ c. search needs)
     (λ c. search needs)
-    (λ c. part-one (c .before .before .before .before .before .before .before .before .before .before .before .before .before .before .before .before .before .pre .1 .0) (c .before .before .before .before .before .before .before .before .before .before .before .before .before .before .before .before .before .pre .1 .1) refl refl (c .before .before .before .before .print .ensures))
+    (λ c. let entry = c .before .before .before .before .before .before .before .before .before .before .before .before .before .before .before .before .before in part-one (entry .pre .1 .0) (entry .pre .1 .1) refl refl (c .before .before .before .before .print .ensures))
     (λ c. search needs)
     (λ c. search needs)
     returns-2)

@@ -19,10 +19,10 @@ print-run-spec =
     Inv-loop
     μ-loop
     (λ c κs. search needs)
-    (λ c. (omega (arith, c .run-end .ensures .some), along-none _ (c .before .before .before .before .pre .0)))
+    (λ c. (omega (arith, c .run-end .ensures .printing .some), along-none _ (c .before .before .before .before .pre .0)))
     (λ c κs. search needs)
     (λ c. search needs)
-    (λ c. (c .before .before .before .before .before .print-part .ensures .most, along-part (c .before .before .before .before .before .before .before .before .before .loop .inv .1) (c .before .before .before .before .before .print-part .ensures)))
+    (λ c. let done = c .before .before .before .before .before in let head = done .before .before .before .before in (done .print-part .ensures .most, along-part (head .loop .inv .1) (done .print-part .ensures)))
     (λ c. search needs)
     (λ c. search needs)
     (λ c. along-all (c .before .before .run-end .ensures) (omega arith) (c .before .loop .inv .1)))

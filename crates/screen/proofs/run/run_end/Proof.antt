@@ -1,10 +1,11 @@
--- `run_end`: the bytes up to i print, in blocks and then one by one.
-use Prim.Native.Nat.{_-_}
+-- `run_end`: the bytes up to i print, in blocks and then one by one, until one does not.
+use mathlib.Core.Path.{_∙_, sym}
+use Prim.Native.Nat.{_+_, _-_}
 use native.Mathlib.Omega.{arith}
 use lib.ListN.{length}
 use borrow.Author.Needs.{needs}
 use Rattle.screen.specs.Run.{Printing}
-use Rattle.screen.proofs.Runs.{printing-more, printing-one}
+use Rattle.screen.proofs.Runs.{all-printing, printing-more, printing-one, there}
 use Rattle.screen.proofs.run.run_end.Statement.{statement}
 use Rattle.screen.proofs.run.run_end.Tie as tie
 
@@ -14,6 +15,13 @@ Inv-loop message at i₀ i = Printing message at i
 abbrev μ-loop : tie.MeasureT-loop
 μ-loop message at i₀ i = length message - i
 
+-- a block that prints, and a byte that does, where they are looked for
+block : (c : tie.Then1 Inv-loop μ-loop Inv-loop μ-loop) → Printing (c .before .before .before .before .args .message .now) (c .before .before .loop .i) (c .before .before .loop .i + 16)
+block c = all-printing (c .before .before .before .before .args .message .now) (c .before .before .loop .i) (sym (c .before .block-prints .ensures) ∙ c .if1 .taken)
+
+byte : (c : tie.Then2 Inv-loop μ-loop Inv-loop μ-loop) → Printing (c .before .before .before .before .before .before .before .args .message .now) (c .before .before .loop2 .i) (c .before .before .loop2 .i + 1)
+byte c = printing-one (sym (c .before .prints .ensures) ∙ c .if2 .taken)
+
 pub run-end-spec : {M : Type 1} → statement M
 run-end-spec =
     tie.close
@@ -22,15 +30,15 @@ run-end-spec =
     μ-loop
     Inv-loop
     μ-loop
-    (λ c. search needs)
+    (λ c. omega (arith, there (c .before .args .message .now) (c .before .args .at) (c .before .pre)))
     (λ c. printing-one (c .before .pre))
     (λ c κs. search needs)
-    (λ c. omega (arith, c .before .block-prints .ensures (c .if1 .taken) .inside))
-    (λ c. omega (arith, c .before .block-prints .ensures (c .if1 .taken) .inside))
-    (λ c. printing-more (c .before .before .loop .inv) (c .before .block-prints .ensures (c .if1 .taken)))
+    (λ c. omega (arith, block c .inside))
+    (λ c. omega (arith, block c .inside))
+    (λ c. printing-more (c .before .before .loop .inv) (block c))
     (λ c. c .before .before .loop .inv)
     (λ c κs. search needs)
-    (λ c. omega (arith, c .before .prints .ensures (c .if2 .taken) .inside))
-    (λ c. omega (arith, c .before .prints .ensures (c .if2 .taken) .inside))
-    (λ c. printing-more (c .before .before .loop2 .inv) (printing-one (c .before .prints .ensures (c .if2 .taken))))
-    (λ c. c .before .before .loop2 .inv))
+    (λ c. omega (arith, byte c .inside))
+    (λ c. omega (arith, byte c .inside))
+    (λ c. printing-more (c .before .before .loop2 .inv) (byte c))
+    (λ c. record { printing = c .before .before .loop2 .inv; ends = sym (c .before .prints .ensures) ∙ c .if2 .left }))

@@ -14,5 +14,5 @@ track-spec =
     (λ c κs. search needs)
     (λ c κs. search needs)
     (λ c. search needs)
-    (λ c. lost-turns (c .before .before .before .before .before .before .misses .ensures) (c .before .before .before .before .before .if1 .taken) (c .before .before .before .before .near .ensures) (c .before .before .turn .ensures))
+    (λ c. let test = c .before .before .before .before .before in let done = test .before in lost-turns (done .misses .ensures) (test .if1 .taken) (c .before .before .before .before .near .ensures) (c .before .before .turn .ensures))
     (λ c. lost-still nearest (search needs) (search needs) (c .before .misses .ensures) (c .if1 .left)))

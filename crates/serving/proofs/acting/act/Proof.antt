@@ -1,83 +1,66 @@
--- By the item's cases: what the function that each arm calls does is what the item's rule says; a refusal changes nothing.
+-- By the item's cases: what the function that each arm calls does is what the item's rule says; a refusal leaves all as it is.
+use mathlib.Core.Path.{refl, sym}
 use Rattle.model.specs.Rules.{applyItem}
-use Rattle.screen.proofs.Acting.{still}
+use Rattle.model.proofs.Tests.{differ}
+use native.Mathlib.Omega.{arith}
 use borrow.Author.Needs.{needs}
 use Rattle.serving.proofs.acting.act.Statement.{statement}
 use Rattle.serving.proofs.acting.act.Tie as tie
 
-enum-known-item : tie.Need-enum-known-item
-enum-known-item c = search needs
-
-print-requires : tie.Need-print-requires
-print-requires c κs = search needs
-
-enum-known-item-2 : tie.Need-enum-known-item-2
-enum-known-item-2 c = search needs
-
-control-requires : tie.Need-control-requires
-control-requires c κs = search needs
-
-enum-known-item-3 : tie.Need-enum-known-item-3
-enum-known-item-3 c = search needs
+print-run-requires : tie.Need-print-run-requires
+print-run-requires c κs =
+    let told = c .before .before in
+    let entry = told .before .before .before .before .before in
+    (entry .pre .0, entry .pre .1 .prints (rw (told .enum-told .given .1)))
 
 act-requires : tie.Need-act-requires
-act-requires c κs = (c .before .before .before .before .before .before .before .pre .0, rw (c .before .before .before .item3 .given .1) at (c .before .before .before .before .before .before .before .pre .1))
-
-enum-told : tie.Need-enum-told
-enum-told c = search needs
-
-same-length : tie.Need-same-length
-same-length c = search needs
-
-same-length-2 : tie.Need-same-length-2
-same-length-2 c = search needs
+act-requires c κs =
+    let case = c .before .before .before in
+    let entry = case .before .before .before .before .before in
+    (entry .pre .0, rw (case .item2 .given .1) at (entry .pre .1 .legal))
 
 returns : tie.Need-returns
-unfolding applyItem
-returns c = λ h m. rw (c .before .before .before .before .before .before .before .before .item .given .1) (c .before .before .before .before .print .ensures)
-
-same-length-3 : tie.Need-same-length-3
-same-length-3 c = search needs
-
-same-length-4 : tie.Need-same-length-4
-same-length-4 c = search needs
+returns c =
+    let done = c .before .before .before .before in
+    let told = done .before .before .before in
+    rw (told .enum-told .given .1) (record { run = λ e. done .print-run .ensures; next = λ e. absurd (differ e); acts = λ e. absurd (differ e); rests = λ e. absurd (differ e) })
 
 returns-2 : tie.Need-returns-2
 unfolding applyItem
-returns-2 c = λ h m. rw (c .before .before .before .before .before .before .before .before .item2 .given .1) (c .before .before .before .before .control .ensures)
-
-same-length-5 : tie.Need-same-length-5
-same-length-5 c = search needs
-
-same-length-6 : tie.Need-same-length-6
-same-length-6 c = search needs
+returns-2 c =
+    let done = c .before .before .before .before in
+    let case = done .before .before .before .before in
+    rw (case .item .given .1) (record { run = λ e. absurd (differ (sym e)); next = λ e. refl; acts = λ e h n. done .control .ensures; rests = λ e. absurd (differ e) })
 
 returns-3 : tie.Need-returns-3
 unfolding applyItem
-returns-3 c = λ h m. rw (c .before .before .before .before .before .before .before .before .item3 .given .1) (c .before .before .before .before .act .ensures .on (rw (c .before .before .before .before .before .before .before .before .item3 .given .1) at h) m)
+returns-3 c =
+    let done = c .before .before .before .before in
+    let case = done .before .before .before .before in
+    rw (case .item2 .given .1) (record { run = λ e. absurd (differ (sym e)); next = λ e. refl; acts = λ e h n. done .act .ensures .on h n; rests = λ e. let o = done .act .ensures .off e in (o .0, (o .1, o .2)) })
 
 returns-4 : tie.Need-returns-4
-unfolding applyItem
-returns-4 c = λ h m. rw (c .enum-told .given .1) (still (c .before .before .before .before .pre .0))
+returns-4 c = rw (c .enum-told2 .given .1) (record { run = λ e. absurd (differ (sym e)); next = λ e. refl; acts = λ e h. absurd (differ (sym h)); rests = λ e. (refl, (refl, refl)) })
 
 pub act-spec : {M : Type 1} → statement M
 act-spec =
     tie.close
     (tie.spec
-    enum-known-item
-    print-requires
-    enum-known-item-2
-    control-requires
-    enum-known-item-3
+    (λ c. let entry = c .before .before .before in omega (arith, entry .pre .1 .inside, entry .pre .1 .short))
+    (λ c. search needs)
+    print-run-requires
+    (λ c. search needs)
+    (λ c κs. search needs)
+    (λ c. search needs)
     act-requires
-    enum-told
-    same-length
-    same-length-2
+    (λ c. search needs)
+    (λ c. search needs)
+    (λ c. search needs)
     returns
-    same-length-3
-    same-length-4
+    (λ c. search needs)
+    (λ c. search needs)
     returns-2
-    same-length-5
-    same-length-6
+    (λ c. search needs)
+    (λ c. search needs)
     returns-3
     returns-4)

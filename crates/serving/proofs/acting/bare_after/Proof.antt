@@ -1,6 +1,6 @@
 -- `bare_after` meets its contract by the item's cases.
 use borrow.Author.Needs.{needs}
-use Rattle.serving.proofs.Layers.{bare-control, bare-other}
+use Rattle.serving.proofs.Layers.{bare-other}
 use Rattle.serving.proofs.acting.bare_after.Statement.{statement}
 use Rattle.serving.proofs.acting.bare_after.Tie as tie
 
@@ -11,6 +11,6 @@ bare-after-spec =
     (λ c. search needs)
     (λ c. search needs)
     (λ c κs. search needs)
-    (λ c. rw (c .before .item .given .1) (bare-control _ _))
+    (λ c. rw (c .before .item .given .1))
     (λ c. rw (c .before .before .item2 .given .1) (c .bare-then .ensures))
-    (λ c. bare-other _ (c .match .keys3)))
+    (λ c. bare-other (c .before .args .item) (c .before .args .bare) (c .match .keys3)))

@@ -1,46 +1,24 @@
--- Only 80 has a copy.
-use mathlib.Core.Path.{_∙_, ap, sym}
-use Prim.Native.Nat.{ℕ}
-use mathlib.Core.List.{List, []}
-use Rattle.model.specs.Bytes.{put}
-use Rattle.model.specs.State.{state}
-use Rattle.serving.proofs.Acted.{no-sequence}
+-- `print_copy`: a copy is put behind those before it; any other sequence prints nothing.
+use mathlib.Core.Path.{_∙_, sym}
 use Rattle.store.proofs.Laws.{put-none}
 use borrow.Author.Needs.{needs}
 use Rattle.serving.proofs.acting.print_copy.Statement.{statement}
 use Rattle.serving.proofs.acting.print_copy.Tie as tie
 
-enum-known-item : tie.Need-enum-known-item
-enum-known-item c = search needs
+copy-requires : tie.Need-copy-requires
+copy-requires c κs =
+    let test = c .before in
+    let entry = test .before .before .before .before .before in
+    (entry .pre .0, rw (sym (test .before .is-copy .ensures) ∙ test .if1 .taken) at (entry .pre .1))
 
 returns : tie.Need-returns
 returns c =
-    let a = c .before .before .before .before .args in
-    sym (ap (λ (ys : List ℕ). put (a .from) ys (a .printer .now)) (no-sequence [] (a .item) (state (a .settings) (a .cells .now) (a .layer .now)) (c .match .keys2) .1) ∙ put-none (a .from) (a .printer .now))
-
-is-copy-requires : tie.Need-is-copy-requires
-is-copy-requires c κs = search needs
-
-copy-requires : tie.Need-copy-requires
-copy-requires c κs = let p = c .before .before .before .before .before .before .before .before .before .pre in (p .0, rw (c .before .before .before .before .item .given .1, sym (c .before .before .is-copy .ensures) ∙ c .before .if1 .taken) at (p .1))
-
-same-length : tie.Need-same-length
-same-length c = search needs
+    let done = c .before .before in
+    let test = done .before .before in
+    rw (sym (test .before .is-copy .ensures) ∙ test .if1 .taken) (done .copy .ensures)
 
 returns-2 : tie.Need-returns-2
-returns-2 c = rw (c .before .before .before .before .before .before .before .item .given .1, sym (c .before .before .before .before .before .is-copy .ensures) ∙ c .before .before .before .before .if1 .taken) (c .before .before .copy .ensures)
-
-returns-3 : tie.Need-returns-3
-returns-3 c = rw (c .before .before .before .item .given .1, sym (c .before .is-copy .ensures) ∙ c .if1 .left) (sym (put-none _ _))
+returns-2 c = rw (sym (c .before .is-copy .ensures) ∙ c .if1 .left) (sym (put-none _ _))
 
 pub print-copy-spec : {M : Type 1} → statement M
-print-copy-spec =
-    tie.close
-    (tie.spec
-    enum-known-item
-    returns
-    is-copy-requires
-    copy-requires
-    same-length
-    returns-2
-    returns-3)
+print-copy-spec = tie.close (tie.spec (λ c κs. search needs) copy-requires (λ c. search needs) returns returns-2)
