@@ -8,11 +8,13 @@
 //! - `picture`: the picture, the shown screen, the printed copy
 //! - `calls`: the three calls
 //! - `text`: the words of the programs `show` and `replay`
+//! - `lengths`: the words of the program `lengths`
 
 #![forbid(unsafe_code)]
 
 pub mod apply;
 pub mod calls;
+pub mod lengths;
 pub mod picture;
 pub mod read;
 pub mod settings;
