@@ -220,6 +220,7 @@ static void answer(void)
     check(a.accepted == 4, "answer: accepted");
     check(a.refused == 2, "answer: refused");
     check(a.first == PX8_OUT_OF_RANGE, "answer: first");
+    check(a.parameter == 1, "answer: parameter");
     check(a.offset == 12, "answer: offset");
     check(a.printed == 2 * PX8_COPY, "answer: printed");
     check(memcmp(at.shown, "LOADkg ", 7) == 0, "answer: shown screen");
@@ -227,6 +228,30 @@ static void answer(void)
     check(memcmp(at.printer, "LOAD ", 5) == 0, "answer: first copy");
     check(memcmp(at.printer + PX8_COPY - 3, " \r\n", 3) == 0, "answer: end of a copy");
     check(guards_stay(), "answer: guards");
+}
+
+/* The first bad parameter of a message that is one sequence. */
+static void check_parameter(const uint8_t *bytes, size_t length, uint8_t first, uint8_t parameter,
+                            const char *what)
+{
+    px8_answer a;
+    fill_desk();
+    a = send_message(open_desk().settings, bytes, length).answer;
+    check(a.refused == 1 && a.first == first && a.parameter == parameter, what);
+}
+
+static void parameters(void)
+{
+    static const uint8_t line[] = {27, 61, 56, 112}, column[] = {27, 61, 55, 112};
+    static const uint8_t sum[] = {27, 144, 1, 24}, lines[] = {27, 208, 0, 255, 8};
+    static const uint8_t mode[] = {27, 208, 9}, cut[] = {27, 208, 2, 99}, other[] = {27, 27};
+    check_parameter(line, sizeof line, PX8_OUT_OF_RANGE, 1, "parameter: a line");
+    check_parameter(column, sizeof column, PX8_OUT_OF_RANGE, 2, "parameter: a column");
+    check_parameter(sum, sizeof sum, PX8_OUT_OF_RANGE, 2, "parameter: a sum of lines");
+    check_parameter(lines, sizeof lines, PX8_OUT_OF_RANGE, 3, "parameter: a sum of two screens");
+    check_parameter(mode, sizeof mode, PX8_OUT_OF_RANGE, 1, "parameter: a mode byte");
+    check_parameter(cut, sizeof cut, PX8_CUT, 0, "parameter: none of a cut sequence");
+    check_parameter(other, sizeof other, PX8_NOT_LISTED, 0, "parameter: none of an unknown byte");
 }
 
 static void layer(void)
@@ -257,7 +282,7 @@ static void check_refused(px8_outcome outcome, px8_settings given, uint8_t numbe
 {
     const px8_answer a = outcome.answer;
     check(a.number == number && a.taken == 0 && a.accepted == 0 && a.refused == 0 &&
-              a.first == 0 && a.offset == 0 && a.printed == 0 &&
+              a.first == 0 && a.parameter == 0 && a.offset == 0 && a.printed == 0 &&
               memcmp(&outcome.settings, &given, sizeof given) == 0 &&
               memcmp(&at, &copy, sizeof at) == 0,
           what);
@@ -327,6 +352,7 @@ int main(void)
     keys();
     patterns();
     answer();
+    parameters();
     layer();
     printed();
     refused_openings();

@@ -74,9 +74,11 @@ extern "C" {
 
 /* The number of the first refused sequence of a message that was served. A
  * refused sequence is skipped, and changes nothing but the counts and the
- * first refusal. Sequences are checked in the order 10, 12, 14, 11, 13. */
+ * first refusal. Sequences are checked in the order 10, 12, 14, 11, 13. With 11
+ * goes the first bad parameter, see "which parameter" below. */
 #define PX8_NOT_LISTED 10   /* the byte after ESC is not in the list; 2 bytes skipped */
-#define PX8_OUT_OF_RANGE 11 /* a parameter is outside its range; whole sequence skipped */
+#define PX8_OUT_OF_RANGE 11 /* a parameter is outside its range, or its sum with the
+                             * one before is too large; whole sequence skipped */
 #define PX8_CUT 12          /* the message ends inside a sequence; the rest skipped */
 #define PX8_NO_ROOM 13      /* ESC 80 with less than PX8_COPY of printer room left */
 #define PX8_MODE_3 14       /* ESC 208 with mode 3; 3 bytes skipped */
@@ -201,6 +203,24 @@ typedef struct px8_settings {
  * that misses the cursor's line after printing, codes 8, 10, 13 or ESC 61 moves.
  */
 
+/* ---- which parameter ----
+ *
+ * Refusal 11 names the first parameter that is outside its range. Parameters are
+ * counted from 1, the byte after the sequence's second one, so mode bytes are
+ * parameter 1. Where only the sum of two is too large it is the later one.
+ *
+ *   ESC 61 m+31 n+31    1: 32 to R+31       2: 32 to columns+31
+ *   ESC 144, 145 a m    1: 0 to R-1         2: 1 to R, and a+m at most R
+ *   ESC 208 k ..        1: 0 to 2 (3 is refusal 14)
+ *   ESC 208 0 n1 n2     2: 8 or more        3: 8 or more, and n1+n2 at most 48
+ *   ESC 208 1 n1        2: 16 to 48
+ *   ESC 208 2 n1 m p    2: 8 to 48          3: 1 to 78
+ *   ESC 210 x y p       1: 1 to 8           2: 1 to 80
+ *   ESC 67, 148, 149, 209, 211, 214, 224, 240, 241, 242, 247    1: as listed above
+ *
+ * No other parameter is judged.
+ */
+
 /* ---- results ---- */
 
 /* The answer to a message. Between its fields there are padding bytes of no
@@ -212,6 +232,7 @@ typedef struct px8_answer {
     uint32_t accepted; /* sequences accepted (printed bytes and codes not counted) */
     uint32_t refused;  /* sequences refused */
     uint8_t first;     /* number of the first refusal, 10 to 14; 0 if there is none */
+    uint8_t parameter; /* its first bad parameter, from 1, if it is 11; else 0 */
     uint32_t offset;   /* where its ESC stands in the message, counted from 0;
                         * 0 if there is none */
     size_t printed;    /* bytes of printed copies, a multiple of PX8_COPY */
@@ -259,7 +280,7 @@ px8_opened px8_opening(uint8_t *cells, size_t cells_length,
  * text is printed at the old cursor. Look at answer.refused too.
  *
  * A refused call (answer.number 1, 2 or 3) changes nothing: it returns the
- * settings as they were given, all counts 0, first 0, offset 0 and printed 0,
+ * settings as they were given, all counts 0, first, parameter, offset and printed 0,
  * and no byte of the stores or of the printer buffer is altered, the shown
  * screen included. The message itself is never altered.
  */
@@ -330,6 +351,7 @@ PX8_HOLDS(offsetof(px8_answer, taken) == 4);
 PX8_HOLDS(offsetof(px8_answer, accepted) == 8);
 PX8_HOLDS(offsetof(px8_answer, refused) == 12);
 PX8_HOLDS(offsetof(px8_answer, first) == 16);
+PX8_HOLDS(offsetof(px8_answer, parameter) == 17);
 PX8_HOLDS(offsetof(px8_answer, offset) == 20);
 PX8_HOLDS(offsetof(px8_answer, printed) == 24);
 

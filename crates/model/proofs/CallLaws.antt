@@ -95,7 +95,7 @@ counted-number : (i : Item) (n at : ℕ) (a : Answer) → counted i n at a .numb
 counted-number (Printed c) n at a = refl
 counted-number (Control c) n at a = refl
 counted-number (Sequence q) n at a = refl
-counted-number (Refused k) n at a = refl
+counted-number (Refused k p) n at a = refl
 
 all-number : (rs : List Read) (a : Answer) → countedAll rs a .number ≡ a .number
 unfolding countedAll

@@ -16,7 +16,7 @@ use Rattle.model.specs.Screens.{base, cellAt, columnsOf, lineAt, linesOf
 use Rattle.model.specs.Sequences.{codeOf}
 use Rattle.model.specs.Reading.{byteOf, itemOf}
 use Rattle.model.specs.declared.Limits.{Limits}
-use Rattle.model.specs.Judging.{allowed, fitting, judged, legal?, legalItem?, limitsOf}
+use Rattle.model.specs.Judging.{allowed, badOf, fitting, judged, legal?, legalItem?, limitsOf}
 use Rattle.model.specs.Rules.{applyItem}
 use Rattle.model.specs.Items.{Event, applyAll, happened, itemRead, eventsOf, readsOf}
 use Rattle.model.specs.Claims.{InWindow, On, Unchanged, isRefusal, mustFollow, refusedEvent, setsMode}
@@ -33,15 +33,15 @@ legal-allowed : (i : Item) (s : Limits) → legalItem? (allowed i s) s ≡ true
 unfolding allowed
 legal-allowed (Printed c) s = refl
 legal-allowed (Control c) s = refl
-legal-allowed (Sequence q) s = cond-at (λ (i : Item). legalItem? i s ≡ true) (legal? q s) (Sequence q) (Refused 11) (λ e. e) (λ e. refl)
-legal-allowed (Refused n) s = refl
+legal-allowed (Sequence q) s = cond-at (λ (i : Item). legalItem? i s ≡ true) (legal? q s) (Sequence q) (Refused 11 (badOf q s)) (λ e. e) (λ e. refl)
+legal-allowed (Refused n p) s = refl
 
 legal-fitting : (i : Item) (s : Limits) (room : ℕ) → legalItem? i s ≡ true → legalItem? (fitting i room) s ≡ true
 unfolding fitting
 legal-fitting (Printed c) s room e = e
 legal-fitting (Control c) s room e = e
-legal-fitting (Sequence q) s room e = cond-at (λ (i : Item). legalItem? i s ≡ true) (eqb (codeOf q) 80 && ltb room 656) (Refused 13) (Sequence q) (λ f. refl) (λ f. e)
-legal-fitting (Refused n) s room e = e
+legal-fitting (Sequence q) s room e = cond-at (λ (i : Item). legalItem? i s ≡ true) (eqb (codeOf q) 80 && ltb room 656) (Refused 13 0) (Sequence q) (λ f. refl) (λ f. e)
+legal-fitting (Refused n p) s room e = e
 
 pub legal-judged : (i : Item) (s : Limits) (room : ℕ) → legalItem? (judged i s room) s ≡ true
 legal-judged i s room = legal-fitting (allowed i s) s room (legal-allowed i s)
@@ -101,7 +101,7 @@ refused-nothing (itemRead r) a e = go (r .item) e
     go (Printed c) e = absurd (differ (sym e))
     go (Control c) e = absurd (differ (sym e))
     go (Sequence q) e = absurd (differ (sym e))
-    go (Refused n) e = refl
+    go (Refused n p) e = refl
 
 -- what event n does
 pub event-at : (es : List Event) (a : State) → Good a → AllLegal es a → (n : ℕ) → n < length es → Obeyed (at es a n) (at es a (suc n)) (setsMode (getD es n noEvent))

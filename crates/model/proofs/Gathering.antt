@@ -33,27 +33,30 @@ joined-last (x ∷ xs) w = ap (λ (l : List ℕ). x ++ l) (joined-last xs w) ∙
 pub joined-uncut : (m : List ℕ) → joined (uncut m) ≡ m
 joined-uncut m = joined-last (gathered [] m) (remaining [] m) ∙ all-bytes [] m
 
--- every length of a table, by a test that is computed
-abbrev lengths? : ℕ → ℕ → List Row → Bool
-lengths? l h [] = true
-lengths? l h (r ∷ rs) = (leb l (r .bytes) && leb (r .bytes) h) && lengths? l h rs
+-- a test that every row of a table passes, and what is found if the byte is in none
+abbrev pub allRows : (Row → Bool) → List Row → Bool
+allRows f [] = true
+allRows f (r ∷ rs) = f r && allRows f rs
 
-found-length : (l h : ℕ) (o : Row) (rs : List Row) (c : ℕ) → l ≤ o .bytes → o .bytes ≤ h → lengths? l h rs ≡ true → (l ≤ find o rs c .bytes) × (find o rs c .bytes ≤ h)
+pub found : (f : Row → Bool) (o : Row) (rs : List Row) (c : ℕ) → f o ≡ true → allRows f rs ≡ true → f (find o rs c) ≡ true
 unfolding find
-found-length l h o [] c p q f = (p, q)
-found-length l h o (r ∷ rs) c p q f =
-    let t = and-left (leb l (r .bytes) && leb (r .bytes) h) (lengths? l h rs) f in
-    cond-at (λ (x : Row). (l ≤ x .bytes) × (x .bytes ≤ h)) (eqb c (r .code)) r (find o rs c)
-    (λ e. (leb-true _ _ (and-left (leb l (r .bytes)) (leb (r .bytes) h) t), leb-true _ _ (and-right (leb l (r .bytes)) (leb (r .bytes) h) t)))
-    (λ e. found-length l h o rs c p q (and-right (leb l (r .bytes) && leb (r .bytes) h) (lengths? l h rs) f))
+found f o [] c p q = p
+found f o (r ∷ rs) c p q = cond-at (λ (x : Row). f x ≡ true) (eqb c (r .code)) r (find o rs c) (λ e. and-left (f r) (allRows f rs) q) (λ e. found f o rs c p (and-right (f r) (allRows f rs) q))
+
+-- every length of a table
+found-length : (l h : ℕ) (o : Row) (rs : List Row) (c : ℕ) → let f : Row → Bool = λ r. leb l (r .bytes) && leb (r .bytes) h in f o ≡ true → allRows f rs ≡ true → (l ≤ find o rs c .bytes) × (find o rs c .bytes ≤ h)
+found-length l h o rs c p q =
+    let x = find o rs c in
+    let t = found (λ r. leb l (r .bytes) && leb (r .bytes) h) o rs c p q in
+    (leb-true _ _ (and-left (leb l (x .bytes)) (leb (x .bytes) h) t), leb-true _ _ (and-right (leb l (x .bytes)) (leb (x .bytes) h) t))
 
 row-length : (c : ℕ) → (2 ≤ rowOf c .bytes) × (rowOf c .bytes ≤ 13)
 unfolding rowOf
-row-length c = found-length 2 13 (refusal 0 2 10) rows c (omega arith) (omega arith) refl
+row-length c = found-length 2 13 (refusal 0 2 10 0) rows c refl refl
 
 mode-length : (c : ℕ) → (3 ≤ modeRowOf c .bytes) × (modeRowOf c .bytes ≤ 13)
 unfolding modeRowOf
-mode-length c = found-length 3 13 (refusal 0 3 11) modeRows c (omega arith) (omega arith) refl
+mode-length c = found-length 3 13 (refusal 0 3 11 1) modeRows c refl refl
 
 pub needed-least : (bs : List ℕ) → 1 ≤ needed bs
 unfolding needed afterEscape afterMode

@@ -193,4 +193,4 @@ unfolding applyItem legal?
 obeyed-item ms (Printed c) a g e = of-kept (kept-printed a g c)
 obeyed-item ms (Control c) a g e = of-kept (kept-control a g c)
 obeyed-item ms (Sequence q) a g e = obeyed-all ms q a g (ranges-true (ranges q (limitsOf (a .settings))) e)
-obeyed-item ms (Refused n) a g e = of-kept (kept-refl a g)
+obeyed-item ms (Refused n p) a g e = of-kept (kept-refl a g)

@@ -20,3 +20,4 @@ pub mod Lines
 pub mod Places
 pub mod ShownPlace
 pub mod Theorem
+pub mod Parameters

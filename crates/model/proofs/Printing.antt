@@ -43,7 +43,7 @@ pub length-copy : (i : Item) (st : State) → length (copyOf i st) ≡ printerBy
 length-copy (Printed c) st = refl
 length-copy (Control c) st = refl
 length-copy (Sequence q) st = cond₂ (λ (l : List ℕ) (n : ℕ). length l ≡ n) (eqb (codeOf q) 80) (eqb (codeOf q) 80) (copied st) [] 656 0 refl (λ e. length-copied st) (λ e. refl)
-length-copy (Refused n) st = refl
+length-copy (Refused n p) st = refl
 
 -- 13: a copy that is accepted has its room
 pub fits-room : (i : Item) (room : ℕ) → printerBytes (fitting i room) ≤ room
@@ -51,9 +51,9 @@ unfolding fitting
 fits-room (Printed c) room = omega arith
 fits-room (Control c) room = omega arith
 fits-room (Sequence q) room =
-    cond-at (λ (i : Item). printerBytes i ≤ room) (eqb (codeOf q) 80 && ltb room 656) (Refused 13) (Sequence q) (λ e. omega arith)
+    cond-at (λ (i : Item). printerBytes i ≤ room) (eqb (codeOf q) 80 && ltb room 656) (Refused 13 0) (Sequence q) (λ e. omega arith)
     (λ e. cond-at (λ (n : ℕ). n ≤ room) (eqb (codeOf q) 80) 656 0 (λ f. ltb-false room 656 (sym (ap (λ (b : Bool). b && ltb room 656) f) ∙ e)) (λ f. omega arith))
-fits-room (Refused n) room = omega arith
+fits-room (Refused n p) room = omega arith
 
 copies-fit : (bss : List (List ℕ)) (at : ℕ) (st : State) (room : ℕ) → length (copies (eventsOf (readsOf bss at st room)) st) ≤ room
 unfolding copies readsOf happened
@@ -79,13 +79,13 @@ counted-printed : (i : Item) (n at : ℕ) (a : Answer) → counted i n at a .pri
 counted-printed (Printed c) n at a = sym (add-zero (a .printed))
 counted-printed (Control c) n at a = sym (add-zero (a .printed))
 counted-printed (Sequence q) n at a = refl
-counted-printed (Refused k) n at a = sym (add-zero (a .printed))
+counted-printed (Refused k p) n at a = sym (add-zero (a .printed))
 
 counted-taken : (i : Item) (n at : ℕ) (a : Answer) → counted i n at a .taken ≡ a .taken + n
 counted-taken (Printed c) n at a = refl
 counted-taken (Control c) n at a = refl
 counted-taken (Sequence q) n at a = refl
-counted-taken (Refused k) n at a = refl
+counted-taken (Refused k p) n at a = refl
 
 all-printed : (rs : List Read) (st : State) (a : Answer) → countedAll rs a .printed ≡ a .printed + length (copies (eventsOf rs) st)
 unfolding countedAll copies happened

@@ -64,21 +64,21 @@ abbrev pub isMode : Item → Bool
 isMode (Printed c) = false
 isMode (Control c) = false
 isMode (Sequence q) = eqb (codeOf q) 208
-isMode (Refused n) = false
+isMode (Refused n p) = false
 
 -- "A printed character is a printed byte or an accepted 37; a line step is code 10, and codes 8 and 13 are counted with it; a cursor placing is 61"
 abbrev pub follows : Item → Bool
 follows (Printed c) = true
 follows (Control c) = eqb c 8 || eqb c 10 || eqb c 13
 follows (Sequence q) = eqb (codeOf q) 37 || eqb (codeOf q) 61
-follows (Refused n) = false
+follows (Refused n p) = false
 
 -- a refusal
 abbrev pub isRefusal : Item → Bool
 isRefusal (Printed c) = false
 isRefusal (Control c) = false
 isRefusal (Sequence q) = false
-isRefusal (Refused n) = true
+isRefusal (Refused n p) = true
 
 -- the same of an event
 abbrev pub setsMode : Event → Bool

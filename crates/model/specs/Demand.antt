@@ -67,7 +67,7 @@ eventsOver t (q ∷ qs) = eventsIn t q ++ eventsOver (served t q) qs
 
 -- read past the end of a list of items; no claim reaches it
 abbrev pub noEvent : Event
-noEvent = itemRead (record { at = 0; item = Refused 0; bytes = [] })
+noEvent = itemRead (record { at = 0; item = Refused 0 0; bytes = [] })
 
 -- item n of a list, counted from 0 over all its calls
 abbrev pub event : Terminal → List Call → ℕ → Event

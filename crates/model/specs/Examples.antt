@@ -1,5 +1,5 @@
 -- Document 01, "Bays' examples": a message from the opening, with a printer room, and what it must give. All rows marked P; of the
--- rest those that say something of the rules; and rows of ours where the table is silent.
+-- rest those that say something of the rules; and rows of ours where the table is silent. Then a list for each request of document 02.
 use Prim.Native.Nat.{ℕ, suc, zero, _+_, _-_, _*_}
 use mathlib.Core.Bool.{Bool, true, false, _&&_}
 use mathlib.Core.List.{List, [], _∷_, _++_}
@@ -15,6 +15,7 @@ use Rattle.model.specs.Opening.{openedTerminal}
 pub data Fact : Type 0 where
   counts : ℕ → ℕ → ℕ → ℕ → Fact  -- taken, accepted, refused, printed; number 0
   firstRefusal : ℕ → ℕ → Fact  -- number and offset
+  parameter : ℕ → Fact  -- that the first refusal names
   cursorAt : ℕ → ℕ → Fact  -- line and column, of screen 1
   top : ℕ → Fact  -- of screen 1
   selected : ℕ → Fact
@@ -47,6 +48,7 @@ down? (suc n) c b xs = elim (eqb (getD xs (80 * n + (c - 1)) 0) b) [ true ↦ do
 unfoldable pub holds : Fact → Terminal → Answer → List ℕ → Bool
 holds (counts t a r p) d w bs = eqb (w .number) 0 && eqb (w .taken) t && eqb (w .accepted) a && eqb (w .refused) r && eqb (w .printed) p && eqb (length bs) p
 holds (firstRefusal n o) d w bs = eqb (w .first) n && eqb (w .offset) o
+holds (parameter p) d w bs = eqb (w .parameter) p
 holds (cursorAt l c) d w bs = eqb (placeOf (d .state .settings) 0 .line) l && eqb (placeOf (d .state .settings) 0 .column) c
 holds (top t) d w bs = eqb (placeOf (d .state .settings) 0 .top) t
 holds (selected k) d w bs = eqb (d .state .settings .selected + 1) k
@@ -287,4 +289,56 @@ added =
     ∷ example (27 ∷ 224 ∷ 223 ∷ replicate 8 1 ++ (27 ∷ 224 ∷ 255 ∷ replicate 8 1 ++ (27 ∷ 224 ∷ 254 ∷ replicate 8 1))) (counts 33 1 2 0 ∷ pattern 254 8 1 ∷ pattern 253 8 0 ∷ [])
     -- 198, 199 and 246 take their bytes and do nothing
     ∷ example (27 ∷ 198 ∷ replicate 11 27 ++ (27 ∷ 199 ∷ 1 ∷ 2 ∷ 3 ∷ 4 ∷ 27 ∷ 246 ∷ 65 ∷ [])) (counts 22 3 0 0 ∷ cell 1 1 1 65 ∷ cursorAt 1 2 ∷ [])
+    ∷ []
+
+-- a sequence by itself that is refused by 11 and names a parameter
+abbrev pub names : ℕ → List ℕ → Example
+names p m = example m (counts (length m) 0 1 0 ∷ firstRefusal 11 0 ∷ parameter p ∷ [])
+
+-- document 02, P10: which parameter
+unfoldable pub parameters : List Example
+parameters =
+    -- 144, 145: a, else m; only the sum: the later one, m; both bad: a
+    names 1 (27 ∷ 144 ∷ 24 ∷ 1 ∷ [])
+    ∷ names 2 (27 ∷ 144 ∷ 0 ∷ 0 ∷ [])
+    ∷ names 2 (27 ∷ 144 ∷ 1 ∷ 24 ∷ [])
+    ∷ names 1 (27 ∷ 144 ∷ 24 ∷ 0 ∷ [])
+    ∷ names 2 (27 ∷ 145 ∷ 1 ∷ 24 ∷ [])
+    ∷ names 1 (27 ∷ 145 ∷ 255 ∷ 255 ∷ [])
+    -- 208: the mode byte is parameter 1, so n1 is 2, n2 and m are 3; only the sum: n2; of two bad ones the first
+    ∷ names 3 (27 ∷ 208 ∷ 0 ∷ 255 ∷ 8 ∷ [])
+    ∷ names 3 (27 ∷ 208 ∷ 0 ∷ 24 ∷ 7 ∷ [])
+    ∷ names 2 (27 ∷ 208 ∷ 0 ∷ 7 ∷ 255 ∷ [])
+    ∷ names 1 (27 ∷ 208 ∷ 9 ∷ [])
+    ∷ names 1 (27 ∷ 208 ∷ 4 ∷ [])
+    ∷ names 2 (27 ∷ 208 ∷ 1 ∷ 15 ∷ [])
+    ∷ names 3 (27 ∷ 208 ∷ 2 ∷ 8 ∷ 79 ∷ 0 ∷ [])
+    ∷ names 2 (27 ∷ 208 ∷ 2 ∷ 49 ∷ 79 ∷ 0 ∷ [])
+    -- 61: line, else column; 210: row, else column, and p is free
+    ∷ names 1 (27 ∷ 61 ∷ 56 ∷ 112 ∷ [])
+    ∷ names 2 (27 ∷ 61 ∷ 55 ∷ 112 ∷ [])
+    ∷ names 2 (27 ∷ 210 ∷ 8 ∷ 81 ∷ 0 ∷ [])
+    ∷ names 1 (27 ∷ 210 ∷ 9 ∷ 81 ∷ 0 ∷ [])
+    -- one parameter that is judged, whatever follows it
+    ∷ names 1 (27 ∷ 67 ∷ 65 ∷ [])
+    ∷ names 1 (27 ∷ 148 ∷ 9 ∷ [])
+    ∷ names 1 (27 ∷ 149 ∷ 2 ∷ [])
+    ∷ names 1 (27 ∷ 209 ∷ 2 ∷ [])
+    ∷ names 1 (27 ∷ 211 ∷ 2 ∷ [])
+    ∷ names 1 (27 ∷ 214 ∷ 4 ∷ [])
+    ∷ names 1 (27 ∷ 224 ∷ 255 ∷ 0 ∷ 0 ∷ 0 ∷ 0 ∷ 0 ∷ 0 ∷ 0 ∷ 0 ∷ [])
+    ∷ names 1 (27 ∷ 240 ∷ 2 ∷ [])
+    ∷ names 1 (27 ∷ 241 ∷ 0 ∷ [])
+    ∷ names 1 (27 ∷ 242 ∷ 128 ∷ [])
+    ∷ names 1 (27 ∷ 247 ∷ 1 ∷ [])
+    -- "For all other numbers it is 0"; a sequence that is cut is 12, though a parameter is bad already
+    ∷ example (27 ∷ 27 ∷ []) (counts 2 0 1 0 ∷ firstRefusal 10 0 ∷ parameter 0 ∷ [])
+    ∷ example (27 ∷ 208 ∷ 2 ∷ 99 ∷ []) (counts 4 0 1 0 ∷ firstRefusal 12 0 ∷ parameter 0 ∷ [])
+    ∷ withRoom 655 (27 ∷ 80 ∷ []) (counts 2 0 1 0 ∷ firstRefusal 13 0 ∷ parameter 0 ∷ [])
+    ∷ example (27 ∷ 208 ∷ 3 ∷ []) (counts 3 0 1 0 ∷ firstRefusal 14 0 ∷ parameter 0 ∷ [])
+    ∷ example (27 ∷ 61 ∷ 55 ∷ 111 ∷ []) (counts 4 1 0 0 ∷ firstRefusal 0 0 ∷ parameter 0 ∷ [])
+    -- of two refusals the first one's, also where it is another number
+    ∷ example (65 ∷ 27 ∷ 61 ∷ 55 ∷ 112 ∷ 27 ∷ 61 ∷ 56 ∷ 32 ∷ []) (counts 9 0 2 0 ∷ firstRefusal 11 1 ∷ parameter 2 ∷ [])
+    ∷ example (27 ∷ 27 ∷ 27 ∷ 61 ∷ 56 ∷ 32 ∷ []) (counts 6 0 2 0 ∷ firstRefusal 10 0 ∷ parameter 0 ∷ [])
+    ∷ example (27 ∷ 61 ∷ 56 ∷ 32 ∷ 27 ∷ 27 ∷ []) (counts 6 0 2 0 ∷ firstRefusal 11 0 ∷ parameter 1 ∷ [])
     ∷ []

@@ -29,7 +29,7 @@ abbrev pub printerBytes : Item → ℕ
 printerBytes (Printed c) = 0
 printerBytes (Control c) = 0
 printerBytes (Sequence q) = cond (eqb (codeOf q) 80) copySize 0
-printerBytes (Refused n) = 0
+printerBytes (Refused n p) = 0
 
 -- the items of these bytes, the first at an offset, each read with what those before it left
 unfoldable pub readsOf : List (List ℕ) → ℕ → State → ℕ → List Read
@@ -65,7 +65,7 @@ abbrev pub copyOf : Item → State → List ℕ
 copyOf (Printed c) st = []
 copyOf (Control c) st = []
 copyOf (Sequence q) st = cond (eqb (codeOf q) 80) (copied st) []
-copyOf (Refused n) st = []
+copyOf (Refused n p) st = []
 
 -- the bytes that an event prints
 abbrev pub printsOf : Event → State → List ℕ
@@ -78,16 +78,17 @@ copies (e ∷ es) st = printsOf e st ++ copies es (happened e st)
 
 -- the answer before any item: "zero counts, its number"
 abbrev pub blankAnswer : ℕ → Answer
-blankAnswer n = record { number = n; taken = 0; accepted = 0; refused = 0; first = 0; offset = 0; printed = 0 }
+blankAnswer n = record { number = n; taken = 0; accepted = 0; refused = 0; first = 0; parameter = 0; offset = 0; printed = 0 }
 
 -- one item more, of so many bytes, at an offset
 abbrev pub counted : Item → ℕ → ℕ → Answer → Answer
-counted (Printed c) n at a = record { number = a .number; taken = a .taken + n; accepted = a .accepted; refused = a .refused; first = a .first; offset = a .offset; printed = a .printed }
-counted (Control c) n at a = record { number = a .number; taken = a .taken + n; accepted = a .accepted; refused = a .refused; first = a .first; offset = a .offset; printed = a .printed }
-counted (Sequence q) n at a = record { number = a .number; taken = a .taken + n; accepted = a .accepted + 1; refused = a .refused; first = a .first; offset = a .offset; printed = a .printed + printerBytes (Sequence q) }
-counted (Refused k) n at a = record { number = a .number; taken = a .taken + n; accepted = a .accepted; refused = a .refused + 1; first = cond (eqb (a .refused) 0) k (a .first); offset = cond (eqb (a .refused) 0) at (a .offset); printed = a .printed }
+counted (Printed c) n at a = record { number = a .number; taken = a .taken + n; accepted = a .accepted; refused = a .refused; first = a .first; parameter = a .parameter; offset = a .offset; printed = a .printed }
+counted (Control c) n at a = record { number = a .number; taken = a .taken + n; accepted = a .accepted; refused = a .refused; first = a .first; parameter = a .parameter; offset = a .offset; printed = a .printed }
+counted (Sequence q) n at a = record { number = a .number; taken = a .taken + n; accepted = a .accepted + 1; refused = a .refused; first = a .first; parameter = a .parameter; offset = a .offset; printed = a .printed + printerBytes (Sequence q) }
+counted (Refused k p) n at a = record { number = a .number; taken = a .taken + n; accepted = a .accepted; refused = a .refused + 1; first = cond (eqb (a .refused) 0) k (a .first); parameter = cond (eqb (a .refused) 0) p (a .parameter); offset = cond (eqb (a .refused) 0) at (a .offset); printed = a .printed }
 
--- "number, bytes taken, sequences accepted, sequences refused, number and offset of the first refusal (0 and 0 if none), printer bytes"
+-- "number, bytes taken, sequences accepted, sequences refused, number and offset of the first refusal (0 and 0 if none), printer bytes";
+-- document 02, P10: "every answer that carries a first refusal passes it on", the parameter that it names
 unfoldable pub countedAll : List Read → Answer → Answer
 countedAll [] a = a
 countedAll (r ∷ rs) a = countedAll rs (counted (r .item) (length (r .bytes)) (r .at) a)

@@ -14,4 +14,5 @@ pub mod Calls
 pub mod Opening
 pub mod Claims
 pub mod Demand
+pub mod Parameters
 pub mod Examples

@@ -170,12 +170,13 @@ pub struct Limits {
     pub height: u8,
 }
 
-// A printed byte, a control code, a sequence (accepted, once it is judged), or a refusal with its number.
+// A printed byte, a control code, a sequence (accepted, once it is judged), or a refusal: its number and, of 11, the first bad
+// parameter, counted from 1 after the second byte; 0 of any other number.
 pub enum Item {
     Printed(u8),
     Control(u8),
     Sequence(Sequence),
-    Refused(u8),
+    Refused { number: u8, parameter: u8 },
 }
 
 // The answer of the message call.
@@ -186,6 +187,7 @@ pub struct Answer {
     pub accepted: u32,
     pub refused: u32,
     pub first: u8,
+    pub parameter: u8,
     pub offset: u32,
     pub printed: usize,
 }

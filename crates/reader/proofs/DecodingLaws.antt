@@ -29,7 +29,7 @@ module _ (at : ℕ) (bs : List ℕ) where
   whole-listed e = ap (λ (b : Bool). kind b .made (sent bs) (at + 2)) (ne-eqb (getD bs 1 0) 208 e)
 
   -- a byte that is not in the list
-  pub whole-unlisted : (k : ℕ) → lengthOf (getD bs 1 0) k ≡ 0 → whole at bs ≡ Refused 10
+  pub whole-unlisted : (k : ℕ) → lengthOf (getD bs 1 0) k ≡ 0 → whole at bs ≡ Refused 10 0
   unfolding whole kindOf
   whole-unlisted k e =
       let u = length-none (getD bs 1 0) k e in
@@ -39,6 +39,6 @@ module _ (at : ℕ) (bs : List ℕ) where
 pub handed-on : (n k c : ℕ) → NoneOf (Unit {0}) (armsOf (take k (drop n rows))) c → kindFrom n c ≡ kindFrom (n + k) c
 unfolding kindFrom
 handed-on n k c h =
-    ap (λ (rs : List Row). find (refusal 0 2 10) rs c) (sym (take-append-drop k (drop n rows)))
-    ∙ find-past (Unit {0}) (refusal 0 2 10) (take k (drop n rows)) (drop k (drop n rows)) c h
-    ∙ ap (λ (rs : List Row). find (refusal 0 2 10) rs c) (drop-drop k n rows)
+    ap (λ (rs : List Row). find (refusal 0 2 10 0) rs c) (sym (take-append-drop k (drop n rows)))
+    ∙ find-past (Unit {0}) (refusal 0 2 10 0) (take k (drop n rows)) (drop k (drop n rows)) c h
+    ∙ ap (λ (rs : List Row). find (refusal 0 2 10 0) rs c) (drop-drop k n rows)

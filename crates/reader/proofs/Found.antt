@@ -1,25 +1,13 @@
--- A row that is found in a table: it passes each test that all rows and the default pass, and it is the default or has the
--- byte that is looked for.
+-- A row that is found in a table is the default or has the byte that is looked for; and the least lengths.
 use mathlib.Core.Path.{_≡_, refl, sym}
 use mathlib.Core.Logic.{_⊎_, inl, inr}
 use Prim.Native.Nat.{ℕ, _≤_}
-use mathlib.Core.Bool.{Bool, true, _&&_}
 use mathlib.Core.List.{List, [], _∷_}
 use lib.Dec.{eqb, leb}
 use borrow.Author.Tests.{eqb-true, leb-true}
 use Rattle.model.specs.Sequences.{Row, find, modeRowOf, modeRows, refusal, rowOf, rows}
-use Rattle.model.proofs.Tests.{and-left, and-right, cond-at, cond₂}
-
--- a test at every row
-abbrev pub allRows : (Row → Bool) → List Row → Bool
-allRows f [] = true
-allRows f (r ∷ rs) = f r && allRows f rs
-
-pub found : (f : Row → Bool) (other : Row) (rs : List Row) (c : ℕ) → f other ≡ true → allRows f rs ≡ true → f (find other rs c) ≡ true
-unfolding find
-found f other [] c p q = p
-found f other (r ∷ rs) c p q =
-    cond-at (λ (x : Row). f x ≡ true) (eqb c (r .code)) r (find other rs c) (λ e. and-left (f r) (allRows f rs) q) (λ e. found f other rs c p (and-right (f r) (allRows f rs) q))
+use Rattle.model.proofs.Tests.{cond-at, cond₂}
+use Rattle.model.proofs.Gathering.{found}
 
 pub found-code : (other : Row) (rs : List Row) (c : ℕ) → (find other rs c ≡ other) ⊎ (find other rs c .code ≡ c)
 unfolding find
@@ -37,8 +25,8 @@ two-defaults o p (r ∷ rs) c =
 -- a sequence has at least two bytes, 208 three
 pub row-least : (c : ℕ) → 2 ≤ rowOf c .bytes
 unfolding rowOf
-row-least c = leb-true 2 _ (found (λ r. leb 2 (r .bytes)) (refusal 0 2 10) rows c refl refl)
+row-least c = leb-true 2 _ (found (λ r. leb 2 (r .bytes)) (refusal 0 2 10 0) rows c refl refl)
 
 pub mode-least : (k : ℕ) → 3 ≤ modeRowOf k .bytes
 unfolding modeRowOf
-mode-least k = leb-true 3 _ (found (λ r. leb 3 (r .bytes)) (refusal 0 3 11) modeRows k refl refl)
+mode-least k = leb-true 3 _ (found (λ r. leb 3 (r .bytes)) (refusal 0 3 11 1) modeRows k refl refl)

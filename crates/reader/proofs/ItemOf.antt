@@ -50,17 +50,17 @@ module _ (at : ℕ) (bs : List ℕ) where
 -- the latter go by the second byte
 pub ended-select : (c : ℕ) → c ≡ 209 → Sequence (Select 0) ≡ ended (27 ∷ c ∷ [])
 unfolding ended
-ended-select c e = sym (if-true (Sequence (Select 0)) (Refused 12) (eq-eqb c 209 e))
+ended-select c e = sym (if-true (Sequence (Select 0)) (Refused 12 0) (eq-eqb c 209 e))
 
-pub ended-refused : (c : ℕ) → (c ≡ 209 → ⊥) → Refused 12 ≡ ended (27 ∷ c ∷ [])
+pub ended-refused : (c : ℕ) → (c ≡ 209 → ⊥) → Refused 12 0 ≡ ended (27 ∷ c ∷ [])
 unfolding ended
-ended-refused c e = sym (if-false (Sequence (Select 0)) (Refused 12) (ne-eqb c 209 e))
+ended-refused c e = sym (if-false (Sequence (Select 0)) (Refused 12 0) (ne-eqb c 209 e))
 
 pub ended-by : (bs : List ℕ) (c : ℕ) → getD bs 1 0 ≡ c → ended bs ≡ ended (27 ∷ c ∷ [])
 unfolding ended
-ended-by bs c e = ap (λ (k : ℕ). elim (eqb k 209) as (λ b. Item) [ true ↦ Sequence (Select 0) | false ↦ Refused 12 ]) e
+ended-by bs c e = ap (λ (k : ℕ). elim (eqb k 209) as (λ b. Item) [ true ↦ Sequence (Select 0) | false ↦ Refused 12 0 ]) e
 
 -- what a message's end makes of a sequence is not refused again
 pub judged-ended : (bs : List ℕ) (s : Limits) (room : ℕ) → judged (ended bs) s room ≡ ended bs
 unfolding ended allowed fitting legal? inRanges? passes
-judged-ended bs s room = elim-at (λ (i : Item). judged i s room ≡ i) (eqb (getD bs 1 0) 209) (Sequence (Select 0)) (Refused 12) (λ e. refl) (λ e. refl)
+judged-ended bs s room = elim-at (λ (i : Item). judged i s room ≡ i) (eqb (getD bs 1 0) 209) (Sequence (Select 0)) (Refused 12 0) (λ e. refl) (λ e. refl)

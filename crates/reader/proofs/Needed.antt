@@ -17,7 +17,7 @@ use Rattle.reader.proofs.Found.{mode-least, row-least, two-defaults}
 
 -- the length by a second and a third byte, where the test for 208 is decided: as `length_of` has it, and by the rules
 abbrev ours : ℕ → ℕ → Bool → ℕ
-ours c k b = cond b (modeRowOf k .bytes) (find (refusal 0 0 10) rows c .bytes)
+ours c k b = cond b (modeRowOf k .bytes) (find (refusal 0 0 10 0) rows c .bytes)
 
 abbrev theirs : ℕ → ℕ → Bool → ℕ
 theirs c k b = cond b (modeRowOf k .bytes) (rowOf c .bytes)
@@ -26,19 +26,19 @@ module _ (c k : ℕ) where
   listed : (b : Bool) → (ours c k b ≡ 0 → ⊥) → theirs c k b ≡ ours c k b
   unfolding rowOf
   listed true h = refl
-  listed false h = ⊎-elim (λ d. absurd (h (ap (λ (r : Row). r .bytes) (d .0)))) (λ s. ap (λ (r : Row). r .bytes) (sym s)) (two-defaults (refusal 0 0 10) (refusal 0 2 10) rows c)
+  listed false h = ⊎-elim (λ d. absurd (h (ap (λ (r : Row). r .bytes) (d .0)))) (λ s. ap (λ (r : Row). r .bytes) (sym s)) (two-defaults (refusal 0 0 10 0) (refusal 0 2 10 0) rows c)
 
   length-listed : (lengthOf c k ≡ 0 → ⊥) → theirs c k (eqb c 208) ≡ lengthOf c k
   unfolding lengthOf
   length-listed h = listed (eqb c 208) h
 
-  unlisted : (b : Bool) → ours c k b ≡ 0 → (b ≡ false) × (rowOf c ≡ refusal 0 2 10)
+  unlisted : (b : Bool) → ours c k b ≡ 0 → (b ≡ false) × (rowOf c ≡ refusal 0 2 10 0)
   unfolding rowOf
   unlisted true h = absurd (omega (arith, mode-least k))
-  unlisted false h = (refl, ⊎-elim (λ d. d .1) (λ s. absurd (omega (arith, row-least c, ap (λ (r : Row). r .bytes) s))) (two-defaults (refusal 0 0 10) (refusal 0 2 10) rows c))
+  unlisted false h = (refl, ⊎-elim (λ d. d .1) (λ s. absurd (omega (arith, row-least c, ap (λ (r : Row). r .bytes) s))) (two-defaults (refusal 0 0 10 0) (refusal 0 2 10 0) rows c))
 
   -- a byte that is not in the list
-  pub length-none : lengthOf c k ≡ 0 → (eqb c 208 ≡ false) × (rowOf c ≡ refusal 0 2 10)
+  pub length-none : lengthOf c k ≡ 0 → (eqb c 208 ≡ false) × (rowOf c ≡ refusal 0 2 10 0)
   unfolding lengthOf
   length-none h = unlisted (eqb c 208) h
 

@@ -97,11 +97,11 @@ module _ (m : List ℕ) (at : ℕ) (s : Limits) (room : ℕ) (h : at < length m)
     escape-own : (n : ℕ) → 0 < n → decoded at (own n) ≡ whole at (own n)
     escape-own n l = decoded-sequence at (own n) (getD-take n rest 0 0 l ∙ escape)
 
-    pub reads-alone : length m - at < 2 → Reads (Refused 12) (length m - at)
+    pub reads-alone : length m - at < 2 → Reads (Refused 12 0) (length m - at)
     unfolding ended
     reads-alone l =
         let k : length rest < 2 = rw length-drop l in
-        reads-cut (Refused 12) (needed-alone rest k escape) (sym (ended-by rest 0 (List·getD-eq-default rest 0 {n = 1} (omega arith))))
+        reads-cut (Refused 12 0) (needed-alone rest k escape) (sym (ended-by rest 0 (List·getD-eq-default rest 0 {n = 1} (omega arith))))
 
     -- the third byte k, and the length n that the second and the third say
     module _ (k n : ℕ) (g : k ≡ getD m (at + 2) 0) (z : n ≡ lengthOf (getD m (at + 1) 0) k) (l : 2 ≤ length m - at) where
@@ -114,11 +114,11 @@ module _ (m : List ℕ) (at : ℕ) (s : Limits) (room : ℕ) (h : at < length m)
       says : said rest ≡ n
       says = rw (second, getD-drop at m 2 0, ← g) (sym z)
 
-      pub reads-unlisted : n ≡ 0 → Reads (Refused 10) 2
+      pub reads-unlisted : n ≡ 0 → Reads (Refused 10 0) 2
       unfolding allowed fitting
       reads-unlisted o =
           let t : lengthOf (getD (own 2) 1 0) (getD rest 2 0) ≡ 0 = rw (getD-take 2 rest 1 0 (omega arith)) (says ∙ o) in
-          reads-whole 2 (Refused 10) (Refused 10) (needed-unlisted rest two escape (says ∙ o)) (unlisted-own rest two escape (says ∙ o)) l
+          reads-whole 2 (Refused 10 0) (Refused 10 0) (needed-unlisted rest two escape (says ∙ o)) (unlisted-own rest two escape (says ∙ o)) l
           (escape-own 2 (omega arith) ∙ whole-unlisted at (own 2) (getD rest 2 0) t) refl
 
       module _ (o : n ≡ 0 → ⊥) (i : Item) where

@@ -12,7 +12,7 @@ sent bs n = getD bs (n + 1) 0
 
 -- the kind that a second byte makes, looked for in the list from row n on
 unfoldable pub kindFrom : ℕ → ℕ → Row
-kindFrom n c = find (refusal 0 2 10) (drop n rows) c
+kindFrom n c = find (refusal 0 2 10 0) (drop n rows) c
 
 -- what the bytes of a whole sequence are, its ESC at an offset of the message
 unfoldable pub whole : ℕ → List ℕ → Item

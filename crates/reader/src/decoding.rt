@@ -27,7 +27,7 @@ pub fn decode(own: &[u8], at: usize) -> Item
     }
 }
 
-// 208, by its mode byte; mode 3 is 14, any other 11.
+// 208, by its mode byte; mode 3 is 14, any other 11, itself the bad parameter.
 fn mode(own: &[u8]) -> Item
     ensures { λ r. ⌜ ((o : ℕ) → r ≡ modeRowOf (getD (now (own .entry)) 2 0) .made (sent (now (own .entry))) o) ⌝ }
 {
@@ -45,8 +45,14 @@ fn mode(own: &[u8]) -> Item
             columns: byte(own, 4),
             boundary: byte(own, 5),
         }),
-        3 => Item::Refused(14),
-        _ => Item::Refused(11),
+        3 => Item::Refused {
+            number: 14,
+            parameter: 0,
+        },
+        _ => Item::Refused {
+            number: 11,
+            parameter: 1,
+        },
     }
 }
 
@@ -192,6 +198,9 @@ fn longest(own: &[u8], at: usize, second: u8) -> Item
             p10: byte(own, 11),
             p11: byte(own, 12),
         }),
-        _ => Item::Refused(10),
+        _ => Item::Refused {
+            number: 10,
+            parameter: 0,
+        },
     }
 }

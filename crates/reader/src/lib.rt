@@ -55,7 +55,10 @@ fn read_sequence(limits: Limits, room: usize, message: &[u8], at: usize) -> Read
     let left = message.len() - at;
     if left < 2 {
         return Reading {
-            item: Item::Refused(12),
+            item: Item::Refused {
+                number: 12,
+                parameter: 0,
+            },
             length: left,
         };
     }
@@ -63,7 +66,10 @@ fn read_sequence(limits: Limits, room: usize, message: &[u8], at: usize) -> Read
     let length = tables::length_of(second, byte(message, at + 2));
     if length == 0 {
         return Reading {
-            item: Item::Refused(10),
+            item: Item::Refused {
+                number: 10,
+                parameter: 0,
+            },
             length: 2,
         };
     }
@@ -87,6 +93,9 @@ fn cut_short(second: u8) -> Item
     if second == 209 {
         Item::Sequence(Sequence::Select(0))
     } else {
-        Item::Refused(12)
+        Item::Refused {
+            number: 12,
+            parameter: 0,
+        }
     }
 }

@@ -89,11 +89,12 @@ pub fn play(
     }
 }
 
-// `K answer A taken T accepted C refused R first F at O printed P`.
+// `K answer A taken T accepted C refused R first F at O printed P parameter N`.
 fn say_line(number: u64, answer: Answer) {
     report::say_number(b"", number);
     report::say(b" ");
     report::say_answer(answer);
     report::say_number(b" printed ", answer.printed as u64);
+    report::say_byte(b" parameter ", answer.parameter);
     report::say(b"\n");
 }

@@ -21,4 +21,4 @@ unfolding applied applyItem
 no-sequence m (Printed b) st o = (refl, refl)
 no-sequence m (Control c) st o = (refl, refl)
 no-sequence m (Sequence q) st o = absurd (miss others 2 tt o)
-no-sequence m (Refused n) st o = (refl, refl)
+no-sequence m (Refused n p) st o = (refl, refl)

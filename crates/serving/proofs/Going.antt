@@ -32,19 +32,19 @@ counted-at : (i : Item) (n at : ℕ) (c : Counts) → counted i n at (answerAt a
 counted-at (Printed b) n at c = refl
 counted-at (Control b) n at c = refl
 counted-at (Sequence q) n at c = refl
-counted-at (Refused k) n at c = refl
+counted-at (Refused k p) n at c = refl
 
 printed-with : (i : Item) (at : ℕ) (c : Counts) → countsWith i at c .printed ≡ c .printed + printerBytes i
 printed-with (Printed b) at c = omega arith
 printed-with (Control b) at c = omega arith
 printed-with (Sequence q) at c = refl
-printed-with (Refused k) at c = omega arith
+printed-with (Refused k p) at c = omega arith
 
 counts-few : (i : Item) (at : ℕ) (c : Counts) → countsWith i at c .accepted + countsWith i at c .refused ≤ c .accepted + c .refused + 1
 counts-few (Printed b) at c = omega arith
 counts-few (Control b) at c = omega arith
 counts-few (Sequence q) at c = omega arith
-counts-few (Refused k) at c = omega arith
+counts-few (Refused k p) at c = omega arith
 
 -- the message m, what stood at first and the printer buffer as it came
 module _ (m : List ℕ) (first : State) (buffer : List ℕ) where

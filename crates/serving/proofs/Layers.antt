@@ -39,7 +39,7 @@ pub bare-other : (i : Item) (b : Bool) → OneOf (0 ∷ 3 ∷ []) (tagOf item-ty
 bare-other (Printed c) b z = refl
 bare-other (Control c) b z = absurd (miss (0 ∷ 3 ∷ []) 1 tt z)
 bare-other (Sequence q) b z = absurd (miss (0 ∷ 3 ∷ []) 2 tt z)
-bare-other (Refused n) b z = refl
+bare-other (Refused n p) b z = refl
 
 abbrev empty : List ℕ
 empty = replicate 1280 0
@@ -111,4 +111,4 @@ bare-left (Control c) b m st e h = go (eqb c 12) refl e
     go true k u = cleared-by c (eqb-true c 12 k)
     go false k u = h u .1 refl
 bare-left (Sequence q) b m st e h = left q b m st e h
-bare-left (Refused n) b m st e h = h e .0 refl
+bare-left (Refused n p) b m st e h = h e .0 refl

@@ -17,12 +17,12 @@ use Rattle.model.specs.declared.Limits.{Limits}
 use Rattle.model.specs.State.{State}
 use Rattle.model.specs.Picture.{copySize}
 use Rattle.model.specs.Sequences.{Row, codeOf, modeRowOf, modeRows, refusal, rowOf, rows}
-use Rattle.model.specs.Judging.{allowed, fitting, judged, legal?}
+use Rattle.model.specs.Judging.{allowed, badOf, fitting, judged, legal?}
 use Rattle.model.specs.Reading.{afterEscape, decoded, ended, itemOf, kindOf, needed, ownBytes, unfinished?}
 use Rattle.model.specs.Rules.{applyItem, printed}
 use Rattle.model.proofs.Loop.{own-some}
 use Rattle.model.proofs.Tests.{cond-at, differ, elim-at}
-use Rattle.reader.proofs.Found.{found}
+use Rattle.model.proofs.Gathering.{found}
 use Rattle.screen.specs.Run.{printedAll, prints?}
 use Rattle.serving.specs.Acting.{printed?}
 use Rattle.serving.specs.declared.Counts.{Counts}
@@ -68,8 +68,8 @@ made : (bs : List ℕ) (p : ℕ → ℕ) (o : ℕ) → printed? (kindOf bs .made
 unfolding kindOf rowOf modeRowOf
 made bs p o =
     elim-at (λ (r : Row). printed? (r .made p o) ≡ false) (eqb (getD bs 1 0) 208) (modeRowOf (getD bs 2 0)) (rowOf (getD bs 1 0))
-    (λ e. not-true _ (found (λ r. not (printed? (r .made p o))) (refusal 0 3 11) modeRows (getD bs 2 0) refl refl))
-    (λ e. not-true _ (found (λ r. not (printed? (r .made p o))) (refusal 0 2 10) rows (getD bs 1 0) refl refl))
+    (λ e. not-true _ (found (λ r. not (printed? (r .made p o))) (refusal 0 3 11 1) modeRows (getD bs 2 0) refl refl))
+    (λ e. not-true _ (found (λ r. not (printed? (r .made p o))) (refusal 0 2 10 0) rows (getD bs 1 0) refl refl))
 
 -- nor is what judging makes of it
 still-none : (i : Item) (s : Limits) (n : ℕ) → printed? i ≡ false → printed? (judged i s n) ≡ false
@@ -77,9 +77,9 @@ unfolding allowed fitting
 still-none (Printed c) s n h = h
 still-none (Control c) s n h = refl
 still-none (Sequence q) s n h =
-    cond-at (λ (i : Item). printed? (fitting i n) ≡ false) (legal? q s) (Sequence q) (Refused 11)
-    (λ e. cond-at (λ (i : Item). printed? i ≡ false) (eqb (codeOf q) 80 && ltb n copySize) (Refused 13) (Sequence q) (λ f. refl) (λ f. refl)) (λ e. refl)
-still-none (Refused k) s n h = refl
+    cond-at (λ (i : Item). printed? (fitting i n) ≡ false) (legal? q s) (Sequence q) (Refused 11 (badOf q s))
+    (λ e. cond-at (λ (i : Item). printed? i ≡ false) (eqb (codeOf q) 80 && ltb n copySize) (Refused 13 0) (Sequence q) (λ f. refl) (λ f. refl)) (λ e. refl)
+still-none (Refused k p) s n h = refl
 
 module _ (m : List ℕ) (at : ℕ) (more : at < length m) where
   abbrev bs : List ℕ
@@ -96,7 +96,7 @@ module _ (m : List ℕ) (at : ℕ) (more : at < length m) where
   unfolding itemOf ended decoded
   none l =
       elim-at None (unfinished? bs) (ended bs) (decoded at bs)
-      (λ e. elim-at None (eqb (getD bs 1 0) 209) (Sequence (Select 0)) (Refused 12) (λ e. refl) (λ e. refl))
+      (λ e. elim-at None (eqb (getD bs 1 0) 209) (Sequence (Select 0)) (Refused 12 0) (λ e. refl) (λ e. refl))
       (λ e. elim-at None (eqb (getD bs 0 0) 27) _ _ (λ e. made bs _ _)
       (λ e. elim-at None (ltb (getD bs 0 0) 32) (Control (getD bs 0 0)) (Printed (getD bs 0 0)) (λ e. refl) (λ f. absurd (omega (arith, ltb-false (getD bs 0 0) 32 f, first, l)))))
     where

@@ -55,27 +55,27 @@ stays-unprinted (Printed b) st h = refl
 stays-unprinted (Control c) st h = refl
 stays-unprinted (Sequence q) st h =
     cond-at (λ (l : List ℕ). l ≡ []) (eqb (codeOf q) 80) (copied st) [] (λ e. absurd (differ (sym h ∙ ap (λ (n : ℕ). member n onScreenCodes) (eqb-true (codeOf q) 80 e)))) (λ e. refl)
-stays-unprinted (Refused n) st h = refl
+stays-unprinted (Refused n p) st h = refl
 
 -- a printed byte counts nothing, and nothing more is known of the layer after it
 printed-counts : (i : Item) (at : ℕ) (c : Counts) → printed? i ≡ true → countsWith i at c ≡ c
 printed-counts (Printed b) at c h = refl
 printed-counts (Control d) at c h = absurd (differ (sym h))
 printed-counts (Sequence q) at c h = absurd (differ (sym h))
-printed-counts (Refused n) at c h = absurd (differ (sym h))
+printed-counts (Refused n p) at c h = absurd (differ (sym h))
 
 printed-bare : (i : Item) (b : Bool) → printed? i ≡ true → bareThen i b ≡ b
 printed-bare (Printed c) b h = refl
 printed-bare (Control c) b h = absurd (differ (sym h))
 printed-bare (Sequence q) b h = absurd (differ (sym h))
-printed-bare (Refused n) b h = absurd (differ (sym h))
+printed-bare (Refused n p) b h = absurd (differ (sym h))
 
 -- an item that does not stay is no printed byte
 away : (i : Item) → staysOnScreen? i ≡ false → printed? i ≡ false
 away (Printed b) h = h
 away (Control c) h = refl
 away (Sequence q) h = refl
-away (Refused n) h = refl
+away (Refused n p) h = refl
 
 -- a frame that says otherwise of the layer
 abbrev bared : Frame → Bool → Frame

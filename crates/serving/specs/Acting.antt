@@ -30,7 +30,7 @@ abbrev pub printed? : Item → Bool
 printed? (Printed b) = true
 printed? (Control c) = false
 printed? (Sequence q) = false
-printed? (Refused n) = false
+printed? (Refused n p) = false
 
 -- an item of the message m, at an offset, of so many bytes: its parameters are in their ranges, and a printed byte prints
 pub record Offered (m : List ℕ) (at size : ℕ) (i : Item) (l : Limits) : Type 0 where
@@ -60,7 +60,7 @@ abbrev pub bareThen : Item → Bool → Bool
 bareThen (Printed b) bare = bare
 bareThen (Control c) bare = eqb c 12 || bare
 bareThen (Sequence q) bare = cond (eqb (codeOf q) 210) false (member (codeOf q) emptying || bare)
-bareThen (Refused n) bare = bare
+bareThen (Refused n p) bare = bare
 
 -- what an item that does not stay does with the message m; one that stays is done already
 unfoldable pub applied : List ℕ → Item → State → State

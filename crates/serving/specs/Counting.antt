@@ -11,23 +11,23 @@ use Rattle.serving.specs.declared.Counts.{Counts}
 
 -- none yet
 abbrev pub noCounts : Counts
-noCounts = record { accepted = 0; refused = 0; first = 0; offset = 0; printed = 0 }
+noCounts = record { accepted = 0; refused = 0; first = 0; parameter = 0; offset = 0; printed = 0 }
 
 -- a sequence accepted, with so many printer bytes
 abbrev pub acceptedWith : ℕ → Counts → Counts
-acceptedWith n c = record { accepted = c .accepted + 1; refused = c .refused; first = c .first; offset = c .offset; printed = c .printed + n }
+acceptedWith n c = record { accepted = c .accepted + 1; refused = c .refused; first = c .first; parameter = c .parameter; offset = c .offset; printed = c .printed + n }
 
--- a refusal: "number and offset of the first refusal"
-abbrev pub refusedWith : ℕ → ℕ → Counts → Counts
-refusedWith n at c =
-    record { accepted = c .accepted; refused = c .refused + 1; first = cond (eqb (c .refused) 0) n (c .first); offset = cond (eqb (c .refused) 0) at (c .offset); printed = c .printed }
+-- a refusal: "number and offset of the first refusal", and the parameter that it names
+abbrev pub refusedWith : ℕ → ℕ → ℕ → Counts → Counts
+refusedWith n p at c =
+    record { accepted = c .accepted; refused = c .refused + 1; first = cond (eqb (c .refused) 0) n (c .first); parameter = cond (eqb (c .refused) 0) p (c .parameter); offset = cond (eqb (c .refused) 0) at (c .offset); printed = c .printed }
 
 -- one item more, at an offset
 abbrev pub countsWith : Item → ℕ → Counts → Counts
 countsWith (Printed b) at c = c
 countsWith (Control b) at c = c
 countsWith (Sequence q) at c = acceptedWith (printerBytes (Sequence q)) c
-countsWith (Refused n) at c = refusedWith n at c
+countsWith (Refused n p) at c = refusedWith n p at c
 
 -- the counts have room for one more
 pub record Countable (c : Counts) (i : Item) (at : ℕ) : Type 0 where
@@ -41,4 +41,4 @@ pub record Accepting (c : Counts) (copied : Bool) : Type 0 where
 
 -- the answer when so many bytes are taken
 abbrev pub answerAt : ℕ → Counts → Answer
-answerAt at c = record { number = 0; taken = at; accepted = c .accepted; refused = c .refused; first = c .first; offset = c .offset; printed = c .printed }
+answerAt at c = record { number = 0; taken = at; accepted = c .accepted; refused = c .refused; first = c .first; parameter = c .parameter; offset = c .offset; printed = c .printed }

@@ -42,7 +42,7 @@ pub(crate) fn stays(item: Item) -> bool
         Item::Printed(_) => true,
         Item::Control(_) => true,
         Item::Sequence(q) => screen::on_screen(q),
-        Item::Refused(_) => false,
+        Item::Refused { .. } => false,
     }
 }
 
@@ -73,7 +73,7 @@ pub(crate) fn act(
             place: screen::act(frame, place, q, cells, layer),
             at: next,
         },
-        Item::Refused(_) => Run { place, at: next },
+        Item::Refused { .. } => Run { place, at: next },
     }
 }
 

@@ -22,6 +22,7 @@ pub(crate) fn no_counts() -> Counts
         accepted: 0,
         refused: 0,
         first: 0,
+        parameter: 0,
         offset: 0,
         printed: 0,
     }
@@ -43,7 +44,7 @@ pub(crate) fn count(counts: Counts, item: Item, at: usize) -> Counts
         Item::Printed(_) => counts,
         Item::Control(_) => counts,
         Item::Sequence(q) => accept(counts, is_copy(q)),
-        Item::Refused(n) => refuse(counts, n, at as u32),
+        Item::Refused { number, parameter } => refuse(counts, number, parameter, at as u32),
     }
 }
 
@@ -60,16 +61,17 @@ fn accept(counts: Counts, copied: bool) -> Counts
     c
 }
 
-// A refusal, the first with its number and offset.
-fn refuse(counts: Counts, number: u8, at: u32) -> Counts
+// A refusal, the first with its number, the parameter that it names, and its offset.
+fn refuse(counts: Counts, number: u8, parameter: u8, at: u32) -> Counts
     requires { ⌜ counts .refused < 4096 ⌝ }
-    ensures { λ r. ⌜ r ≡ refusedWith number at counts ⌝ }
+    ensures { λ r. ⌜ r ≡ refusedWith number parameter at counts ⌝ }
 {
     if counts.refused == 0 {
         return Counts {
             accepted: counts.accepted,
             refused: 1,
             first: number,
+            parameter,
             offset: at,
             printed: counts.printed,
         };
@@ -78,6 +80,7 @@ fn refuse(counts: Counts, number: u8, at: u32) -> Counts
         accepted: counts.accepted,
         refused: counts.refused + 1,
         first: counts.first,
+        parameter: counts.parameter,
         offset: counts.offset,
         printed: counts.printed,
     }
@@ -94,6 +97,7 @@ pub(crate) fn answer_of(counts: Counts, taken: usize) -> Answer
         accepted: counts.accepted,
         refused: counts.refused,
         first: counts.first,
+        parameter: counts.parameter,
         offset: counts.offset,
         printed: counts.printed,
     }

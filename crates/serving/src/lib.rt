@@ -31,6 +31,7 @@ pub struct Counts {
     pub accepted: u32,
     pub refused: u32,
     pub first: u8,
+    pub parameter: u8,
     pub offset: u32,
     pub printed: usize,
 }

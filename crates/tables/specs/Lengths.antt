@@ -6,4 +6,4 @@ use Rattle.model.specs.Sequences.{find, modeRowOf, refusal, rows}
 
 -- by the second byte and, of 208, the mode byte; 0 where the list has none
 unfoldable pub lengthOf : ℕ → ℕ → ℕ
-lengthOf c k = cond (eqb c 208) (modeRowOf k .bytes) (find (refusal 0 0 10) rows c .bytes)
+lengthOf c k = cond (eqb c 208) (modeRowOf k .bytes) (find (refusal 0 0 10 0) rows c .bytes)

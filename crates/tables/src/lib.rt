@@ -48,7 +48,7 @@ pub fn length_of(second: u8, third: u8) -> usize
 
 // The lines of the list but for the last: an arm a line, its bytes in its order. 208 is in none of them.
 fn list_length(second: u8) -> usize
-    ensures { λ r. ⌜ r ≡ find (refusal 0 0 10) rows second .bytes ⌝ }
+    ensures { λ r. ⌜ r ≡ find (refusal 0 0 10 0) rows second .bytes ⌝ }
 {
     match second {
         // "2: 42, 50, 51, 80, 84, 89, 123, 125, 150, 151, 160 to 165, 176, 177, 212, 213, 215, 246"

@@ -48,6 +48,7 @@ pub(crate) fn refusal(number: u8) -> Answer
         accepted: 0,
         refused: 0,
         first: 0,
+        parameter: 0,
         offset: 0,
         printed: 0,
     }

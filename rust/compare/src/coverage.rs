@@ -2,6 +2,9 @@
 //! item by item, with the reference's reader; a class is seen by what stands
 //! before and after an item.
 
+mod parameters;
+
+use self::parameters::Parameters;
 use crate::generate::{mode_ranges, ranges, Call, FIELDS, SECONDS, SIZES, STORE_NAMES};
 use reference::apply::Standing;
 use reference::read::{read, Item};
@@ -68,6 +71,7 @@ pub struct Coverage {
     unsound: BTreeMap<&'static str, u64>,
     sizes: BTreeMap<String, u64>,
     ends: BTreeMap<(&'static str, u8, usize), u64>,
+    parameters: Parameters,
     cells: Vec<u8>,
     layer: Vec<u8>,
 }
@@ -125,6 +129,7 @@ impl Coverage {
             refused_by_11: JUDGED.iter().map(|&second| (second, 0)).collect(),
             unlisted: unlisted.map(|second| (second, 0)).collect(),
             unsound: FIELDS.iter().map(|&(name, _)| (name, 0)).collect(),
+            parameters: Parameters::new(),
             ..Coverage::default()
         };
         for &second in &SECONDS {
@@ -303,21 +308,25 @@ impl Coverage {
             printed: 0,
         };
         let mut offset = 0;
-        let mut refusals = 0;
+        let mut refusals = Vec::new();
         while offset < call.message.len() {
             let rest = &call.message[offset..];
             let (item, length) = read(rest, &standing.settings, call.room - standing.printed);
             let before = Before::of(&standing);
             standing.apply(&item);
-            if let Item::Refusal(number) = item {
+            if let Item::Refusal { number, parameter } = item {
                 self.refusal(number, rest, &before, standing.cells);
-                self.count_if(number == 14 && refusals > 0, "refused 14 later");
-                refusals += 1;
+                if number == 11 {
+                    self.parameters.refused(parameter, &rest[1..length], &before.settings);
+                }
+                self.count_if(number == 14 && !refusals.is_empty(), "refused 14 later");
+                refusals.push((number, parameter));
             } else {
                 self.item(&item, length, &before, &standing);
             }
             offset += length;
         }
+        self.parameters.several(&refusals);
         self.cells = cells;
         self.layer = layer;
     }
@@ -358,7 +367,7 @@ impl Coverage {
                 self.count_if(second == 209 && length == 2, "209 at the very end");
                 self.sequence(second, parameters, before, after);
             }
-            Item::Refusal(_) => {}
+            Item::Refusal { .. } => {}
         }
     }
 
@@ -562,6 +571,7 @@ impl Coverage {
             let sequence = if name < 3 { format!("208 mode {name}") } else { name.to_string() };
             lines.push((format!("range: {sequence}, parameter {at}, {end}"), count));
         }
+        lines.extend(self.parameters.lines());
         lines.extend(self.unsound.iter().map(|(name, &count)| (format!("unsound: {name}"), count)));
         lines.extend(self.sizes.iter().map(|(name, &count)| (format!("size: {name}"), count)));
         lines

@@ -406,11 +406,19 @@ pub fn mode_ranges(mode: u8, first: u8) -> Vec<(usize, usize)> {
     }
 }
 
-/// A parameter for each range; in one of four sequences one lies beyond.
+/// A parameter for each range; in one of four sequences one lies beyond, and
+/// in a third of these perhaps another.
 fn ranged(random: &mut Random, ranges: &[(usize, usize)], bytes: &mut Vec<u8>) {
-    let fault = if random.one_in(4) && !ranges.is_empty() { random.below(ranges.len()) } else { usize::MAX };
+    let mut faults = Vec::new();
+    if random.one_in(4) && !ranges.is_empty() {
+        faults.push(random.below(ranges.len()));
+        if random.one_in(3) {
+            faults.push(random.below(ranges.len()));
+        }
+    }
     for (at, &(low, high)) in ranges.iter().enumerate() {
-        bytes.push(if at == fault { outside(random, low, high) } else { inside(random, low, high) });
+        let bad = faults.contains(&at);
+        bytes.push(if bad { outside(random, low, high) } else { inside(random, low, high) });
     }
 }
 
@@ -438,7 +446,10 @@ fn mode_setting(random: &mut Random, belief: &mut Belief, bytes: &mut Vec<u8>) {
     let start = bytes.len();
     bytes.push(mode);
     ranged(random, &mode_ranges(mode, 8), bytes);
-    if mode == 0 && random.one_in(2) {
+    if mode == 0 && random.one_in(20) {
+        // both too few
+        bytes[start + 1..].copy_from_slice(&[random.byte() & 7, random.byte() & 7]);
+    } else if mode == 0 && random.one_in(2) {
         // to the sum's limit, or one beyond
         bytes[start + 2] = 48u8.wrapping_sub(bytes[start + 1]).wrapping_add(random.byte() & 1);
     }

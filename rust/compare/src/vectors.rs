@@ -14,11 +14,13 @@
 //!
 //! The text (`vectors`) has for each case, in order:
 //! - a line `case NAME`,
-//! - a line `K answer A taken T accepted C refused R first F at O printed P`
-//!   for each message, K from 1,
+//! - a line `K answer A taken T accepted C refused R first F at O printed P
+//!   parameter N` for each message, K from 1,
 //! - what stands after the last message: the settings' six lines, the line of
 //!   sums (Adler-32; printer: over the printer bytes of all messages of the
 //!   case) and the eight rows, as `replay` prints them.
+
+mod parameters;
 
 use crate::{Terminal, REFERENCE};
 use reference::text::{numbered_answer, record, Session, MESSAGE, REPLAY_ROOM};
@@ -67,6 +69,7 @@ pub fn cases() -> Vec<Case> {
     windows(&mut cases);
     wraps_and_lifts(&mut cases);
     what_else_shows(&mut cases);
+    parameters::cases(&mut cases);
     cases.0
 }
 

@@ -110,6 +110,7 @@ pub fn answer_from_board(answer: &px8::Answer) -> Answer {
         refused: answer.refused,
         first: answer.first,
         offset: answer.offset,
+        parameter: answer.parameter,
         printed: answer.printed,
     }
 }

@@ -28,7 +28,8 @@ pub const TOO_LONG: u8 = 2;
 pub const UNSOUND: u8 = 3;
 /// First refusal: the byte after ESC is not in the list.
 pub const NOT_LISTED: u8 = 10;
-/// First refusal: a parameter is outside its range.
+/// First refusal: a parameter is outside its range, or its sum with the one
+/// before is too large.
 pub const OUT_OF_RANGE: u8 = 11;
 /// First refusal: the message ends inside a sequence.
 pub const CUT: u8 = 12;
@@ -127,6 +128,10 @@ pub struct Answer {
     pub refused: u32,
     /// Number of the first refusal, 10 to 14; 0 if there is none.
     pub first: u8,
+    /// The first bad parameter of the first refusal, if that is
+    /// [`OUT_OF_RANGE`]: the byte after the sequence's second one is 1, and
+    /// where only the sum of two is too large it is the later. Else 0.
+    pub parameter: u8,
     /// Where its ESC stands in the message, from 0; 0 if there is none.
     pub offset: u32,
     /// Bytes of printed copies, a multiple of [`COPY`].
@@ -138,7 +143,59 @@ impl Answer {
     pub fn is_clean(&self) -> bool {
         self.number == SERVED && self.refused == 0
     }
+
+    /// The first refusal, if a sequence was refused.
+    ///
+    /// ```
+    /// let mut terminal = px8::Terminal::open();
+    /// // a cursor placing to line 24, column 81
+    /// let answer = terminal.message(&[65, 27, 61, 55, 112]).answer;
+    /// let refusal = answer.refusal().expect("column 81 is refused");
+    /// assert_eq!((refusal.number, refusal.parameter, refusal.offset), (px8::OUT_OF_RANGE, 2, 1));
+    /// let words = "parameter 2 is outside its range, or its sum with the one before is too large";
+    /// assert_eq!(refusal.to_string(), format!("refusal 11 at offset 1: {words}"));
+    /// assert_eq!(terminal.message(b"38,500").answer.refusal(), None);
+    /// ```
+    pub fn refusal(&self) -> Option<Refusal> {
+        let Answer { first: number, parameter, offset, .. } = *self;
+        (number != 0).then_some(Refusal { number, parameter, offset })
+    }
 }
+
+/// Why a sequence of a message was refused. It prints itself in words, and is
+/// an error that `?` can hand on.
+#[derive(Clone, Copy, Debug, PartialEq, Eq)]
+pub struct Refusal {
+    /// [`NOT_LISTED`], [`OUT_OF_RANGE`], [`CUT`], [`NO_ROOM`] or [`MODE_3`].
+    pub number: u8,
+    /// The first bad parameter, from 1, of [`OUT_OF_RANGE`]; else 0.
+    pub parameter: u8,
+    /// Where the sequence's ESC stands in the message, from 0.
+    pub offset: u32,
+}
+
+impl std::fmt::Display for Refusal {
+    fn fmt(&self, f: &mut std::fmt::Formatter) -> std::fmt::Result {
+        write!(f, "refusal {} at offset {}: ", self.number, self.offset)?;
+        match self.number {
+            NOT_LISTED => write!(f, "the byte after ESC is not in the list"),
+            OUT_OF_RANGE => {
+                write!(f, "parameter {} is outside its range", self.parameter)?;
+                match self.parameter {
+                    1 => Ok(()),
+                    _ => write!(f, ", or its sum with the one before is too large"),
+                }
+            }
+            CUT => write!(f, "the message ends inside the sequence"),
+            NO_ROOM => write!(f, "a copy needs {COPY} bytes of printer room, and fewer are left"),
+            MODE_3 => write!(f, "mode 3 is not served"),
+            // no answer has another number
+            _ => write!(f, "of an unknown number"),
+        }
+    }
+}
+
+impl std::error::Error for Refusal {}
 
 impl std::fmt::Display for Answer {
     /// The answer's line, as program `show` prints it.

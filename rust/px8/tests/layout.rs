@@ -51,6 +51,7 @@ fn answer() {
     assert_eq!(offset_of!(Answer, accepted), 8);
     assert_eq!(offset_of!(Answer, refused), 12);
     assert_eq!(offset_of!(Answer, first), 16);
+    assert_eq!(offset_of!(Answer, parameter), 17);
     assert_eq!(offset_of!(Answer, offset), 20);
     assert_eq!(offset_of!(Answer, printed), 24);
 }

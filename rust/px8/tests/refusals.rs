@@ -28,7 +28,8 @@ fn call(settings: Settings, message: &[u8], sizes: [usize; 4]) -> (Settings, Ans
 
 fn refused(settings: Settings, message: &[u8], sizes: [usize; 4], number: u8) {
     let (after, answer, unaltered) = call(settings, message, sizes);
-    let expected = Answer { number, taken: 0, accepted: 0, refused: 0, first: 0, offset: 0, printed: 0 };
+    let expected =
+        Answer { number, taken: 0, accepted: 0, refused: 0, first: 0, parameter: 0, offset: 0, printed: 0 };
     assert_eq!(answer, expected);
     assert_eq!(after, settings);
     assert!(unaltered);
@@ -133,6 +134,39 @@ fn refused_sequences() {
         assert_eq!((answer.number, answer.taken), (0, bytes.len() as u32), "{bytes:?}");
         assert_eq!((answer.refused, answer.first, answer.offset), (1, first, offset), "{bytes:?}");
     }
+}
+
+/// Each refusal's parameter, and how it prints itself.
+#[test]
+fn refusals_in_words() {
+    // said of every parameter but the first
+    let sum = ", or its sum with the one before is too large";
+    let rows: [(&[u8], u8, &str); 12] = [
+        (&[65, 27, 27], 0, "refusal 10 at offset 1: the byte after ESC is not in the list"),
+        (&[27, 61, 56, 112], 1, "refusal 11 at offset 0: parameter 1 is outside its range"),
+        (&[27, 61, 55, 112], 2, "refusal 11 at offset 0: parameter 2 is outside its range"),
+        (&[27, 144, 1, 24], 2, "refusal 11 at offset 0: parameter 2 is outside its range"),
+        (&[27, 144, 24, 0], 1, "refusal 11 at offset 0: parameter 1 is outside its range"),
+        (&[27, 208, 9], 1, "refusal 11 at offset 0: parameter 1 is outside its range"),
+        (&[27, 208, 0, 7, 255], 2, "refusal 11 at offset 0: parameter 2 is outside its range"),
+        (&[27, 208, 0, 255, 8], 3, "refusal 11 at offset 0: parameter 3 is outside its range"),
+        (&[65, 66, 27, 210, 8, 81, 0, 27, 27], 2, "refusal 11 at offset 2: parameter 2 is outside its range"),
+        (&[27, 208, 2, 99], 0, "refusal 12 at offset 0: the message ends inside the sequence"),
+        (&[27, 80], 0, "refusal 13 at offset 0: a copy needs 656 bytes of printer room, and fewer are left"),
+        (&[27, 208, 3], 0, "refusal 14 at offset 0: mode 3 is not served"),
+    ];
+    for (bytes, parameter, words) in rows {
+        let answer = Terminal::open().message_with_room(bytes, 655).answer;
+        assert_eq!(answer.parameter, parameter, "{bytes:?}");
+        let refusal = answer.refusal().expect("refused");
+        assert_eq!(
+            (refusal.number, refusal.parameter, refusal.offset),
+            (answer.first, parameter, answer.offset)
+        );
+        let end = if parameter > 1 { sum } else { "" };
+        assert_eq!(refusal.to_string(), format!("{words}{end}"));
+    }
+    assert_eq!(Terminal::open().message(&[27, 61, 55, 111]).answer.refusal(), None);
 }
 
 /// A served call writes the three stores and the copies, and nothing else.

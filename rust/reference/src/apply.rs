@@ -29,7 +29,7 @@ impl Standing<'_> {
             }
             Item::Code(code) => self.code(code),
             Item::Sequence { second, parameters } => self.sequence(second, parameters),
-            Item::Refusal(_) => {}
+            Item::Refusal { .. } => {}
         }
     }
 

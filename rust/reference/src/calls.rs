@@ -78,11 +78,12 @@ fn serve(standing: &mut Standing, message: &[u8]) -> Answer {
 fn count(answer: &mut Answer, item: &Item, offset: usize) {
     match *item {
         Item::Sequence { .. } => answer.accepted += 1,
-        Item::Refusal(number) => {
+        Item::Refusal { number, parameter } => {
             answer.refused += 1;
             if answer.first == 0 {
                 answer.first = number;
                 answer.offset = offset as u32;
+                answer.parameter = parameter;
             }
         }
         Item::Printed(_) | Item::Code(_) => {}

@@ -14,8 +14,17 @@ pub enum Item<'a> {
         second: u8,
         parameters: &'a [u8],
     },
-    /// A refused sequence: its number, 10 to 14.
-    Refusal(u8),
+    /// A refused sequence: its number, 10 to 14, and its first bad parameter,
+    /// counted from 1 after the second byte; "for all other numbers it is 0".
+    Refusal {
+        number: u8,
+        parameter: u8,
+    },
+}
+
+/// A refusal that names no parameter.
+fn refusal<'a>(number: u8) -> Item<'a> {
+    Item::Refusal { number, parameter: 0 }
 }
 
 /// The first item of `rest` (which is not empty) and its bytes. `room` is
@@ -31,28 +40,28 @@ pub fn read<'a>(rest: &'a [u8], settings: &Settings, room: usize) -> (Item<'a>, 
 /// "Sequences are checked 10, 12, 14, 11, 13."
 fn read_sequence<'a>(rest: &'a [u8], settings: &Settings, room: usize) -> (Item<'a>, usize) {
     if rest.len() == 1 {
-        return (Item::Refusal(12), 1);
+        return (refusal(12), 1);
     }
     let second = rest[1];
     let Some(length) = length(second, rest.get(2).copied()) else {
-        return (Item::Refusal(10), 2);
+        return (refusal(10), 2);
     };
     // "At the very end of a message, 27, 209 means n = 0."
     if second == 209 && rest.len() == 2 {
         return (Item::Sequence { second, parameters: &[0] }, 2);
     }
     if rest.len() < length {
-        return (Item::Refusal(12), rest.len());
+        return (refusal(12), rest.len());
     }
     let parameters = &rest[2..length];
     if second == 208 && parameters[0] == 3 {
-        return (Item::Refusal(14), length);
+        return (refusal(14), length);
     }
-    if !in_range(second, parameters, settings) {
-        return (Item::Refusal(11), length);
+    if let Some(parameter) = first_bad(second, parameters, settings) {
+        return (Item::Refusal { number: 11, parameter }, length);
     }
     if second == 80 && room < COPY {
-        return (Item::Refusal(13), length);
+        return (refusal(13), length);
     }
     (Item::Sequence { second, parameters }, length)
 }
@@ -79,40 +88,56 @@ pub fn length(second: u8, mode: Option<u8>) -> Option<usize> {
     }
 }
 
-/// Whether every parameter is in its range, on the selected screen.
-fn in_range(second: u8, parameters: &[u8], settings: &Settings) -> bool {
+/// The first parameter that is out of its range on the selected screen,
+/// counted from 1 after the second byte; none if all are good.
+fn first_bad(second: u8, parameters: &[u8], settings: &Settings) -> Option<u8> {
     let screen = usize::from(settings.selected);
     let lines = settings.lines(screen);
     let number = |at: usize| usize::from(parameters[at]);
     match second {
         // "bytes m+31, n+31; m 1 to R, n 1 to columns"
-        61 => {
-            (32..=lines + 31).contains(&number(0))
-                && (32..=settings.columns(screen) + 31).contains(&number(1))
-        }
-        67 => CHARSETS.contains(&parameters[0]),
+        61 => named(&[
+            (32..=lines + 31).contains(&number(0)),
+            (32..=settings.columns(screen) + 31).contains(&number(1)),
+        ]),
+        67 => named(&[CHARSETS.contains(&parameters[0])]),
         // "a 0 to R−1, m 1 to R, a+m at most R"
-        144 | 145 => number(0) < lines && (1..=lines).contains(&number(1)) && number(0) + number(1) <= lines,
-        148 => (1..=settings.height()).contains(&number(0)),
-        149 | 209 | 211 | 240 => number(0) <= 1,
-        208 => mode_in_range(parameters),
-        210 => (1..=8).contains(&number(0)) && (1..=80).contains(&number(1)),
-        214 => number(0) <= 3,
-        224 => (224..=254).contains(&number(0)),
-        241 | 242 => (1..=127).contains(&number(0)),
-        247 => SHIFTS.contains(&parameters[0]),
+        144 | 145 => {
+            let sum = number(0) + number(1) <= lines;
+            named(&[number(0) < lines, (1..=lines).contains(&number(1)) && sum])
+        }
+        148 => named(&[(1..=settings.height()).contains(&number(0))]),
+        149 | 209 | 211 | 240 => named(&[number(0) <= 1]),
+        208 => first_bad_of_mode(parameters),
+        210 => named(&[(1..=8).contains(&number(0)), (1..=80).contains(&number(1))]),
+        214 => named(&[number(0) <= 3]),
+        224 => named(&[(224..=254).contains(&number(0))]),
+        241 | 242 => named(&[(1..=127).contains(&number(0))]),
+        247 => named(&[SHIFTS.contains(&parameters[0])]),
         // no parameters, or "not judged", or 0 to 255
-        _ => true,
+        _ => None,
     }
 }
 
-/// The table of modes, for the bytes after 27, 208.
-fn mode_in_range(parameters: &[u8]) -> bool {
+/// The table of modes, for the bytes after 27, 208: the mode byte is the
+/// first parameter.
+fn first_bad_of_mode(parameters: &[u8]) -> Option<u8> {
     let number = |at: usize| usize::from(parameters[at]);
     match parameters[0] {
-        0 => number(1) >= 8 && number(2) >= 8 && number(1) + number(2) <= 48,
-        1 => (16..=48).contains(&number(1)),
-        2 => (8..=48).contains(&number(1)) && (1..=78).contains(&number(2)),
-        _ => false,
+        0 => {
+            let total = number(1) + number(2) <= 48;
+            named(&[true, number(1) >= 8, number(2) >= 8 && total])
+        }
+        1 => named(&[true, (16..=48).contains(&number(1))]),
+        2 => named(&[true, (8..=48).contains(&number(1)), (1..=78).contains(&number(2))]),
+        _ => named(&[false]),
     }
+}
+
+/// The number of the first parameter that is not good. "Where only the sum
+/// of two fails (208 mode 0, 144, 145) it is the later one", so a sum is
+/// judged together with the later one.
+fn named(good: &[bool]) -> Option<u8> {
+    let at = good.iter().position(|&good| !good)?;
+    Some(at as u8 + 1)
 }

@@ -75,6 +75,8 @@ pub struct Answer {
     pub first: u8,
     /// offset of the first refusal, 0 if none
     pub offset: u32,
+    /// first bad parameter of the first refusal, 0 unless its number is 11
+    pub parameter: u8,
     pub printed: usize,
 }
 

@@ -107,9 +107,10 @@ pub fn answer_text(answer: &Answer) -> String {
     )
 }
 
-/// A message's line in a replay.
+/// A message's line in a replay, where the parameter stands last.
 pub fn numbered_answer(number: usize, answer: &Answer) -> String {
-    format!("{number} {} printed {}\n", answer_text(answer), answer.printed)
+    let Answer { printed, parameter, .. } = answer;
+    format!("{number} {} printed {printed} parameter {parameter}\n", answer_text(answer))
 }
 
 pub fn settings_text(s: &Settings) -> String {

@@ -435,8 +435,8 @@ fn record(kind: u16, body: &[u8]) -> Vec<u8> {
 fn replay_of_good_records() {
     let text = replay(&[record(1, b"AB"), record(1, &[27, 80, 27, 80, 27, 80])].concat());
     let lines: Vec<&str> = text.lines().collect();
-    assert_eq!(lines[0], "1 answer 0 taken 2 accepted 0 refused 0 first 0 at 0 printed 0");
-    assert_eq!(lines[1], "2 answer 0 taken 6 accepted 2 refused 1 first 13 at 4 printed 1312");
+    assert_eq!(lines[0], "1 answer 0 taken 2 accepted 0 refused 0 first 0 at 0 printed 0 parameter 0");
+    assert_eq!(lines[1], "2 answer 0 taken 6 accepted 2 refused 1 first 13 at 4 printed 1312 parameter 0");
     assert_eq!(lines[2], "mode 0 lines 24 24 columns 80 80 selected 1");
     assert_eq!(lines[3], "screen 1 line 1 column 3 top 1");
     assert_eq!(lines[5], "tracking 1 step 1 cursor 1 type 0 boundary 32 secret 0 leds 0 0 0 set 85");

@@ -43,11 +43,35 @@ fn within(byte: u8, low: usize, high: usize) -> bool {
     usize::from(byte) >= low && usize::from(byte) <= high
 }
 
+/// Which of two parameters is the first that does not fit, 0 if both do.
+fn earlier(one: bool, two: bool) -> u8 {
+    match (one, two) {
+        (false, _) => 1,
+        (_, false) => 2,
+        _ => 0,
+    }
+}
+
+/// The same of a mode setting, whose mode byte stands before the others.
+fn misfit_of_mode(p: &[u8]) -> u8 {
+    let after = match p[0] {
+        0 => earlier(p[1] >= 8, p[2] >= 8 && u32::from(p[1]) + u32::from(p[2]) <= 48),
+        1 => earlier(within(p[1], 16, 48), true),
+        2 => earlier(within(p[1], 8, 48), within(p[2], 1, 78)),
+        _ => return 1,
+    };
+    if after == 0 {
+        0
+    } else {
+        after + 1
+    }
+}
+
 impl Engine<'_> {
     /// Serves the sequence at `at` and returns its bytes.
     pub fn escape(&mut self, message: &[u8], at: usize, answer: &mut Answer) -> usize {
         let rest = &message[at..];
-        let (number, length) = self.judge(rest);
+        let (number, parameter, length) = self.judge(rest);
         if number == 0 {
             answer.accepted += 1;
             // 27, 209 at the very end stands for 27, 209, 0.
@@ -57,56 +81,62 @@ impl Engine<'_> {
             if answer.refused == 0 {
                 answer.first = number;
                 answer.offset = at as u32;
+                answer.parameter = parameter;
             }
             answer.refused += 1;
         }
         length
     }
 
-    /// 0 or the refusal's number, and the bytes.
-    fn judge(&self, rest: &[u8]) -> (u8, usize) {
+    /// 0 or the refusal's number, 0 or the bad parameter, and the bytes.
+    fn judge(&self, rest: &[u8]) -> (u8, u8, usize) {
         let Some(&second) = rest.get(1) else {
-            return (12, 1);
+            return (12, 0, 1);
         };
         let mut length = usize::from(LENGTHS[usize::from(second)]);
         if length == 0 {
-            return (10, 2);
+            return (10, 0, 2);
         }
         if rest.len() == 2 && second == 209 {
-            return (0, 2);
+            return (0, 0, 2);
         }
         if second == 208 && rest.len() > 2 {
             length = [5, 4, 6, 3][usize::from(rest[2].min(3))];
         }
         if rest.len() < length {
-            return (12, rest.len());
+            return (12, 0, rest.len());
         }
-        let number = match second {
-            208 if rest[2] == 3 => 14,
-            80 if self.printer.len() - self.printed < 656 => 13,
-            _ if self.fits(second, &rest[2..length]) => 0,
-            _ => 11,
+        let (number, parameter) = match second {
+            208 if rest[2] == 3 => (14, 0),
+            80 if self.printer.len() - self.printed < 656 => (13, 0),
+            _ => match self.misfit(second, &rest[2..length]) {
+                0 => (0, 0),
+                parameter => (11, parameter),
+            },
         };
-        (number, length)
+        (number, parameter, length)
     }
 
-    fn fits(&self, second: u8, p: &[u8]) -> bool {
+    /// The first parameter that does not fit, 0 if all do.
+    fn misfit(&self, second: u8, p: &[u8]) -> u8 {
         match second {
-            61 => within(p[0], 32, self.lines + 31) && within(p[1], 32, self.columns + 31),
-            67 => is_charset(p[0]),
+            61 => earlier(within(p[0], 32, self.lines + 31), within(p[1], 32, self.columns + 31)),
             144 | 145 => {
                 let (a, m) = (usize::from(p[0]), usize::from(p[1]));
-                m > 0 && a + m <= self.lines
+                earlier(a < self.lines, m > 0 && a + m <= self.lines)
             }
+            208 => misfit_of_mode(p),
+            210 => earlier(within(p[0], 1, 8), within(p[1], 1, 80)),
+            _ => u8::from(!self.fits(second, p)),
+        }
+    }
+
+    /// The sequences of which the first parameter alone is judged.
+    fn fits(&self, second: u8, p: &[u8]) -> bool {
+        match second {
+            67 => is_charset(p[0]),
             148 => within(p[0], 1, self.height),
             149 | 209 | 211 | 240 => p[0] < 2,
-            208 => match p[0] {
-                0 => within(p[1], 8, 40) && within(p[2], 8, 48 - usize::from(p[1])),
-                1 => within(p[1], 16, 48),
-                2 => within(p[1], 8, 48) && within(p[2], 1, 78),
-                _ => false,
-            },
-            210 => within(p[0], 1, 8) && within(p[1], 1, 80),
             214 => p[0] < 4,
             224 => within(p[0], 224, 254),
             241 | 242 => within(p[0], 1, 127),

@@ -14,4 +14,4 @@ mode-length-spec =
     (λ c. rw (c .match .keys2))
     (λ c. rw (c .match .keys3))
     (λ c. rw (c .match .keys4))
-    (λ c. rw (find-past (Unit {0}) (refusal 0 3 11) modeRows [] _ (c .match .rest))))
+    (λ c. rw (find-past (Unit {0}) (refusal 0 3 11 1) modeRows [] _ (c .match .rest))))

@@ -21,4 +21,4 @@ mode-spec =
     (λ c o. simp (← c .before .before .byte .ensures, c .before .match .keys2, c .byte4 .ensures))
     (λ c o. simp (← c .before .before .before .before .byte .ensures, c .before .before .before .match .keys3, c .before .before .byte5 .ensures, c .before .byte6 .ensures, c .byte7 .ensures))
     (λ c o. simp (← c .before .byte .ensures, c .match .keys4))
-    (λ c o. simp (← c .before .byte .ensures, find-past (Unit {0}) (refusal 0 3 11) modeRows [] _ (c .match .rest))))
+    (λ c o. simp (← c .before .byte .ensures, find-past (Unit {0}) (refusal 0 3 11 1) modeRows [] _ (c .match .rest))))

@@ -1,18 +1,6 @@
-//! Deliberately broken copies of the reference. Each is the reference's own
-//! text with one passage replaced; the build writes the copies, and fails
-//! if a passage does not stand exactly once in its file.
+//! Document 01: what a copy could get wrong of its rules.
 
-pub struct Break {
-    pub name: &'static str,
-    /// file of the reference's sources
-    pub file: &'static str,
-    pub old: &'static str,
-    pub new: &'static str,
-}
-
-const fn entry(name: &'static str, file: &'static str, old: &'static str, new: &'static str) -> Break {
-    Break { name, file, old, new }
-}
+use super::{entry, Break};
 
 #[rustfmt::skip]
 pub const BREAKS: &[Break] = &[
@@ -28,14 +16,14 @@ pub const BREAKS: &[Break] = &[
     entry("refused-208-blanks-the-screen", "calls.rs",
         "standing.apply(&item);",
         "standing.apply(&item);
-        if matches!(item, Item::Refusal(_)) && message.get(offset + 1) == Some(&208) {
+        if matches!(item, Item::Refusal { .. }) && message.get(offset + 1) == Some(&208) {
             standing.cells.fill(BLANK);
         }"),
     entry("escape-in-a-parameter-starts-a-sequence", "read.rs",
         "let parameters = &rest[2..length];",
         "let parameters = &rest[2..length];
         if let Some(at) = parameters.iter().position(|&byte| byte == ESC) {
-            return (Item::Refusal(12), 2 + at);
+            return (refusal(12), 2 + at);
         }"),
     entry("209-at-the-end-refused-by-12", "read.rs",
         "if second == 209 && rest.len() == 2 {",
@@ -60,8 +48,8 @@ pub const BREAKS: &[Break] = &[
             room[at] ^= 1;
         }"),
     entry("13-judged-before-11", "read.rs",
-        "return (Item::Refusal(11), length);",
-        "return (Item::Refusal(if room < COPY { 13 } else { 11 }), length);"),
+        "return (Item::Refusal { number: 11, parameter }, length);",
+        "return (if room < COPY { refusal(13) } else { Item::Refusal { number: 11, parameter } }, length);"),
     entry("offset-of-the-last-refusal", "calls.rs",
         "if answer.first == 0 {",
         "answer.offset = offset as u32;
@@ -96,12 +84,12 @@ pub const BREAKS: &[Break] = &[
         }",
         "settings.boundary = if p[0] == 2 { p[3] } else { BLANK };"),
     entry("11-judged-before-12", "read.rs",
-        "return (Item::Refusal(12), rest.len());",
+        "return (refusal(12), rest.len());",
         "let bad = second == 61 && rest.get(2).is_some_and(|&byte| byte < 32);
-        return (Item::Refusal(if bad { 11 } else { 12 }), rest.len());"),
+        return (if bad { Item::Refusal { number: 11, parameter: 1 } } else { refusal(12) }, rest.len());"),
     entry("148-takes-one-beyond-the-height", "read.rs",
-        "148 => (1..=settings.height()).contains(&number(0)),",
-        "148 => (1..=settings.height() + 1).contains(&number(0)),"),
+        "148 => named(&[(1..=settings.height()).contains(&number(0))]),",
+        "148 => named(&[(1..=settings.height() + 1).contains(&number(0))]),"),
     entry("unsound-columns-of-mode-0-taken", "sound.rs",
         "columns == (80, 80)",
         "columns.0 == 80"),

@@ -1,0 +1,15 @@
+-- `reader::judging::two_screens` meets its contract: its tests are those of the mode's checks.
+use borrow.Author.Needs.{needs}
+use Rattle.model.specs.Checks.{passes}
+use Rattle.reader.proofs.JudgingLaws.{two-behind}
+use Rattle.reader.proofs.judging.two_screens.Statement.{statement}
+use Rattle.reader.proofs.judging.two_screens.Tie as tie
+
+pub two-screens-spec : {M : Type 1} → statement M
+unfolding passes
+two-screens-spec =
+    tie.close
+    (tie.spec
+    (λ c. search needs)
+    (λ c κs. search needs)
+    (λ c s. rw (c .of-two .ensures) (two-behind _ _)))

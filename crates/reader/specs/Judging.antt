@@ -1,0 +1,16 @@
+-- Document 01, 11, and document 02, P10: what the code finds of a sequence's parameters.
+use mathlib.Core.Path.{_≡_}
+use Prim.Native.Nat.{ℕ}
+use mathlib.Core.Bool.{Bool, false}
+use mathlib.Core.List.{List}
+use Rattle.model.specs.Checks.{Check, firstBad, inRanges?}
+use Rattle.reader.specs.declared.judging.Verdict.{Verdict}
+
+-- a verdict from its parts
+abbrev pub verdict : Bool → ℕ → Verdict
+verdict b n = record { good = b; parameter = n }
+
+-- it is good exactly if all checks pass; if it is not, its parameter is the number of the first that fails
+pub record Finds (cs : List Check) (v : Verdict) : Type 0 where
+  pub passed : v .good ≡ inRanges? cs
+  pub first : v .good ≡ false → v .parameter ≡ firstBad 1 cs

@@ -1,0 +1,24 @@
+//! Deliberately broken copies of the reference. Each is the reference's own
+//! text with one passage replaced; the build writes the copies, and fails
+//! if a passage does not stand exactly once in its file.
+//!
+//! - `scope`: document 01
+//! - `parameters`: which parameter a refusal names
+
+mod parameters;
+mod scope;
+
+pub struct Break {
+    pub name: &'static str,
+    /// file of the reference's sources
+    pub file: &'static str,
+    pub old: &'static str,
+    pub new: &'static str,
+}
+
+const fn entry(name: &'static str, file: &'static str, old: &'static str, new: &'static str) -> Break {
+    Break { name, file, old, new }
+}
+
+/// The broken copies of the terminal.
+pub const BREAKS: &[&[Break]] = &[scope::BREAKS, parameters::BREAKS];
