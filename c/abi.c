@@ -344,6 +344,51 @@ static void empty_buffers(void)
     check(a.refused == 1 && a.first == PX8_NO_ROOM && a.printed == 0, "empty: a copy refused");
 }
 
+static int is_record(px8_difference d, int row, int column, int first, int second)
+{
+    return d.row == row && d.column == column && d.first == first && d.second == second;
+}
+
+/* Two screens that differ in the last place of row 1, in the first of row 2 and in the last of all. */
+static void compared(void)
+{
+    static uint8_t one[PX8_SHOWN + 1], other[PX8_SHOWN + 1];
+    static px8_difference list[9], before[9];
+    px8_compared c;
+    px8_first f;
+    memset(one, 32, sizeof one);
+    memset(other, 32, sizeof other);
+    memset(list, 77, sizeof list);
+    memcpy(before, list, sizeof list);
+    f = px8_first_difference(one, PX8_SHOWN, other, PX8_SHOWN);
+    check(f.number == PX8_SERVED && f.found == 0 && is_record(f.difference, 0, 0, 0, 0), "compare: none");
+    c = px8_compare(one, PX8_SHOWN, other, PX8_SHOWN, NULL, 0);
+    check(c.number == PX8_SERVED && c.count == 0, "compare: equal screens, an empty list");
+    c = px8_compare(one, PX8_SHOWN, one, PX8_SHOWN, list, 9);
+    check(c.number == PX8_SERVED && c.count == 0 && memcmp(list, before, sizeof list) == 0, "compare: a screen and itself");
+    one[PX8_AT(1, 80)] = 1;
+    other[PX8_AT(2, 1)] = 255;
+    other[PX8_AT(8, 80)] = 65;
+    f = px8_first_difference(one, PX8_SHOWN, other, PX8_SHOWN);
+    check(f.number == PX8_SERVED && f.found == 1 && is_record(f.difference, 1, 80, 1, 32), "compare: the first");
+    c = px8_compare(one, PX8_SHOWN, other, PX8_SHOWN, list, 2);
+    check(c.number == PX8_LIST_SHORT && c.count == 0 && memcmp(list, before, sizeof list) == 0, "compare: refused, list too short");
+    c = px8_compare(one, PX8_SHOWN, other, PX8_SHOWN, list, 3);
+    check(c.number == PX8_SERVED && c.count == 3, "compare: a list just long enough");
+    memcpy(list, before, sizeof list);
+    c = px8_compare(one, PX8_SHOWN, other, PX8_SHOWN, list, 9);
+    check(c.number == PX8_SERVED && c.count == 3, "compare: count");
+    check(is_record(list[0], 1, 80, 1, 32) && is_record(list[1], 2, 1, 32, 255) && is_record(list[2], 8, 80, 32, 65), "compare: records");
+    check(memcmp(list + 3, before + 3, sizeof list - 3 * sizeof list[0]) == 0, "compare: the list beyond stays");
+    memcpy(list, before, sizeof list);
+    c = px8_compare(one, PX8_SHOWN - 1, other, PX8_SHOWN, list, 0);
+    check(c.number == PX8_STORE_SIZE && c.count == 0, "compare: refused, 1 before 18");
+    c = px8_compare(one, PX8_SHOWN, other, PX8_SHOWN + 1, list, 9);
+    check(c.number == PX8_STORE_SIZE && c.count == 0 && memcmp(list, before, sizeof list) == 0, "compare: refused, the second screen");
+    f = px8_first_difference(one, PX8_SHOWN, NULL, 0);
+    check(f.number == PX8_STORE_SIZE && f.found == 0 && is_record(f.difference, 0, 0, 0, 0), "compare: first refused, null and 0");
+}
+
 int main(void)
 {
     opening();
@@ -358,6 +403,7 @@ int main(void)
     refused_openings();
     refused_messages();
     empty_buffers();
+    compared();
     printf("%d passed, %d failed\n", passed, failed);
     return failed != 0;
 }

@@ -3,11 +3,16 @@
  *
  * The library takes the byte stream that programs write for the Epson PX-8
  * and keeps two virtual screens, a shown screen of 8 rows by 80 and, on
- * request, a printed copy of it. There are three calls:
+ * request, a printed copy of it. There are these calls:
  *
  *   px8_opening   makes the stores ready and gives the opening settings
  *   px8_message   reads one message and brings everything up to date
  *   px8_printed   how many bytes of a printer buffer to send on
+ *
+ * and, beside them, two that lay one shown screen beside another:
+ *
+ *   px8_compare            a record for each place that differs
+ *   px8_first_difference   only the first of them
  *
  * What the caller keeps. The library allocates nothing, keeps no state of its
  * own and does no input or output. Settings are a plain value that goes in and
@@ -71,6 +76,10 @@ extern "C" {
 #define PX8_STORE_SIZE 1 /* cells, layer or shown screen are not of their size */
 #define PX8_TOO_LONG 2   /* the message is longer than PX8_MESSAGE_MOST */
 #define PX8_UNSOUND 3    /* a setting is outside its range (see px8_settings) */
+
+/* px8_compare and px8_first_difference know 0 and 1 (a screen is not of its
+ * size), and px8_compare, after 1: */
+#define PX8_LIST_SHORT 18 /* more places differ than the list has records */
 
 /* The number of the first refused sequence of a message that was served. A
  * refused sequence is skipped, and changes nothing but the counts and the
@@ -248,6 +257,25 @@ typedef struct px8_opened {
     uint8_t number; /* PX8_SERVED or PX8_STORE_SIZE */
 } px8_opened;
 
+/* A place where two shown screens differ. */
+typedef struct px8_difference {
+    uint8_t row;    /* 1 to 8 */
+    uint8_t column; /* 1 to 80 */
+    uint8_t first;  /* the first screen's code there */
+    uint8_t second; /* the second screen's; never the same */
+} px8_difference;
+
+typedef struct px8_compared {
+    uint8_t number; /* PX8_SERVED, PX8_STORE_SIZE or PX8_LIST_SHORT */
+    size_t count;   /* records written, 0 to 640; 0 if refused */
+} px8_compared;
+
+typedef struct px8_first {
+    uint8_t number;            /* PX8_SERVED or PX8_STORE_SIZE */
+    uint8_t found;             /* 1 if the screens differ, else 0; 0 if refused */
+    px8_difference difference; /* the first; four zeros if found is 0 */
+} px8_first;
+
 /* ---- calls ---- */
 
 /*
@@ -297,6 +325,28 @@ px8_outcome px8_message(px8_settings settings,
  * count is larger than the length. It refuses nothing and writes nothing.
  */
 size_t px8_printed(const uint8_t *buffer, size_t length, size_t count);
+
+/*
+ * Compares two shown screens: writes a record for each place that differs, each
+ * once and nothing else, by rows from the left, from the list's start. The list
+ * beyond them stays. list_length counts records, not bytes; PX8_PLACES is
+ * always enough. The two screens may be one and the same.
+ *
+ * Refused with 1 unless both lengths are PX8_SHOWN; else with 18 exactly when
+ * more places differ than list_length. A refused call counts 0, and no record
+ * of the list is altered.
+ */
+px8_compared px8_compare(const uint8_t *first, size_t first_length,
+                         const uint8_t *second, size_t second_length,
+                         px8_difference *list, size_t list_length);
+
+/*
+ * Only the first difference, by rows from the left; found is 0 exactly when
+ * the screens are equal or the call is refused. Refused with 1 unless both
+ * lengths are PX8_SHOWN.
+ */
+px8_first px8_first_difference(const uint8_t *first, size_t first_length,
+                               const uint8_t *second, size_t second_length);
 
 #ifdef __cplusplus
 }
@@ -358,6 +408,21 @@ PX8_HOLDS(offsetof(px8_answer, printed) == 24);
 PX8_HOLDS(sizeof(px8_outcome) == 320);
 PX8_HOLDS(offsetof(px8_outcome, settings) == 0);
 PX8_HOLDS(offsetof(px8_outcome, answer) == 288);
+
+PX8_HOLDS(sizeof(px8_difference) == 4);
+PX8_HOLDS(offsetof(px8_difference, row) == 0);
+PX8_HOLDS(offsetof(px8_difference, column) == 1);
+PX8_HOLDS(offsetof(px8_difference, first) == 2);
+PX8_HOLDS(offsetof(px8_difference, second) == 3);
+
+PX8_HOLDS(sizeof(px8_compared) == 16);
+PX8_HOLDS(offsetof(px8_compared, number) == 0);
+PX8_HOLDS(offsetof(px8_compared, count) == 8);
+
+PX8_HOLDS(sizeof(px8_first) == 6);
+PX8_HOLDS(offsetof(px8_first, number) == 0);
+PX8_HOLDS(offsetof(px8_first, found) == 1);
+PX8_HOLDS(offsetof(px8_first, difference) == 2);
 
 PX8_HOLDS(sizeof(px8_opened) == 289);
 PX8_HOLDS(offsetof(px8_opened, settings) == 0);

@@ -32,6 +32,15 @@ static void *message(void *unused) {
     return unused;
 }
 
+/* every place differs */
+static void *compare(void *unused) {
+    static px8_difference list[PX8_PLACES];
+    static uint8_t other[PX8_SHOWN];
+    memset(shown, 32, sizeof shown);
+    if (px8_compare(shown, sizeof shown, other, sizeof other, list, PX8_PLACES).count != PX8_PLACES) abort();
+    return unused;
+}
+
 /* the bytes of a stack that a call touched */
 static size_t used(void *(*call)(void *)) {
     pthread_t thread;
@@ -52,6 +61,7 @@ int main(void) {
     size_t thread = used(nothing);
     size_t open = used(opening) - thread;
     size_t serve = used(message) - thread;
-    printf("opening %zu\nmessage %zu\n", open, serve);
-    return open <= MOST && serve <= MOST ? 0 : 1;
+    size_t lay = used(compare) - thread;
+    printf("opening %zu\nmessage %zu\ncompare %zu\n", open, serve, lay);
+    return open <= MOST && serve <= MOST && lay <= MOST ? 0 : 1;
 }

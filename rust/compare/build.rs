@@ -4,50 +4,83 @@
 #[path = "src/breaks/mod.rs"]
 mod breaks;
 
-use breaks::{Break, BREAKS};
+use breaks::{Break, BREAKS, SCREENS};
 use std::fmt::Write;
 use std::path::{Path, PathBuf};
 
-const FILES: [&str; 5] = ["read", "sound", "picture", "apply", "calls"];
+/// A part of the reference that is copied whole, and its calls.
+struct Part {
+    name: &'static str,
+    breaks: &'static [&'static [Break]],
+    /// the list of its broken copies
+    list: &'static str,
+    shared: &'static [&'static str],
+    files: &'static [&'static str],
+    /// the file with the calls, and the calls
+    calls: (&'static str, &'static [&'static str]),
+}
+
+const PARTS: [Part; 2] = [
+    Part {
+        name: "terminal",
+        breaks: BREAKS,
+        list: "BROKEN: &[Functions]",
+        shared: &["settings"],
+        files: &["read", "sound", "picture", "apply", "calls"],
+        calls: ("calls", &["opening", "message", "printed"]),
+    },
+    Part {
+        name: "screens",
+        breaks: SCREENS,
+        list: "BROKEN_SCREENS: &[screens::Functions]",
+        shared: &["settings"],
+        files: &["differences"],
+        calls: ("differences", &["compare", "first_difference"]),
+    },
+];
 
 fn main() {
     let here = PathBuf::from(std::env::var("CARGO_MANIFEST_DIR").unwrap());
     let sources = here.join("../reference/src");
     println!("cargo:rerun-if-changed=src/breaks");
     println!("cargo:rerun-if-changed={}", sources.display());
-    let mut text = String::new();
-    let mut list = String::from("pub const BROKEN: &[Functions] = &[\n");
-    for (number, change) in BREAKS.iter().copied().flatten().enumerate() {
-        text += &copy(number, change, &sources);
-        list += &entry(number, change.name);
-    }
-    text += &list;
-    text += "];\n";
+    let text: String = PARTS.iter().map(|part| copies(part, &sources)).collect();
     let target = PathBuf::from(std::env::var("OUT_DIR").unwrap());
     std::fs::write(target.join("broken.rs"), text).unwrap();
 }
 
-/// The copy's three calls in the list of broken copies.
-fn entry(number: usize, name: &str) -> String {
-    let calls = ["opening", "message", "printed"]
-        .map(|call| format!("{call}: copy_{number}::calls::{call}"))
-        .join(", ");
-    format!("    Functions {{ name: {name:?}, {calls} }},\n")
+/// A module for each broken copy of a part, and the list of them.
+fn copies(part: &Part, sources: &Path) -> String {
+    let mut text = String::new();
+    let mut list = format!("pub const {} = &[\n", part.list);
+    let kind = part.list.split_once("&[").unwrap().1.trim_end_matches(']');
+    for (number, change) in part.breaks.iter().copied().flatten().enumerate() {
+        let module = format!("{}_{number}", part.name);
+        text += &copy(&module, part, change, sources);
+        let (file, calls) = part.calls;
+        let calls = calls.iter().map(|call| format!("{call}: {module}::{file}::{call}"));
+        let calls = calls.collect::<Vec<_>>().join(", ");
+        writeln!(list, "    {kind} {{ name: {:?}, {calls} }},", change.name).unwrap();
+    }
+    text + &list + "];\n"
 }
 
-/// The reference's modules inside a module of their own, one passage changed.
-fn copy(number: usize, change: &Break, sources: &Path) -> String {
-    let mut text = String::from("#[allow(dead_code, unused)]\n");
-    writeln!(text, "pub mod copy_{number} {{\npub use reference::settings;").unwrap();
-    for file in FILES {
+/// The part's files inside a module of their own, one passage changed.
+fn copy(module: &str, part: &Part, change: &Break, sources: &Path) -> String {
+    let mut text = format!("#[allow(dead_code, unused)]\npub mod {module} {{\n");
+    for shared in part.shared {
+        writeln!(text, "pub use reference::{shared};").unwrap();
+    }
+    let mut changed = 0;
+    for file in part.files {
         let name = format!("{file}.rs");
         let mut source = std::fs::read_to_string(sources.join(&name)).unwrap();
         if change.file == name {
-            let found = source.matches(change.old).count();
-            assert_eq!(found, 1, "break {}: its passage must stand once in {name}", change.name);
+            changed += source.matches(change.old).count();
             source = source.replace(change.old, change.new);
         }
         writeln!(text, "pub mod {file} {{\n{source}\n}}").unwrap();
     }
+    assert_eq!(changed, 1, "break {}: its passage must stand once in {}", change.name, change.file);
     text + "}\n"
 }

@@ -4,6 +4,10 @@ ghost use mathlib.Core.Path.{_≡_};
 ghost use lib.ListN.{length};
 ghost use Rattle.model.specs.Calls.{Promised, called, terminal};
 ghost use Rattle.model.specs.Opening.{OpeningPromised, firstPart};
+ghost use Rattle.differences.specs.Answers.{ComparePromised, firstOf, valuesOf};
+use differences::Compared;
+use differences::Difference;
+use differences::FirstValues;
 use model::Opened;
 use model::Outcome;
 use model::Settings;
@@ -36,4 +40,21 @@ pub extern "C" fn px8_printed(buffer: &[u8], count: usize) -> usize
 {
     let part = terminal::printed(buffer, count);
     part.len()
+}
+
+// Document 02, P4: a record for each place where two shown screens differ.
+#[no_mangle]
+pub extern "C" fn px8_compare(first: &[u8], second: &[u8], list: &mut [Difference]) -> Compared
+    ensures { λ r. ⌜ ComparePromised (now (first .entry)) (now (second .entry)) (now (list .entry)) r (now (list .exit)) ⌝ }
+{
+    differences::compare(first, second, list)
+}
+
+// Only the first of them, in numbers: an enum cannot be returned to C.
+#[no_mangle]
+pub extern "C" fn px8_first_difference(first: &[u8], second: &[u8]) -> FirstValues
+    ensures { λ r. ⌜ r ≡ valuesOf (firstOf (now (first .entry)) (now (second .entry))) ⌝ }
+{
+    let found = differences::first_difference(first, second);
+    differences::values(found)
 }

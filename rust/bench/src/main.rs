@@ -26,6 +26,8 @@
 //! - Messages have just the length in the name. There are 64 of them for each
 //!   line (16 of 4,096 bytes), sent in turn.
 //!
+//! The lines of two screens side by side say their input in `screens`.
+//!
 //! A run sends them often enough to last some milliseconds. Each run starts
 //! from the same settings and stores; within a run nothing is cleared. The
 //! sides take turns, and the best of the runs counts for each. At the end of
@@ -39,6 +41,7 @@
 //! `mixed`, nor modes 1 and 2. Its runs are as long in time, not in messages.
 
 mod input;
+mod screens;
 mod side;
 #[cfg_attr(not(vterm), path = "no_vterm.rs")]
 mod vterm;
@@ -64,6 +67,9 @@ fn main() -> ExitCode {
     let word = std::env::args().nth(1).unwrap_or_default();
     for case in all_cases().iter().filter(|case| case.name().contains(&word)) {
         println!("{}", line(case));
+    }
+    for (name, [ours, plain]) in screens::lines(&word) {
+        println!("bench {name} ours {ours:.1} plain {plain:.1} ratio {:.2}", ours / plain);
     }
     ExitCode::SUCCESS
 }

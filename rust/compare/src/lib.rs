@@ -1,5 +1,6 @@
-//! Comparison of two implementations of document 01 on random lists of
-//! calls. An implementation is anything behind `Terminal`.
+//! Comparison of two implementations of documents 01 and 02 on random lists
+//! of calls. An implementation is anything behind `Terminal`; the tools of
+//! document 02 that stand beside it have a trait each.
 //!
 //! - `random`: the seeded source of numbers
 //! - `generate`: starts, settings, messages and calls
@@ -8,13 +9,17 @@
 //! - `report`: a whole comparison with its words, for a program's main
 //! - `breaks`: deliberately broken copies, to show that the lists find them
 //! - `vectors`: the named cases
+//! - `screens`: the comparison of two screens, with a trait of its own
+//! - `classes`: counts by name
 
 pub mod breaks;
+pub mod classes;
 pub mod coverage;
 pub mod generate;
 pub mod play;
 pub mod random;
 pub mod report;
+pub mod screens;
 pub mod vectors;
 
 use reference::{Answer, Settings};

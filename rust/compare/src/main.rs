@@ -1,28 +1,33 @@
 //! `compare [--calls N] [--seed S] [--list L]`: the reference against the
-//! tuned version on random lists of calls.
+//! tuned version on random lists of calls; with `--screens` on pairs of
+//! screens.
 //! `compare --breaks`: how soon each broken copy is found.
 
 use compare::play::{run, Plan};
-use compare::report::{command_line, compare};
-use compare::{Functions, Terminal, BROKEN, REFERENCE, TUNED};
+use compare::report::{command_line, compare, compare_screens, Options, Subject};
+use compare::{screens, Functions, Terminal, BROKEN, BROKEN_SCREENS, REFERENCE, TUNED};
 use reference::{Answer, Settings};
 use std::panic::{catch_unwind, AssertUnwindSafe};
 use std::process::ExitCode;
 
 fn main() -> ExitCode {
     let Some(options) = command_line() else {
-        eprintln!("usage: compare [--calls N] [--seed S] [--list L] [--breaks]");
+        eprintln!("usage: compare [--calls N] [--seed S] [--list L] [--screens] [--breaks]");
         return ExitCode::from(2);
     };
-    let good = if options.breaks {
-        breaks(&options.plan)
-    } else {
-        compare(&mut { REFERENCE }, &mut { TUNED }, &options)
-    };
+    let good = if options.breaks { breaks(&options.plan) } else { versions(&options) };
     if good {
         ExitCode::SUCCESS
     } else {
         ExitCode::FAILURE
+    }
+}
+
+/// The reference against the tuned version.
+fn versions(options: &Options) -> bool {
+    match options.subject {
+        Subject::Lists => compare(&mut { REFERENCE }, &mut { TUNED }, options),
+        Subject::Screens => compare_screens(&mut { screens::REFERENCE }, &mut { screens::TUNED }, options),
     }
 }
 
@@ -61,16 +66,34 @@ impl Terminal for Guarded {
 fn breaks(plan: &Plan) -> bool {
     std::panic::set_hook(Box::new(|_| {}));
     let plan = Plan { progress: 0, ..*plan };
-    let mut missed = 0;
-    for &broken in BROKEN {
-        match run(&mut { REFERENCE }, &mut Guarded(broken), None, &plan) {
-            Err(difference) => println!("break {} found after {} calls", broken.name, difference.calls),
-            Ok(calls) => {
-                println!("break {} NOT found in {calls} calls", broken.name);
-                missed += 1;
-            }
-        }
+    let lists = BROKEN.iter().map(|&broken| {
+        let found = run(&mut { REFERENCE }, &mut Guarded(broken), None, &plan);
+        told(broken.name, found.err().map(|difference| format!("after {} calls", difference.calls)))
+    });
+    let screens = BROKEN_SCREENS.iter().map(|&broken| {
+        let mut classes = screens::classes();
+        let call = || screens::run(&mut { screens::REFERENCE }, &mut { broken }, &mut classes, &plan);
+        told(broken.name, tool_break(call))
+    });
+    let found: Vec<bool> = lists.chain(screens).collect();
+    let good = found.iter().filter(|&&found| found).count();
+    println!("breaks: {good} of {} found", found.len());
+    good == found.len()
+}
+
+/// Where a broken copy of a tool was found; to fall is to be found too.
+fn tool_break(call: impl FnOnce() -> Result<u64, String>) -> Option<String> {
+    match catch_unwind(AssertUnwindSafe(call)) {
+        Ok(Ok(_)) => None,
+        Ok(Err(what)) => Some(format!("by {}", what.replace('\n', ", "))),
+        Err(_) => Some("by its fall".to_string()),
     }
-    println!("breaks: {} of {} found", BROKEN.len() - missed, BROKEN.len());
-    missed == 0
+}
+
+fn told(name: &str, found: Option<String>) -> bool {
+    match &found {
+        Some(how) => println!("break {name} found {how}"),
+        None => println!("break {name} NOT found"),
+    }
+    found.is_some()
 }

@@ -4,10 +4,21 @@
 
 use crate::coverage::Coverage;
 use crate::play::{run, Plan};
+use crate::screens::{self, Screens};
 use crate::Terminal;
+
+/// What is compared.
+#[derive(Clone, Copy, PartialEq, Eq)]
+pub enum Subject {
+    /// lists of calls of a terminal
+    Lists,
+    /// pairs of screens
+    Screens,
+}
 
 pub struct Options {
     pub plan: Plan,
+    pub subject: Subject,
     pub breaks: bool,
     /// a list was asked for by number: classes are then not judged
     pub one_list: bool,
@@ -16,7 +27,7 @@ pub struct Options {
 /// The options given to the program; none if they are not understood.
 pub fn command_line() -> Option<Options> {
     let plan = Plan { seed: 1, calls: 200_000, list: 0, progress: 25_000 };
-    let mut options = Options { plan, breaks: false, one_list: false };
+    let mut options = Options { plan, subject: Subject::Lists, breaks: false, one_list: false };
     let mut words = std::env::args().skip(1);
     while let Some(word) = words.next() {
         match word.as_str() {
@@ -26,6 +37,7 @@ pub fn command_line() -> Option<Options> {
                 options.plan.list = words.next()?.parse().ok()?;
                 options.one_list = true;
             }
+            "--screens" => options.subject = Subject::Screens,
             "--breaks" => options.breaks = true,
             _ => return None,
         }
@@ -33,31 +45,45 @@ pub fn command_line() -> Option<Options> {
     Some(options)
 }
 
-/// Compares two implementations; good if no difference is found and every
-/// class is reached.
+/// Compares two terminals; good if no difference is found and every class is
+/// reached.
 pub fn compare(left: &mut dyn Terminal, right: &mut dyn Terminal, options: &Options) -> bool {
     println!("compare: {} and {}, seed {}", left.name(), right.name(), options.plan.seed);
     let mut coverage = Coverage::new();
-    let calls = match run(left, right, Some(&mut coverage), &options.plan) {
-        Ok(calls) => calls,
+    let outcome = run(left, right, Some(&mut coverage), &options.plan);
+    verdict("calls", outcome.map_err(|difference| difference.to_string()), &coverage.lines(), options)
+}
+
+/// The same of the comparison of two screens.
+pub fn compare_screens(left: &mut dyn Screens, right: &mut dyn Screens, options: &Options) -> bool {
+    println!("compare: screens, {} and {}, seed {}", left.name(), right.name(), options.plan.seed);
+    let mut classes = screens::classes();
+    let outcome = screens::examples(left, right, &mut classes)
+        .and_then(|_| screens::run(left, right, &mut classes, &options.plan));
+    verdict("pairs of screens", outcome, &classes.lines(), options)
+}
+
+/// Prints what a comparison found and what it reached.
+fn verdict(what: &str, outcome: Result<u64, String>, lines: &[(String, u64)], options: &Options) -> bool {
+    let count = match outcome {
+        Ok(count) => count,
         Err(difference) => {
             println!("{difference}");
             return false;
         }
     };
-    let missed = if options.one_list { 0 } else { print_coverage(&coverage) };
+    let missed = if options.one_list { 0 } else { print_coverage(lines) };
     if missed > 0 {
-        println!("compare: {calls} calls, no difference, but {missed} classes never reached");
+        println!("compare: {count} {what}, no difference, but {missed} classes never reached");
         return false;
     }
-    println!("compare: {calls} calls, no difference");
+    println!("compare: {count} {what}, no difference");
     true
 }
 
 /// Prints the counts, and returns how many classes were never reached.
-fn print_coverage(coverage: &Coverage) -> usize {
-    let lines = coverage.lines();
-    for (name, count) in &lines {
+fn print_coverage(lines: &[(String, u64)]) -> usize {
+    for (name, count) in lines {
         println!("{count:>9} {name}");
     }
     let missed = lines.iter().filter(|(_, count)| *count == 0);

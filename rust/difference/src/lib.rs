@@ -1,8 +1,10 @@
 //! The proved library behind `compare::Terminal`, so that it is compared
 //! with the reference like any other implementation.
 
+use compare::screens::Screens;
 use compare::vectors::{play, play_on, recording, Case};
 use compare::Terminal;
+use reference::differences::Record;
 use reference::{Answer, Keys, Place, Settings};
 
 /// The archive's three calls. The types of both sides have the same fields;
@@ -36,6 +38,39 @@ impl Terminal for Board {
     fn printed<'a>(&mut self, buffer: &'a [u8], count: usize) -> &'a [u8] {
         px8::printed(buffer, count)
     }
+}
+
+impl Screens for Board {
+    fn name(&self) -> &str {
+        "board"
+    }
+
+    fn compare(&mut self, first: &[u8], second: &[u8], list: &mut [Record]) -> (u8, usize) {
+        let mut records: Vec<px8::Difference> = list.iter().map(record_to_board).collect();
+        let answer = match px8::compare(first, second, &mut records) {
+            Ok(count) => (0, count),
+            Err(number) => (number, 0),
+        };
+        for (record, board) in list.iter_mut().zip(&records) {
+            *record = record_from_board(board);
+        }
+        answer
+    }
+
+    fn first_difference(&mut self, first: &[u8], second: &[u8]) -> (u8, Option<Record>) {
+        match px8::first_difference(first, second) {
+            Ok(found) => (0, found.as_ref().map(record_from_board)),
+            Err(number) => (number, None),
+        }
+    }
+}
+
+fn record_to_board(r: &Record) -> px8::Difference {
+    px8::Difference { row: r.row, column: r.column, first: r.first, second: r.second }
+}
+
+fn record_from_board(d: &px8::Difference) -> Record {
+    Record { row: d.row, column: d.column, first: d.first, second: d.second }
 }
 
 pub fn settings_to_board(s: &Settings) -> px8::Settings {

@@ -1,10 +1,11 @@
 //! `difference [--calls N] [--seed S] [--list L]`: the proved library
-//! against the reference on random lists of calls.
+//! against the reference on random lists of calls; with `--screens` on pairs
+//! of screens.
 //! `difference --vectors`: the same on the named cases.
 
-use compare::report::{command_line, compare};
+use compare::report::{command_line, compare, compare_screens, Subject};
 use compare::vectors::cases;
-use compare::REFERENCE;
+use compare::{screens, REFERENCE};
 use difference::{case_difference, Board};
 use std::process::ExitCode;
 
@@ -14,10 +15,13 @@ fn main() -> ExitCode {
     } else {
         let options = command_line().filter(|options| !options.breaks);
         let Some(options) = options else {
-            eprintln!("usage: difference [--calls N] [--seed S] [--list L] | --vectors");
+            eprintln!("usage: difference [--calls N] [--seed S] [--list L] [--screens] | --vectors");
             return ExitCode::from(2);
         };
-        compare(&mut { REFERENCE }, &mut Board, &options)
+        match options.subject {
+            Subject::Lists => compare(&mut { REFERENCE }, &mut Board, &options),
+            Subject::Screens => compare_screens(&mut { screens::REFERENCE }, &mut Board, &options),
+        }
     };
     if good {
         ExitCode::SUCCESS

@@ -3,7 +3,8 @@
 //!
 //! [`Terminal`] owns its stores and is what most programs want. [`opening`],
 //! [`message`] and [`printed`] are the library's own three calls, on slices
-//! of any length; a wrong length is a refusal and never a fault.
+//! of any length; a wrong length is a refusal and never a fault. [`compare`],
+//! [`first_difference`] and [`differences`] lay two shown screens side by side.
 //!
 //! The archive is looked for in the repository's `target/staticlib`, or in
 //! the folder named by the environment variable `PX8_LIB_DIR`.
@@ -19,9 +20,11 @@
 //! ```
 
 mod calls;
+mod screens;
 mod terminal;
 mod types;
 
 pub use calls::{message, opening, printed};
+pub use screens::{compare, differences, first_difference};
 pub use terminal::{Reply, Terminal};
 pub use types::*;

@@ -26,6 +26,8 @@ pub const STORE_SIZE: u8 = 1;
 pub const TOO_LONG: u8 = 2;
 /// A setting is outside its range; the whole call is refused.
 pub const UNSOUND: u8 = 3;
+/// More places differ than the list has records; the whole call is refused.
+pub const LIST_SHORT: u8 = 18;
 /// First refusal: the byte after ESC is not in the list.
 pub const NOT_LISTED: u8 = 10;
 /// First refusal: a parameter is outside its range, or its sum with the one
@@ -203,4 +205,18 @@ impl std::fmt::Display for Answer {
         write!(f, "answer {} taken {} accepted {} ", self.number, self.taken, self.accepted)?;
         write!(f, "refused {} first {} at {}", self.refused, self.first, self.offset)
     }
+}
+
+/// A place where two shown screens differ.
+#[repr(C)]
+#[derive(Clone, Copy, Debug, Default, PartialEq, Eq)]
+pub struct Difference {
+    /// 1 to 8.
+    pub row: u8,
+    /// 1 to 80.
+    pub column: u8,
+    /// The first screen's code there.
+    pub first: u8,
+    /// The second screen's.
+    pub second: u8,
 }

@@ -9,11 +9,13 @@
 //! - `calls`: the three calls
 //! - `text`: the words of the programs `show` and `replay`
 //! - `lengths`: the words of the program `lengths`
+//! - `differences`: two screens compared, and the words of `compare`
 
 #![forbid(unsafe_code)]
 
 pub mod apply;
 pub mod calls;
+pub mod differences;
 pub mod lengths;
 pub mod picture;
 pub mod read;

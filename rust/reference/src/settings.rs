@@ -80,6 +80,16 @@ pub struct Answer {
     pub printed: usize,
 }
 
+/// A place where two screens differ (document 02, P4): "row, column, first
+/// code, second code". Rows and columns count from 1, as document 01's do.
+#[derive(Clone, Copy, Debug, PartialEq, Eq)]
+pub struct Record {
+    pub row: u8,
+    pub column: u8,
+    pub first: u8,
+    pub second: u8,
+}
+
 pub const HOME: Place = Place { line: 1, column: 1, top: 1 };
 
 /// "Opening settings (house rule)".

@@ -7,6 +7,7 @@
 #![forbid(unsafe_code)]
 
 mod engine;
+pub mod screens;
 mod sequences;
 
 use engine::{Engine, Stores};

@@ -4,9 +4,11 @@
 //!
 //! - `scope`: document 01
 //! - `parameters`: which parameter a refusal names
+//! - `screens`: the comparison of two screens
 
 mod parameters;
 mod scope;
+mod screens;
 
 pub struct Break {
     pub name: &'static str,
@@ -22,3 +24,6 @@ const fn entry(name: &'static str, file: &'static str, old: &'static str, new: &
 
 /// The broken copies of the terminal.
 pub const BREAKS: &[&[Break]] = &[scope::BREAKS, parameters::BREAKS];
+
+/// The broken copies of the comparison of two screens.
+pub const SCREENS: &[&[Break]] = &[screens::BREAKS];

@@ -1,0 +1,5 @@
+pub mod Laws
+pub mod Reaching
+pub mod Storing
+pub mod Claimed
+pub mod Shown

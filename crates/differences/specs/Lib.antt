@@ -1,0 +1,4 @@
+pub mod Differences
+pub mod Answers
+pub mod Claims
+pub mod Examples

@@ -1,0 +1,112 @@
+//! Two shown screens side by side (document 02, P4): the boundary to the
+//! archive, with the unsafe code that it needs.
+
+use crate::types::{Difference, SHOWN};
+
+#[repr(C)]
+struct Compared {
+    number: u8,
+    count: usize,
+}
+
+#[repr(C)]
+struct First {
+    number: u8,
+    found: u8,
+    difference: Difference,
+}
+
+extern "C" {
+    fn px8_compare(
+        first: *const u8,
+        first_length: usize,
+        second: *const u8,
+        second_length: usize,
+        list: *mut Difference,
+        list_length: usize,
+    ) -> Compared;
+
+    fn px8_first_difference(
+        first: *const u8,
+        first_length: usize,
+        second: *const u8,
+        second_length: usize,
+    ) -> First;
+}
+
+/// Writes a record for each place that differs, by rows, from the list's
+/// start, and gives their number; the list beyond stays. The error is the
+/// refusal's number, 1 (a screen is not of its size) or 18 (more places
+/// differ than the list has records), and the list is then untouched.
+///
+/// ```
+/// let (one, mut other) = ([32; px8::SHOWN], [32; px8::SHOWN]);
+/// (other[79], other[80]) = (65, 66);
+/// let mut list = [px8::Difference::default(); 3];
+/// assert_eq!(px8::compare(&one, &other, &mut list), Ok(2));
+/// assert_eq!((list[0].row, list[0].column, list[0].second), (1, 80, 65));
+/// assert_eq!((list[1].row, list[1].column, list[1].second), (2, 1, 66));
+/// assert_eq!(px8::compare(&one, &other, &mut list[..1]), Err(px8::LIST_SHORT));
+/// assert_eq!(px8::compare(&one, &other[1..], &mut []), Err(px8::STORE_SIZE));
+/// ```
+pub fn compare(first: &[u8], second: &[u8], list: &mut [Difference]) -> Result<usize, u8> {
+    // SAFETY: each pointer goes with its own length, an exclusive borrow
+    // overlaps no other, and any bytes make a record. The call keeps no pointer.
+    let compared = unsafe {
+        px8_compare(first.as_ptr(), first.len(), second.as_ptr(), second.len(), list.as_mut_ptr(), list.len())
+    };
+    match compared.number {
+        0 => Ok(compared.count),
+        number => Err(number),
+    }
+}
+
+/// Only the first difference, or none exactly when the screens are equal. The
+/// error is 1: a screen is not of its size.
+///
+/// ```
+/// let (one, mut other) = ([32; px8::SHOWN], [32; px8::SHOWN]);
+/// assert_eq!(px8::first_difference(&one, &other), Ok(None));
+/// other[81] = 65;
+/// let there = px8::Difference { row: 2, column: 2, first: 32, second: 65 };
+/// assert_eq!(px8::first_difference(&one, &other), Ok(Some(there)));
+/// assert_eq!(px8::first_difference(&one[1..], &other), Err(px8::STORE_SIZE));
+/// ```
+pub fn first_difference(first: &[u8], second: &[u8]) -> Result<Option<Difference>, u8> {
+    // SAFETY: each pointer goes with its own length, and is only read.
+    let answer = unsafe { px8_first_difference(first.as_ptr(), first.len(), second.as_ptr(), second.len()) };
+    match (answer.number, answer.found) {
+        (0, 0) => Ok(None),
+        (0, _) => Ok(Some(answer.difference)),
+        (number, _) => Err(number),
+    }
+}
+
+/// All differences of two shown screens, by rows.
+///
+/// ```
+/// let (one, mut other) = ([32; px8::SHOWN], [32; px8::SHOWN]);
+/// (other[0], other[639]) = (65, 66);
+/// let places: Vec<_> = px8::differences(&one, &other).map(|d| (d.row, d.column)).collect();
+/// assert_eq!(places, [(1, 1), (8, 80)]);
+/// ```
+pub fn differences(first: &[u8; SHOWN], second: &[u8; SHOWN]) -> impl ExactSizeIterator<Item = Difference> {
+    let mut list = vec![Difference::default(); SHOWN];
+    let count = compare(first, second, &mut list).expect("two screens, and a record for each place");
+    list.truncate(count);
+    list.into_iter()
+}
+
+#[cfg(test)]
+mod tests {
+    use super::*;
+    use std::mem::{align_of, offset_of, size_of};
+
+    #[test]
+    fn results_are_laid_out_as_in_the_header() {
+        assert_eq!((size_of::<Difference>(), align_of::<Difference>()), (4, 1));
+        assert_eq!((size_of::<Compared>(), offset_of!(Compared, count)), (16, 8));
+        assert_eq!((size_of::<First>(), align_of::<First>()), (6, 1));
+        assert_eq!((offset_of!(First, found), offset_of!(First, difference)), (1, 2));
+    }
+}
