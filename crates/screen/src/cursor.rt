@@ -5,6 +5,7 @@ use super::marks;
 use super::places;
 use super::wide;
 use model::Place;
+use model::SHOWN;
 ghost use mathlib.Core.Path.{_≡_};
 ghost use Prim.Native.Nat.{_-_, max};
 ghost use Rattle.model.specs.Rules.{stored, down, right};
@@ -19,7 +20,7 @@ pub(crate) fn shown(frame: Frame, place: Place) -> usize
     ensures { λ r. ⌜ Reads shownHere frame place r ⌝ }
 {
     if place.line < place.top {
-        return 640;
+        return SHOWN;
     }
     let row = place.line - place.top;
     if row < frame.rows {
@@ -28,7 +29,7 @@ pub(crate) fn shown(frame: Frame, place: Place) -> usize
     if row < frame.height {
         return wide(row - frame.rows) * 80 + wide(place.column) + 40;
     }
-    640
+    SHOWN
 }
 
 // "Printing stores the byte, empties the layer at the place where the picture shows that cell."

@@ -1,6 +1,7 @@
 // The layer over the picture: emptied whole, at a place, or at places in a row. What is known to be empty is left.
 use super::Frame;
 use super::least;
+use model::SHOWN;
 ghost use mathlib.Core.Path.{_≡_};
 ghost use Prim.Native.Nat.{_+_, _≤_};
 ghost use lib.ListN.{length, replicate};
@@ -28,9 +29,9 @@ pub(crate) fn empty_at(frame: Frame, shown: usize, layer: &mut [u8])
     if frame.bare {
         return;
     }
-    if shown < 640 {
+    if shown < SHOWN {
         layer[shown] = 0;
-        layer[640 + shown] = 0;
+        layer[SHOWN + shown] = 0;
     }
 }
 
@@ -42,10 +43,10 @@ pub(crate) fn empty_from(frame: Frame, shown: usize, count: usize, layer: &mut [
     if frame.bare {
         return;
     }
-    if shown < 640 {
-        let n = least(count, 640 - shown);
+    if shown < SHOWN {
+        let n = least(count, SHOWN - shown);
         zero(layer, shown, n);
-        zero(layer, 640 + shown, n);
+        zero(layer, SHOWN + shown, n);
     }
 }
 

@@ -8,11 +8,9 @@ ghost use Rattle.model.specs.Picture.{copySize};
 ghost use Rattle.serving.specs.Counting.{noCounts, acceptedWith, refusedWith, countsWith, answerAt, Accepting, Countable};
 use crate::Counts;
 use model::Answer;
+use model::COPY;
 use model::Item;
 use model::Sequence;
-
-// The bytes of a printed copy: 8 rows of 82.
-const COPY: usize = 656;
 
 // None yet.
 pub(crate) fn no_counts() -> Counts

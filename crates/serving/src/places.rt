@@ -23,7 +23,7 @@ pub(crate) fn placed(settings: Settings, place: Place) -> [Place; 2]
     ensures { λ r. ⌜ r ≡ set (settings .places) (settings .selected) place ⌝ }
 {
     let mut places = settings.places;
-    let k = settings.selected as usize;
-    places[k] = place;
+    let number = settings.selected as usize;
+    places[number] = place;
     places
 }
