@@ -389,6 +389,51 @@ static void compared(void)
     check(f.number == PX8_STORE_SIZE && f.found == 0 && is_record(f.difference, 0, 0, 0, 0), "compare: first refused, null and 0");
 }
 
+/* ---- key repeats ---- */
+
+/* A press of 'A' at tick 0, another key's release, its own release at 161. */
+static const uint8_t held[] = {5, 0, 1, 0, 0,   0, 0, 0, 'A', 5, 0, 2, 0, 130,
+                               0, 0, 0, 'B', 5, 0, 2, 0, 161, 0, 0, 0, 'A'};
+
+static void check_repeats(px8_settings settings, size_t length, size_t room, uint8_t number,
+                          uint64_t count, const char *what)
+{
+    px8_repeats r;
+    fill_desk();
+    r = px8_key_repeats(settings, held, length, at.printer, room);
+    check(r.number == number && r.count == count &&
+              memcmp(at.printer + PX8_CODE * count, copy.printer + PX8_CODE * count,
+                     ROOM - PX8_CODE * count) == 0 &&
+              guards_stay(),
+          what);
+}
+
+static void repeats(void)
+{
+    static const uint8_t codes[] = {0, 0, 0, 0, 'A', 128, 0, 0, 0, 'A', 144, 0, 0, 0, 'A', 160, 0, 0, 0, 'A'};
+    static uint8_t long_trace[PX8_TRACE_MOST + 1];
+    px8_settings settings = open_desk().settings;
+    px8_settings unsound = settings;
+    unsound.keys.interval = 0;
+    check_repeats(settings, 27, sizeof codes, PX8_SERVED, 4, "repeats: served");
+    check(memcmp(at.printer, codes, sizeof codes) == 0, "repeats: codes");
+    check_repeats(settings, 27, sizeof codes - 1, PX8_OUTPUT_TOO_SMALL, 0, "repeats: too small");
+    check_repeats(settings, 26, ROOM, PX8_CUT_RECORD, 0, "repeats: cut");
+    check_repeats(unsound, 26, ROOM, PX8_UNSOUND, 0, "repeats: not sound");
+    check_repeats(settings, 9, ROOM, PX8_SERVED, 1, "repeats: a press alone");
+    settings.keys.repeat = 0;
+    check_repeats(settings, 27, ROOM, PX8_SERVED, 1, "repeats: off");
+    settings.keys.repeat = 1;
+    settings.keys.delay = 1;
+    settings.keys.interval = 127;
+    check_repeats(settings, 27, ROOM, PX8_SERVED, 3, "repeats: delay and interval");
+    check(px8_key_repeats(settings, long_trace, sizeof long_trace, NULL, 0).number ==
+              PX8_TRACE_TOO_LONG, "repeats: too long");
+    check(px8_key_repeats(settings, long_trace, 4, NULL, 0).number == PX8_UNKNOWN_RECORD,
+          "repeats: unknown record");
+    check(px8_key_repeats(settings, NULL, 0, NULL, 0).number == PX8_SERVED, "repeats: nothing");
+}
+
 int main(void)
 {
     opening();
@@ -404,6 +449,7 @@ int main(void)
     refused_messages();
     empty_buffers();
     compared();
+    repeats();
     printf("%d passed, %d failed\n", passed, failed);
     return failed != 0;
 }

@@ -8,6 +8,7 @@
  *   px8_opening   makes the stores ready and gives the opening settings
  *   px8_message   reads one message and brings everything up to date
  *   px8_printed   how many bytes of a printer buffer to send on
+ *   px8_key_repeats  the codes that a trace of key presses sends
  *
  * and, beside them, two that lay one shown screen beside another:
  *
@@ -64,6 +65,9 @@ extern "C" {
 #define PX8_PATTERN_ROWS 8    /* rows of one pattern */
 #define PX8_PATTERN_FIRST 224 /* the first code with a pattern; the last is 254 */
 #define PX8_BLANK 32          /* what a blank cell holds */
+#define PX8_TRACE_MOST 60000  /* the longest trace that is taken */
+#define PX8_STROKE 9          /* bytes of a record of a trace */
+#define PX8_CODE 5            /* bytes of a code that a trace sends */
 
 /* Byte of row 1 to 8, column 1 to 80 in the shown screen and in the marks. */
 #define PX8_AT(row, column) (PX8_WIDTH * ((row) - 1) + (column) - 1)
@@ -80,6 +84,14 @@ extern "C" {
 /* px8_compare and px8_first_difference know 0 and 1 (a screen is not of its
  * size), and px8_compare, after 1: */
 #define PX8_LIST_SHORT 18 /* more places differ than the list has records */
+
+/* The number of px8_key_repeats: 0, 3, or one of these, tried in this order,
+ * 3 first; each is tried over the whole trace before the next. */
+#define PX8_TRACE_TOO_LONG 19  /* the trace is longer than PX8_TRACE_MOST */
+#define PX8_CUT_RECORD 20      /* a record's head or body runs past the trace's end */
+#define PX8_UNKNOWN_RECORD 21  /* a record's kind is not 1 or 2, or its body not 5 bytes */
+#define PX8_TICK_FALLS 24      /* a record's tick is below that of the one before */
+#define PX8_OUTPUT_TOO_SMALL 25 /* the codes need more than the output has */
 
 /* The number of the first refused sequence of a message that was served. A
  * refused sequence is skipped, and changes nothing but the counts and the
@@ -102,7 +114,8 @@ typedef struct px8_place {
 } px8_place;
 
 /* The keyboard's settings. They are stored for the board to act on; of what the
- * library does only number 3 depends on them, by their ranges. */
+ * library does number 3 depends on them, by their ranges, and px8_key_repeats,
+ * by repeat, delay and interval. */
 typedef struct px8_keys {
     uint8_t leds[3];    /* INS, CAPS, NUM; each 0 off, 1 on (ESC 160 to 165) */
     uint8_t charset;    /* one of the letters U F G E D W I S N (ESC 67) */
@@ -276,6 +289,12 @@ typedef struct px8_first {
     px8_difference difference; /* the first; four zeros if found is 0 */
 } px8_first;
 
+/* What px8_key_repeats returns; there are padding bytes after `number`. */
+typedef struct px8_repeats {
+    uint8_t number; /* PX8_SERVED, or why the call was refused: 3, 19, 20, 21, 24, 25 */
+    uint64_t count; /* how many codes were sent and written; 0 if refused */
+} px8_repeats;
+
 /* ---- calls ---- */
 
 /*
@@ -347,6 +366,30 @@ px8_compared px8_compare(const uint8_t *first, size_t first_length,
  */
 px8_first px8_first_difference(const uint8_t *first, size_t first_length,
                                const uint8_t *second, size_t second_length);
+
+/*
+ * Works out which codes a trace of presses and releases sends under the key
+ * repeat of the settings. The trace, of up to PX8_TRACE_MOST bytes, is records
+ * of PX8_STROKE bytes: the body's length (5, 0), the kind (1, 0 a press; 2, 0 a
+ * release), the tick of 1/256 second (four bytes, the lowest first), the key.
+ * Ticks never fall from record to record.
+ *
+ * A press sends its key at its tick; with keys.repeat 1 again 4 * keys.delay
+ * ticks later, and every keys.interval ticks after that, while the tick is
+ * strictly below that of the record that ends the press: the next press of any
+ * key, the release of its own, or else the last record of the trace (a press
+ * that is itself the last sends one code). Releases of other keys do nothing.
+ *
+ * The codes are written to the output one behind the other from its start,
+ * PX8_CODE bytes each, in order: the tick (four bytes, the lowest first), the
+ * key. No other byte of the output is written, and none is read. The time
+ * taken grows with the trace and with what is written, not with the ticks.
+ *
+ * A refused call writes nothing and has the count 0.
+ */
+px8_repeats px8_key_repeats(px8_settings settings,
+                            const uint8_t *trace, size_t trace_length,
+                            uint8_t *output, size_t output_length);
 
 #ifdef __cplusplus
 }
@@ -427,6 +470,10 @@ PX8_HOLDS(offsetof(px8_first, difference) == 2);
 PX8_HOLDS(sizeof(px8_opened) == 289);
 PX8_HOLDS(offsetof(px8_opened, settings) == 0);
 PX8_HOLDS(offsetof(px8_opened, number) == 288);
+
+PX8_HOLDS(sizeof(px8_repeats) == 16);
+PX8_HOLDS(offsetof(px8_repeats, number) == 0);
+PX8_HOLDS(offsetof(px8_repeats, count) == 8);
 #undef PX8_HOLDS
 #endif
 

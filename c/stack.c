@@ -41,6 +41,13 @@ static void *compare(void *unused) {
     return unused;
 }
 
+/* a press with repeats and its release */
+static void *repeats(void *unused) {
+    static const uint8_t trace[] = {5, 0, 1, 0, 0, 0, 0, 0, 65, 5, 0, 2, 0, 0, 1, 0, 0, 65};
+    px8_key_repeats(settings, trace, sizeof trace, printer, sizeof printer);
+    return unused;
+}
+
 /* the bytes of a stack that a call touched */
 static size_t used(void *(*call)(void *)) {
     pthread_t thread;
@@ -62,6 +69,7 @@ int main(void) {
     size_t open = used(opening) - thread;
     size_t serve = used(message) - thread;
     size_t lay = used(compare) - thread;
-    printf("opening %zu\nmessage %zu\ncompare %zu\n", open, serve, lay);
-    return open <= MOST && serve <= MOST && lay <= MOST ? 0 : 1;
+    size_t work = used(repeats) - thread;
+    printf("opening %zu\nmessage %zu\ncompare %zu\nkey repeats %zu\n", open, serve, lay, work);
+    return open <= MOST && serve <= MOST && lay <= MOST && work <= MOST ? 0 : 1;
 }

@@ -4,7 +4,7 @@
 #[path = "src/breaks/mod.rs"]
 mod breaks;
 
-use breaks::{Break, BREAKS, SCREENS};
+use breaks::{Break, BREAKS, SCREENS, TRACES};
 use std::fmt::Write;
 use std::path::{Path, PathBuf};
 
@@ -20,7 +20,7 @@ struct Part {
     calls: (&'static str, &'static [&'static str]),
 }
 
-const PARTS: [Part; 2] = [
+const PARTS: [Part; 3] = [
     Part {
         name: "terminal",
         breaks: BREAKS,
@@ -36,6 +36,14 @@ const PARTS: [Part; 2] = [
         shared: &["settings"],
         files: &["differences"],
         calls: ("differences", &["compare", "first_difference"]),
+    },
+    Part {
+        name: "traces",
+        breaks: TRACES,
+        list: "BROKEN_TRACES: &[traces::Functions]",
+        shared: &["settings", "sound"],
+        files: &["repeats"],
+        calls: ("repeats", &["key_repeats"]),
     },
 ];
 

@@ -5,12 +5,14 @@ ghost use lib.ListN.{length};
 ghost use Rattle.model.specs.Calls.{Promised, called, terminal};
 ghost use Rattle.model.specs.Opening.{OpeningPromised, firstPart};
 ghost use Rattle.differences.specs.Answers.{ComparePromised, firstOf, valuesOf};
+ghost use Rattle.traces.specs.Call.{RepeatsPromised};
 use differences::Compared;
 use differences::Difference;
 use differences::FirstValues;
 use model::Opened;
 use model::Outcome;
 use model::Settings;
+use traces::Repeats;
 
 #[no_mangle]
 pub extern "C" fn px8_opening(cells: &mut [u8], layer: &mut [u8], shown: &mut [u8]) -> Opened
@@ -57,4 +59,12 @@ pub extern "C" fn px8_first_difference(first: &[u8], second: &[u8]) -> FirstValu
 {
     let found = differences::first_difference(first, second);
     differences::values(found)
+}
+
+// Document 02, P13: the codes that a trace of presses and releases sends.
+#[no_mangle]
+pub extern "C" fn px8_key_repeats(settings: Settings, trace: &[u8], output: &mut [u8]) -> Repeats
+    ensures { λ r. ⌜ RepeatsPromised settings (now (trace .entry)) (now (output .entry)) r (now (output .exit)) ⌝ }
+{
+    traces::key_repeats(settings, trace, output)
 }

@@ -23,6 +23,7 @@
 //!   digits fill the message; one of 1 byte is a single digit.
 //! - `pieces`: a weight drawn in short runs, 1 to 7 digits at a time, each
 //!   behind a carriage return.
+//! - Traces of keys: see `traces`.
 //! - Messages have just the length in the name. There are 64 of them for each
 //!   line (16 of 4,096 bytes), sent in turn.
 //!
@@ -43,6 +44,7 @@
 mod input;
 mod screens;
 mod side;
+mod traces;
 #[cfg_attr(not(vterm), path = "no_vterm.rs")]
 mod vterm;
 
@@ -71,6 +73,7 @@ fn main() -> ExitCode {
     for (name, [ours, plain]) in screens::lines(&word) {
         println!("bench {name} ours {ours:.1} plain {plain:.1} ratio {:.2}", ours / plain);
     }
+    traces::bench(&word);
     ExitCode::SUCCESS
 }
 

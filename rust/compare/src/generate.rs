@@ -161,7 +161,7 @@ pub const FIELDS: [Field; 28] = [
 
 /// One field changed: to just beyond its range, to one more or less, or to
 /// any byte. It may stay sound by chance; then the call is served.
-fn unsound(random: &mut Random, sound: &Settings) -> (&'static str, Settings) {
+pub fn unsound(random: &mut Random, sound: &Settings) -> (&'static str, Settings) {
     let mut settings = *sound;
     let (name, field) = random.pick(&FIELDS);
     let beyond = beyond(name, &settings);

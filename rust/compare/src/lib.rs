@@ -10,6 +10,7 @@
 //! - `breaks`: deliberately broken copies, to show that the lists find them
 //! - `vectors`: the named cases
 //! - `screens`: the comparison of two screens, with a trait of its own
+//! - `traces`: key repeats, with a trait of its own
 //! - `classes`: counts by name
 
 pub mod breaks;
@@ -20,6 +21,7 @@ pub mod play;
 pub mod random;
 pub mod report;
 pub mod screens;
+pub mod traces;
 pub mod vectors;
 
 use reference::{Answer, Settings};

@@ -1,18 +1,19 @@
 //! `compare [--calls N] [--seed S] [--list L]`: the reference against the
 //! tuned version on random lists of calls; with `--screens` on pairs of
-//! screens.
+//! screens, with `--traces` on traces of keys.
 //! `compare --breaks`: how soon each broken copy is found.
 
 use compare::play::{run, Plan};
-use compare::report::{command_line, compare, compare_screens, Options, Subject};
-use compare::{screens, Functions, Terminal, BROKEN, BROKEN_SCREENS, REFERENCE, TUNED};
+use compare::report::{command_line, compare, compare_screens, compare_traces, Options, Subject};
+use compare::{screens, traces, Functions, Terminal};
+use compare::{BROKEN, BROKEN_SCREENS, BROKEN_TRACES, REFERENCE, TUNED};
 use reference::{Answer, Settings};
 use std::panic::{catch_unwind, AssertUnwindSafe};
 use std::process::ExitCode;
 
 fn main() -> ExitCode {
     let Some(options) = command_line() else {
-        eprintln!("usage: compare [--calls N] [--seed S] [--list L] [--screens] [--breaks]");
+        eprintln!("usage: compare [--calls N] [--seed S] [--list L] [--screens | --traces] [--breaks]");
         return ExitCode::from(2);
     };
     let good = if options.breaks { breaks(&options.plan) } else { versions(&options) };
@@ -28,6 +29,7 @@ fn versions(options: &Options) -> bool {
     match options.subject {
         Subject::Lists => compare(&mut { REFERENCE }, &mut { TUNED }, options),
         Subject::Screens => compare_screens(&mut { screens::REFERENCE }, &mut { screens::TUNED }, options),
+        Subject::Traces => compare_traces(&mut { traces::REFERENCE }, &mut { traces::TUNED }, options),
     }
 }
 
@@ -75,7 +77,12 @@ fn breaks(plan: &Plan) -> bool {
         let call = || screens::run(&mut { screens::REFERENCE }, &mut { broken }, &mut classes, &plan);
         told(broken.name, tool_break(call))
     });
-    let found: Vec<bool> = lists.chain(screens).collect();
+    let traces = BROKEN_TRACES.iter().map(|&broken| {
+        let mut classes = traces::classes();
+        let call = || traces::run(&mut { traces::REFERENCE }, &mut { broken }, &mut classes, &plan);
+        told(broken.name, tool_break(call))
+    });
+    let found: Vec<bool> = lists.chain(screens).chain(traces).collect();
     let good = found.iter().filter(|&&found| found).count();
     println!("breaks: {good} of {} found", found.len());
     good == found.len()

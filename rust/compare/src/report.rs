@@ -5,6 +5,7 @@
 use crate::coverage::Coverage;
 use crate::play::{run, Plan};
 use crate::screens::{self, Screens};
+use crate::traces::{self, Repeats};
 use crate::Terminal;
 
 /// What is compared.
@@ -14,6 +15,8 @@ pub enum Subject {
     Lists,
     /// pairs of screens
     Screens,
+    /// traces of keys
+    Traces,
 }
 
 pub struct Options {
@@ -38,6 +41,7 @@ pub fn command_line() -> Option<Options> {
                 options.one_list = true;
             }
             "--screens" => options.subject = Subject::Screens,
+            "--traces" => options.subject = Subject::Traces,
             "--breaks" => options.breaks = true,
             _ => return None,
         }
@@ -61,6 +65,15 @@ pub fn compare_screens(left: &mut dyn Screens, right: &mut dyn Screens, options:
     let outcome = screens::examples(left, right, &mut classes)
         .and_then(|_| screens::run(left, right, &mut classes, &options.plan));
     verdict("pairs of screens", outcome, &classes.lines(), options)
+}
+
+/// The same of key repeats.
+pub fn compare_traces(left: &mut dyn Repeats, right: &mut dyn Repeats, options: &Options) -> bool {
+    println!("compare: traces, {} and {}, seed {}", left.name(), right.name(), options.plan.seed);
+    let mut classes = traces::classes();
+    let outcome = traces::examples(left, right, &mut classes)
+        .and_then(|_| traces::run(left, right, &mut classes, &options.plan));
+    verdict("traces", outcome, &classes.lines(), options)
 }
 
 /// Prints what a comparison found and what it reached.

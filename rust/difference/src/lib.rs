@@ -2,12 +2,13 @@
 //! with the reference like any other implementation.
 
 use compare::screens::Screens;
+use compare::traces::Repeats;
 use compare::vectors::{play, play_on, recording, Case};
 use compare::Terminal;
 use reference::differences::Record;
 use reference::{Answer, Keys, Place, Settings};
 
-/// The archive's three calls. The types of both sides have the same fields;
+/// The archive's calls. The types of both sides have the same fields;
 /// they are carried over one by one, so that no layout is taken on trust.
 pub struct Board;
 
@@ -71,6 +72,17 @@ fn record_to_board(r: &Record) -> px8::Difference {
 
 fn record_from_board(d: &px8::Difference) -> Record {
     Record { row: d.row, column: d.column, first: d.first, second: d.second }
+}
+
+impl Repeats for Board {
+    fn name(&self) -> &str {
+        "board"
+    }
+
+    fn key_repeats(&mut self, settings: Settings, trace: &[u8], output: &mut [u8]) -> (u8, usize) {
+        let repeats = px8::key_repeats(settings_to_board(&settings), trace, output);
+        (repeats.number, repeats.count as usize)
+    }
 }
 
 pub fn settings_to_board(s: &Settings) -> px8::Settings {

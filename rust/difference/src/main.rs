@@ -1,9 +1,10 @@
 //! `difference [--calls N] [--seed S] [--list L]`: the proved library
 //! against the reference on random lists of calls; with `--screens` on pairs
-//! of screens.
+//! of screens, with `--traces` on traces of keys.
 //! `difference --vectors`: the same on the named cases.
 
-use compare::report::{command_line, compare, compare_screens, Subject};
+use compare::report::{command_line, compare, compare_screens, compare_traces, Subject};
+use compare::traces;
 use compare::vectors::cases;
 use compare::{screens, REFERENCE};
 use difference::{case_difference, Board};
@@ -15,12 +16,15 @@ fn main() -> ExitCode {
     } else {
         let options = command_line().filter(|options| !options.breaks);
         let Some(options) = options else {
-            eprintln!("usage: difference [--calls N] [--seed S] [--list L] [--screens] | --vectors");
+            eprintln!(
+                "usage: difference [--calls N] [--seed S] [--list L] [--screens | --traces] | --vectors"
+            );
             return ExitCode::from(2);
         };
         match options.subject {
             Subject::Lists => compare(&mut { REFERENCE }, &mut Board, &options),
             Subject::Screens => compare_screens(&mut { screens::REFERENCE }, &mut Board, &options),
+            Subject::Traces => compare_traces(&mut { traces::REFERENCE }, &mut Board, &options),
         }
     };
     if good {

@@ -29,7 +29,14 @@ fn symbols() -> Vec<(String, char)> {
 #[test]
 fn the_calls_are_exported() {
     let ours = symbols().into_iter().filter(|(name, kind)| name.starts_with("px8_") && *kind != 'U');
-    let expected = ["px8_compare", "px8_first_difference", "px8_message", "px8_opening", "px8_printed"];
+    let expected = [
+        "px8_compare",
+        "px8_first_difference",
+        "px8_key_repeats",
+        "px8_message",
+        "px8_opening",
+        "px8_printed",
+    ];
     let expected = expected.map(|name| (name.to_string(), 'T'));
     assert_eq!(ours.collect::<BTreeSet<_>>(), BTreeSet::from(expected));
 }

@@ -1,8 +1,8 @@
-//! The three calls on slices of any length: the boundary to the archive, and
+//! The calls on slices of any length: the boundary to the archive, and
 //! the only place with unsafe code. They are inlined so that settings, which
 //! go by value, are not copied once more on their way.
 
-use crate::types::{Answer, Settings};
+use crate::types::{Answer, Repeats, Settings};
 
 #[repr(C)]
 struct Outcome {
@@ -41,6 +41,14 @@ extern "C" {
     ) -> Outcome;
 
     fn px8_printed(buffer: *const u8, length: usize, count: usize) -> usize;
+
+    fn px8_key_repeats(
+        settings: Settings,
+        trace: *const u8,
+        trace_length: usize,
+        output: *mut u8,
+        output_length: usize,
+    ) -> Repeats;
 }
 
 /// The opening call: the opening settings, and 0 or 1. Unless the stores are
@@ -129,6 +137,29 @@ pub fn printed(buffer: &[u8], count: usize) -> &[u8] {
     &buffer[..length]
 }
 
+/// Works out which codes a trace of presses and releases sends under the key
+/// repeat of the settings. They are written to `output` from its start, five
+/// bytes each: tick and key. The trace is records of nine bytes: 5, 0, the kind
+/// (1, 0 a press; 2, 0 a release), the tick in four bytes, the key. Refused by
+/// 3, 19, 20, 21, 24 or 25, it writes nothing.
+///
+/// ```
+/// let settings = *px8::Terminal::open().settings();
+/// let trace = [[5, 0, 1, 0, 0, 0, 0, 0, b'A'], [5, 0, 2, 0, 160, 0, 0, 0, b'A']].concat();
+/// let mut output = [7; 16];
+/// let repeats = px8::key_repeats(settings, &trace, &mut output);
+/// assert_eq!((repeats.number, repeats.count), (px8::SERVED, 3));
+/// assert_eq!(output, [0, 0, 0, 0, 65, 128, 0, 0, 0, 65, 144, 0, 0, 0, 65, 7]);
+/// let repeats = px8::key_repeats(settings, &trace, &mut output[..14]);
+/// assert_eq!((repeats.number, repeats.count), (px8::OUTPUT_TOO_SMALL, 0));
+/// ```
+#[inline]
+pub fn key_repeats(settings: Settings, trace: &[u8], output: &mut [u8]) -> Repeats {
+    // SAFETY: each pointer goes with its own length, and an exclusive borrow
+    // does not overlap the trace, which is only read. The call keeps no pointer.
+    unsafe { px8_key_repeats(settings, trace.as_ptr(), trace.len(), output.as_mut_ptr(), output.len()) }
+}
+
 #[cfg(test)]
 mod tests {
     use super::*;
@@ -140,5 +171,7 @@ mod tests {
         assert_eq!((offset_of!(Outcome, settings), offset_of!(Outcome, answer)), (0, 288));
         assert_eq!((size_of::<Opened>(), align_of::<Opened>()), (289, 1));
         assert_eq!((offset_of!(Opened, settings), offset_of!(Opened, number)), (0, 288));
+        assert_eq!((size_of::<Repeats>(), align_of::<Repeats>()), (16, 8));
+        assert_eq!((offset_of!(Repeats, number), offset_of!(Repeats, count)), (0, 8));
     }
 }

@@ -5,6 +5,7 @@
 //! [`message`] and [`printed`] are the library's own three calls, on slices
 //! of any length; a wrong length is a refusal and never a fault. [`compare`],
 //! [`first_difference`] and [`differences`] lay two shown screens side by side.
+//! [`key_repeats`] works out from a trace which codes the keyboard sent.
 //!
 //! The archive is looked for in the repository's `target/staticlib`, or in
 //! the folder named by the environment variable `PX8_LIB_DIR`.
@@ -24,7 +25,7 @@ mod screens;
 mod terminal;
 mod types;
 
-pub use calls::{message, opening, printed};
+pub use calls::{key_repeats, message, opening, printed};
 pub use screens::{compare, differences, first_difference};
 pub use terminal::{Reply, Terminal};
 pub use types::*;

@@ -96,6 +96,27 @@ impl Terminal {
         (answer, calls::printed(printer, answer.printed))
     }
 
+    /// Which codes a trace sends under the key repeat that stands, as ticks of
+    /// 1/256 second and keys; or the number by which the trace is refused.
+    ///
+    /// ```
+    /// let mut terminal = px8::Terminal::open();
+    /// terminal.message(&[27, 241, 10, 27, 242, 20]);
+    /// let trace = [[5, 0, 1, 0, 0, 0, 0, 0, b'A'], [5, 0, 2, 0, 61, 0, 0, 0, b'A']].concat();
+    /// assert_eq!(terminal.key_repeats(&trace, 9), Ok(vec![(0, b'A'), (40, b'A'), (60, b'A')]));
+    /// assert_eq!(terminal.key_repeats(&trace[1..], 9), Err(px8::CUT_RECORD));
+    /// assert_eq!(terminal.key_repeats(&trace, 2), Err(px8::OUTPUT_TOO_SMALL));
+    /// ```
+    pub fn key_repeats(&self, trace: &[u8], codes_most: usize) -> Result<Vec<(u32, u8)>, u8> {
+        let mut output = vec![0; 5 * codes_most];
+        let repeats = calls::key_repeats(self.settings, trace, &mut output);
+        if repeats.number != crate::SERVED {
+            return Err(repeats.number);
+        }
+        let codes = output.as_chunks().0.iter().take(repeats.count as usize);
+        Ok(codes.map(|&[a, b, c, d, key]| (u32::from_le_bytes([a, b, c, d]), key)).collect())
+    }
+
     /// The settings that stand.
     pub fn settings(&self) -> &Settings {
         &self.settings

@@ -40,6 +40,17 @@ pub const NO_ROOM: u8 = 13;
 /// First refusal: ESC 208 with mode 3.
 pub const MODE_3: u8 = 14;
 
+/// The trace is longer than 60,000 bytes; the call is refused.
+pub const TRACE_TOO_LONG: u8 = 19;
+/// A record of the trace is cut; the call is refused.
+pub const CUT_RECORD: u8 = 20;
+/// A record of the trace is of another kind or length; the call is refused.
+pub const UNKNOWN_RECORD: u8 = 21;
+/// A tick of the trace falls; the call is refused.
+pub const TICK_FALLS: u8 = 24;
+/// The codes need more than the output has; the call is refused.
+pub const OUTPUT_TOO_SMALL: u8 = 25;
+
 /// What each of the two screens has of its own.
 #[repr(C)]
 #[derive(Clone, Copy, Debug, PartialEq, Eq)]
@@ -53,7 +64,8 @@ pub struct Place {
 }
 
 /// The keyboard's settings: stored for the board. Of what the library does
-/// only number 3 depends on them, by their ranges.
+/// number 3 depends on them, by their ranges, and
+/// [`key_repeats`](crate::key_repeats).
 #[repr(C)]
 #[derive(Clone, Copy, Debug, PartialEq, Eq)]
 pub struct Keys {
@@ -138,6 +150,16 @@ pub struct Answer {
     pub offset: u32,
     /// Bytes of printed copies, a multiple of [`COPY`].
     pub printed: usize,
+}
+
+/// What [`key_repeats`](crate::key_repeats) gives back.
+#[repr(C)]
+#[derive(Clone, Copy, Debug, PartialEq, Eq)]
+pub struct Repeats {
+    /// [`SERVED`], or why the call was refused: 3, 19, 20, 21, 24 or 25.
+    pub number: u8,
+    /// How many codes were sent and written; 0 if refused.
+    pub count: u64,
 }
 
 impl Answer {

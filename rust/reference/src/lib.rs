@@ -10,6 +10,7 @@
 //! - `text`: the words of the programs `show` and `replay`
 //! - `lengths`: the words of the program `lengths`
 //! - `differences`: two screens compared, and the words of `compare`
+//! - `repeats`: key repeats from a trace, and the words of `repeats`
 
 #![forbid(unsafe_code)]
 
@@ -19,6 +20,7 @@ pub mod differences;
 pub mod lengths;
 pub mod picture;
 pub mod read;
+pub mod repeats;
 pub mod settings;
 pub mod sound;
 pub mod text;

@@ -7,6 +7,7 @@
 #![forbid(unsafe_code)]
 
 mod engine;
+pub mod repeats;
 pub mod screens;
 mod sequences;
 

@@ -5,10 +5,12 @@
 //! - `scope`: document 01
 //! - `parameters`: which parameter a refusal names
 //! - `screens`: the comparison of two screens
+//! - `traces`: key repeats
 
 mod parameters;
 mod scope;
 mod screens;
+mod traces;
 
 pub struct Break {
     pub name: &'static str,
@@ -27,3 +29,6 @@ pub const BREAKS: &[&[Break]] = &[scope::BREAKS, parameters::BREAKS];
 
 /// The broken copies of the comparison of two screens.
 pub const SCREENS: &[&[Break]] = &[screens::BREAKS];
+
+/// The broken copies of the key repeats.
+pub const TRACES: &[&[Break]] = &[traces::BREAKS];
