@@ -1,7 +1,8 @@
 /*
  * Holds the header and the archive together: every field of the settings is
- * set by a sequence of its own and read back through the header's structures,
- * as are the answer's fields, and refused calls leave every byte alone.
+ * set by a sequence or a piece of its own and read back through the header's
+ * structures, as are the answer's fields; streams give what document 02 says of
+ * them, and refused calls leave every byte alone.
  *
  *   gcc -std=c99 -o abi abi.c libboard.a && ./abi
  *
@@ -71,6 +72,17 @@ static px8_outcome send_message(px8_settings settings, const uint8_t *message, s
                        at.shown, PX8_SHOWN, at.printer, ROOM);
 }
 
+static px8_outcome send_piece(px8_settings settings, const uint8_t *piece, size_t length)
+{
+    return px8_piece(settings, piece, length, at.cells, PX8_CELLS, at.layer, PX8_LAYER,
+                     at.shown, PX8_SHOWN, at.printer, ROOM);
+}
+
+static px8_outcome close_stream(px8_settings settings)
+{
+    return px8_closing(settings, at.cells, PX8_CELLS, at.layer, PX8_LAYER, at.shown, PX8_SHOWN);
+}
+
 /* ---- the opening ---- */
 
 static int all(const uint8_t *bytes, size_t length, uint8_t value)
@@ -99,6 +111,7 @@ static void opening_settings(px8_settings s)
     check(s.keys.delay == 32 && s.keys.interval == 16, "opening: delay and interval");
     check(s.keys.shift == 0 && all(s.keys.arrows, 12, 0), "opening: shift and arrows");
     check(all(s.patterns, PX8_PATTERNS, 0), "opening: patterns");
+    check(all(s.waiting, PX8_WAITING_MOST, 0) && s.held == 0 && s.count == 0, "opening: stream");
 }
 
 static void opening(void)
@@ -117,8 +130,14 @@ static void opening(void)
 
 /* ---- every field of the settings ---- */
 
+/* Before the padding all bytes count; behind it there is the count alone. */
+static int same_settings(px8_settings one, px8_settings other)
+{
+    return memcmp(&one, &other, offsetof(px8_settings, held) + 1) == 0 && one.count == other.count;
+}
+
 /* Sends the bytes to a terminal just opened: the settings afterwards must be
- * the expected ones. Settings have no padding, so all bytes count. */
+ * the expected ones. */
 static void check_settings(px8_settings expected, const uint8_t *bytes, size_t length,
                            const char *what)
 {
@@ -126,7 +145,7 @@ static void check_settings(px8_settings expected, const uint8_t *bytes, size_t l
     fill_desk();
     outcome = send_message(open_desk().settings, bytes, length);
     check(outcome.answer.number == 0 && outcome.answer.refused == 0 &&
-              memcmp(&outcome.settings, &expected, sizeof expected) == 0 && guards_stay(),
+              same_settings(outcome.settings, expected) && guards_stay(),
           what);
 }
 
@@ -206,6 +225,29 @@ static void patterns(void)
     }
 }
 
+/* The stream's three, by pieces of every length that waits. */
+static void waiting(void)
+{
+    static const uint8_t bytes[] = {27, 198, 101, 102, 103, 104, 105, 106, 107, 108, 109, 110};
+    size_t length;
+    px8_settings s;
+    for (length = 1; length <= sizeof bytes; length++) {
+        px8_outcome outcome;
+        fill_desk();
+        s = open_desk().settings;
+        outcome = send_piece(s, bytes, length);
+        memcpy(s.waiting, bytes, length);
+        s.held = (uint8_t)length;
+        s.count = (uint32_t)length;
+        check(outcome.answer.number == 0 && outcome.answer.taken == length &&
+                  same_settings(outcome.settings, s) && guards_stay(),
+              "waiting, held");
+    }
+    s = open_desk().settings;
+    s.count = 0x30000000;
+    check(send_piece(s, bytes, 1).settings.count == 0x30000001, "count");
+}
+
 /* ---- the answer and the stores ---- */
 
 static void answer(void)
@@ -254,6 +296,127 @@ static void parameters(void)
     check_parameter(other, sizeof other, PX8_NOT_LISTED, 0, "parameter: none of an unknown byte");
 }
 
+/* ---- streams ---- */
+
+static int answers(px8_answer a, uint32_t taken, uint32_t accepted, uint32_t refused,
+                   uint8_t first, uint32_t offset)
+{
+    return a.number == PX8_SERVED && a.taken == taken && a.accepted == accepted &&
+           a.refused == refused && a.first == first && a.offset == offset && guards_stay();
+}
+
+static px8_outcome put_piece(px8_settings settings, const char *bytes)
+{
+    return send_piece(settings, (const uint8_t *)bytes, strlen(bytes));
+}
+
+/* 27, 27 cut in two; what follows is printed. */
+static void stream_escapes(void)
+{
+    px8_outcome out;
+    fill_desk();
+    out = put_piece(open_desk().settings, "A\33");
+    check(answers(out.answer, 2, 0, 0, 0, 0), "stream: ESC waits");
+    out = put_piece(out.settings, "\33B");
+    check(answers(out.answer, 2, 0, 1, PX8_NOT_LISTED, 1), "stream: 10 at 1");
+    out = close_stream(out.settings);
+    check(answers(out.answer, 0, 0, 0, 0, 0), "stream: closed");
+    check(memcmp(at.shown, "AB ", 3) == 0, "stream: B printed");
+}
+
+/* 27, 209 waits at a piece's end; a message is refused while it does. */
+static void stream_selects(void)
+{
+    static const uint8_t message[] = {'A'}, second[] = {27, 209, 1}, open_end[] = {27, 209};
+    px8_outcome out;
+    fill_desk();
+    out = put_piece(open_desk().settings, "AAAAA\33\321");
+    check(out.settings.count == 7 && out.settings.held == 2, "stream: 27, 209 waits");
+    copy = at;
+    {
+        const px8_outcome refused = send_message(out.settings, message, sizeof message);
+        check(refused.answer.number == PX8_BYTES_WAIT && refused.answer.taken == 0 &&
+                  same_settings(refused.settings, out.settings) && memcmp(&at, &copy, sizeof at) == 0,
+              "stream: message refused by 16");
+    }
+    out = put_piece(out.settings, "\33");
+    check(answers(out.answer, 1, 0, 1, PX8_OUT_OF_RANGE, 5) && out.answer.parameter == 1,
+          "stream: 11 at 5");
+    out = send_message(close_stream(out.settings).settings, second, sizeof second);
+    out = send_piece(out.settings, open_end, sizeof open_end);
+    check(out.answer.accepted == 0 && out.settings.selected == 1, "stream: no 0 at a piece's end");
+    out = close_stream(out.settings);
+    check(answers(out.answer, 0, 1, 0, 0, 0) && out.settings.selected == 0 &&
+              out.settings.held == 0 && out.settings.count == 0,
+          "stream: closing means 0");
+}
+
+/* A sequence that began pieces ago; a pattern whose rows come in two. */
+static void stream_offsets(void)
+{
+    static uint8_t text[PX8_MESSAGE_MOST];
+    static const uint8_t front[] = {27, 224, 224, 1, 2, 3}, rest[] = {4, 5, 6, 7, 8, 27, 99};
+    static const uint8_t rows[] = {1, 2, 3, 4, 5, 6, 7, 8};
+    px8_outcome out;
+    memset(text, 'A', sizeof text);
+    fill_desk();
+    out = send_piece(open_desk().settings, text, sizeof text);
+    check(answers(out.answer, 4096, 0, 0, 0, 0), "stream: a piece of 4,096");
+    out = put_piece(put_piece(out.settings, "\33=").settings, "c ");
+    check(answers(out.answer, 2, 0, 1, PX8_OUT_OF_RANGE, 4096), "stream: 11 at 4096");
+    out = send_piece(open_desk().settings, front, sizeof front);
+    out = send_piece(out.settings, rest, sizeof rest);
+    check(answers(out.answer, 7, 1, 1, PX8_NOT_LISTED, 11), "stream: 10 at 11");
+    check(memcmp(out.settings.patterns, rows, sizeof rows) == 0, "stream: a pattern in two pieces");
+}
+
+/* The room is that of the call that brings the 80. */
+static void stream_copies(void)
+{
+    static const uint8_t escape[] = {27, 80, 27}, copies[] = {80};
+    px8_outcome out;
+    fill_desk();
+    out = send_piece(open_desk().settings, escape, sizeof escape);
+    check(answers(out.answer, 3, 1, 0, 0, 0) && out.answer.printed == PX8_COPY, "stream: a copy");
+    check(answers(px8_piece(out.settings, copies, 1, at.cells, PX8_CELLS, at.layer, PX8_LAYER,
+                            at.shown, PX8_SHOWN, at.printer, PX8_COPY - 1).answer,
+                  1, 0, 1, PX8_NO_ROOM, 2),
+          "stream: 13 at 2");
+    fill_desk();
+    out = send_piece(open_desk().settings, escape + 2, 1);
+    out = put_piece(out.settings, "Pnet\33P");
+    check(answers(out.answer, 6, 2, 0, 0, 0) && out.answer.printed == 2 * PX8_COPY &&
+              memcmp(at.printer + PX8_COPY, "net ", 4) == 0,
+          "stream: a copy cut in two, and another");
+}
+
+/* A message between counts from itself, and leaves the stream's count. */
+static void stream_messages(void)
+{
+    static const uint8_t message[] = {'B', 27};
+    px8_outcome out;
+    fill_desk();
+    out = put_piece(open_desk().settings, "A");
+    out = send_message(out.settings, message, sizeof message);
+    check(answers(out.answer, 2, 0, 1, PX8_CUT, 1) && out.settings.count == 1, "stream: a message between");
+    out = close_stream(put_piece(out.settings, "\33").settings);
+    check(answers(out.answer, 0, 0, 1, PX8_CUT, 1) && out.settings.count == 0, "stream: closed by 12");
+}
+
+/* Every piece and closing that is served paints. */
+static void stream_paints(void)
+{
+    px8_settings settings;
+    fill_desk();
+    settings = put_piece(open_desk().settings, "net").settings;
+    memset(at.shown, 7, PX8_SHOWN);
+    settings = send_piece(settings, NULL, 0).settings;
+    check(memcmp(at.shown, "net ", 4) == 0 && at.shown[PX8_SHOWN - 1] == PX8_BLANK, "stream: an empty piece paints");
+    memset(at.shown, 7, PX8_SHOWN);
+    close_stream(settings);
+    check(memcmp(at.shown, "net ", 4) == 0 && at.shown[PX8_SHOWN - 1] == PX8_BLANK, "stream: closing paints");
+}
+
 static void layer(void)
 {
     static const uint8_t bytes[] = {27, 210, 8, 80, '*'};
@@ -283,8 +446,7 @@ static void check_refused(px8_outcome outcome, px8_settings given, uint8_t numbe
     const px8_answer a = outcome.answer;
     check(a.number == number && a.taken == 0 && a.accepted == 0 && a.refused == 0 &&
               a.first == 0 && a.parameter == 0 && a.offset == 0 && a.printed == 0 &&
-              memcmp(&outcome.settings, &given, sizeof given) == 0 &&
-              memcmp(&at, &copy, sizeof at) == 0,
+              same_settings(outcome.settings, given) && memcmp(&at, &copy, sizeof at) == 0,
           what);
 }
 
@@ -295,7 +457,7 @@ static void refused_openings(void)
     fill_desk();
     opened = px8_opening(at.cells, PX8_CELLS - 1, at.layer, PX8_LAYER, at.shown, PX8_SHOWN);
     check(opened.number == PX8_STORE_SIZE &&
-              memcmp(&opened.settings, &settings, sizeof settings) == 0 &&
+              same_settings(opened.settings, settings) &&
               memcmp(&at, &copy, sizeof at) == 0,
           "opening refused: cells");
     opened = px8_opening(at.cells, PX8_CELLS, at.layer, PX8_LAYER + 1, at.shown, PX8_SHOWN);
@@ -303,7 +465,7 @@ static void refused_openings(void)
           "opening refused: layer");
     opened = px8_opening(NULL, 0, NULL, 0, NULL, 0);
     check(opened.number == PX8_STORE_SIZE &&
-              memcmp(&opened.settings, &settings, sizeof settings) == 0,
+              same_settings(opened.settings, settings),
           "opening refused: null and 0");
 }
 
@@ -324,6 +486,90 @@ static void refused_messages(void)
                   "refused: message too long");
     check_refused(send_message(unsound, long_message, PX8_MESSAGE_MOST), unsound, PX8_UNSOUND,
                   "refused: settings not sound");
+}
+
+/* Settings in which these bytes wait. */
+static px8_settings with_line(const uint8_t *bytes, size_t held, uint32_t count)
+{
+    px8_settings settings = open_desk().settings;
+    memcpy(settings.waiting, bytes, held);
+    settings.held = (uint8_t)held;
+    settings.count = count;
+    return settings;
+}
+
+/* A piece and a closing on these settings are both refused by 3. */
+static void check_unsound(px8_settings settings, const char *what)
+{
+    static const uint8_t text[] = {'A'};
+    fill_desk();
+    check_refused(send_piece(settings, text, 1), settings, PX8_UNSOUND, what);
+    check_refused(close_stream(settings), settings, PX8_UNSOUND, what);
+}
+
+static void unsound_lines(void)
+{
+    static const uint8_t escape[] = {27}, letter[] = {65}, mode[] = {27, 208, 9}, none[] = {0};
+    px8_settings settings;
+    check_unsound(with_line(escape, 1, 0), "unsound: waiting longer than the count");
+    check_unsound(with_line(mode, 3, 3), "unsound: a sequence that is whole");
+    check_unsound(with_line(letter, 1, 1), "unsound: no ESC");
+    check_unsound(with_line(none, 0, PX8_COUNT_MOST + 1), "unsound: count");
+    settings = with_line(escape, 1, 1);
+    settings.waiting[11] = 1;
+    check_unsound(settings, "unsound: bytes behind those that wait");
+    settings = with_line(escape, 1, 1);
+    settings.held = 13;
+    settings.count = 13;
+    check_unsound(settings, "unsound: held");
+}
+
+/* 15, and what still works at the limit. */
+static void limit(void)
+{
+    static const uint8_t two[] = {65, 66}, escape[] = {27}, copies[] = {80};
+    const px8_settings settings = with_line(escape, 0, PX8_COUNT_MOST - 1);
+    px8_outcome out;
+    fill_desk();
+    check_refused(send_piece(settings, two, 2), settings, PX8_STREAM_TOO_LONG, "limit: 15");
+    open_desk();
+    out = send_piece(settings, escape, 1);
+    check(answers(out.answer, 1, 0, 0, 0, 0) && out.settings.count == PX8_COUNT_MOST, "limit: reached");
+    copy = at;
+    check_refused(send_piece(out.settings, copies, 1), out.settings, PX8_STREAM_TOO_LONG, "limit: 15 there");
+    check(send_piece(out.settings, NULL, 0).answer.number == PX8_SERVED, "limit: an empty piece");
+    out = close_stream(out.settings);
+    check(answers(out.answer, 0, 0, 1, PX8_CUT, 999999999) && out.settings.count == 0, "limit: closed by 12");
+}
+
+/* A piece 1, 2, 3, 15; a closing 1, 3; a message 1, 2, 3, 16. */
+static void refused_streams(void)
+{
+    static uint8_t long_piece[PX8_MESSAGE_MOST + 1];
+    static const uint8_t escape[] = {27};
+    const px8_settings full = with_line(escape, 1, PX8_COUNT_MOST);
+    px8_settings unsound = full;
+    unsound.step = 0;
+    fill_desk();
+    check_refused(px8_piece(unsound, long_piece, sizeof long_piece, at.cells, PX8_CELLS, at.layer,
+                            PX8_LAYER - 1, at.shown, PX8_SHOWN, at.printer, ROOM),
+                  unsound, PX8_STORE_SIZE, "refused: piece, layer too short");
+    check_refused(px8_piece(unsound, NULL, 0, NULL, 0, NULL, 0, NULL, 0, NULL, 0), unsound,
+                  PX8_STORE_SIZE, "refused: piece, null and 0");
+    check_refused(send_piece(unsound, long_piece, sizeof long_piece), unsound, PX8_TOO_LONG,
+                  "refused: piece too long");
+    check_refused(send_piece(unsound, long_piece, 5), unsound, PX8_UNSOUND,
+                  "refused: piece, settings not sound");
+    check_refused(send_piece(full, long_piece, 5), full, PX8_STREAM_TOO_LONG, "refused: piece, 15");
+    check_refused(px8_closing(unsound, at.cells, PX8_CELLS + 1, at.layer, PX8_LAYER, at.shown, PX8_SHOWN),
+                  unsound, PX8_STORE_SIZE, "refused: closing, cells too long");
+    check_refused(px8_closing(full, NULL, 0, NULL, 0, NULL, 0), full, PX8_STORE_SIZE,
+                  "refused: closing, null and 0");
+    check_refused(close_stream(unsound), unsound, PX8_UNSOUND, "refused: closing, settings not sound");
+    check_refused(send_message(full, long_piece, sizeof long_piece), full, PX8_TOO_LONG,
+                  "refused: 2 before 16");
+    check_refused(send_message(unsound, long_piece, 5), unsound, PX8_UNSOUND, "refused: 3 before 16");
+    check_refused(send_message(full, NULL, 0), full, PX8_BYTES_WAIT, "refused: an empty message by 16");
 }
 
 /* Lengths of 0 with null pointers are served where any length is. */
@@ -441,12 +687,22 @@ int main(void)
     switches();
     keys();
     patterns();
+    waiting();
     answer();
     parameters();
+    stream_escapes();
+    stream_selects();
+    stream_offsets();
+    stream_copies();
+    stream_messages();
+    stream_paints();
     layer();
     printed();
     refused_openings();
     refused_messages();
+    unsound_lines();
+    limit();
+    refused_streams();
     empty_buffers();
     compared();
     repeats();

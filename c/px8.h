@@ -7,6 +7,8 @@
  *
  *   px8_opening   makes the stores ready and gives the opening settings
  *   px8_message   reads one message and brings everything up to date
+ *   px8_piece     the same for a piece of a stream, cut at any byte
+ *   px8_closing   ends the stream
  *   px8_printed   how many bytes of a printer buffer to send on
  *   px8_key_repeats  the codes that a trace of key presses sends
  *
@@ -23,18 +25,24 @@
  * terminals, threads or interrupt levels can use the library at once if each
  * has its own settings and stores.
  *
- * A list of calls. Open once; then hand each message the settings and the
- * three stores just as the call before left them. Nobody else should write
- * them meanwhile. Settings, cells and layer can be saved and taken up again
- * later without an opening: they are all that stands, and the next message
- * that is served paints the shown screen from them.
+ * A list of calls. Open once; then hand each message, piece and closing the
+ * settings and the three stores just as the call before left them. Nobody else
+ * should write them meanwhile. Settings, cells and layer can be saved and taken
+ * up again later without an opening, in the middle of a stream too: they are
+ * all that stands, and the next call that is served paints the shown screen
+ * from them.
+ *
+ * Messages or a stream. A message is read by itself: it must not end inside a
+ * sequence. A line whose bytes come in whatever parts the port hands over is a
+ * stream: give each part to px8_piece and say the end by px8_closing. However
+ * it is cut, it comes to the same as if it had come in one.
  *
  * Linking. libboard.a is made for x86-64 and its C calling convention. Of the
  * C library it needs at most memcpy, memmove, memset, memcmp and bcmp.
  *
  * Not checked, since C cannot tell: a pointer that is null or dangling
  * although its length is not 0; a length larger than the buffer; buffers that
- * overlap each other or the message. Each of these is undefined behaviour.
+ * overlap each other, the message or the piece. Each of these is undefined behaviour.
  * Every other input is answered, by what it asks for or by a number. A null
  * pointer with length 0 is an empty buffer.
  *
@@ -58,13 +66,15 @@ extern "C" {
 #define PX8_PLACES 640        /* places of the shown screen, PX8_ROWS * PX8_WIDTH */
 #define PX8_LAYER 1280        /* bytes of the layer: 640 marks, then 640 codes */
 #define PX8_SHOWN 640         /* bytes of the shown screen */
-#define PX8_MESSAGE_MOST 4096 /* the longest message that is taken */
+#define PX8_MESSAGE_MOST 4096 /* the longest message that is taken, and the longest piece */
 #define PX8_COPY_ROW 82       /* bytes of a row of a printed copy: 80 codes, 13, 10 */
 #define PX8_COPY 656          /* bytes of a printed copy, PX8_ROWS * PX8_COPY_ROW */
 #define PX8_PATTERNS 248      /* bytes of the patterns: 31 codes of 8 rows */
 #define PX8_PATTERN_ROWS 8    /* rows of one pattern */
 #define PX8_PATTERN_FIRST 224 /* the first code with a pattern; the last is 254 */
 #define PX8_BLANK 32          /* what a blank cell holds */
+#define PX8_WAITING_MOST 12   /* bytes of a stream that can wait */
+#define PX8_COUNT_MOST 1000000000 /* the most bytes of a stream */
 #define PX8_TRACE_MOST 60000  /* the longest trace that is taken */
 #define PX8_STROKE 9          /* bytes of a record of a trace */
 #define PX8_CODE 5            /* bytes of a code that a trace sends */
@@ -75,11 +85,14 @@ extern "C" {
 /* ---- numbers ---- */
 
 /* The number of a call: 0, or why the whole call was refused. They are tried
- * in this order; px8_opening knows only 0 and 1. */
+ * in this order: 1, 2, 3, 16 by px8_message, 1, 2, 3, 15 by px8_piece, 1, 3 by
+ * px8_closing; px8_opening knows only 0 and 1. */
 #define PX8_SERVED 0     /* the call was served */
 #define PX8_STORE_SIZE 1 /* cells, layer or shown screen are not of their size */
-#define PX8_TOO_LONG 2   /* the message is longer than PX8_MESSAGE_MOST */
+#define PX8_TOO_LONG 2   /* the message or piece is longer than PX8_MESSAGE_MOST */
 #define PX8_UNSOUND 3    /* a setting is outside its range (see px8_settings) */
+#define PX8_STREAM_TOO_LONG 15 /* the piece would take the count past PX8_COUNT_MOST */
+#define PX8_BYTES_WAIT 16 /* a message, even an empty one, while bytes of a stream wait */
 
 /* px8_compare and px8_first_difference know 0 and 1 (a screen is not of its
  * size), and px8_compare, after 1: */
@@ -93,14 +106,16 @@ extern "C" {
 #define PX8_TICK_FALLS 24      /* a record's tick is below that of the one before */
 #define PX8_OUTPUT_TOO_SMALL 25 /* the codes need more than the output has */
 
-/* The number of the first refused sequence of a message that was served. A
+/* The number of the first refused sequence of a call that was served. A
  * refused sequence is skipped, and changes nothing but the counts and the
- * first refusal. Sequences are checked in the order 10, 12, 14, 11, 13. With 11
- * goes the first bad parameter, see "which parameter" below. */
+ * first refusal; in a stream its bytes are counted and wait no more. Sequences
+ * are checked in the order 10, 12, 14, 11, 13. With 11 goes the first bad
+ * parameter, see "which parameter" below. */
 #define PX8_NOT_LISTED 10   /* the byte after ESC is not in the list; 2 bytes skipped */
 #define PX8_OUT_OF_RANGE 11 /* a parameter is outside its range, or its sum with the
                              * one before is too large; whole sequence skipped */
-#define PX8_CUT 12          /* the message ends inside a sequence; the rest skipped */
+#define PX8_CUT 12          /* the message ends inside a sequence, or the stream is
+                             * closed inside one; the rest skipped */
 #define PX8_NO_ROOM 13      /* ESC 80 with less than PX8_COPY of printer room left */
 #define PX8_MODE_3 14       /* ESC 208 with mode 3; 3 bytes skipped */
 
@@ -138,7 +153,11 @@ typedef struct px8_keys {
  *
  * Settings are sound when every field lies in its range. What the calls return
  * is always sound, or else exactly what was given to a refused call; so only a
- * caller that makes or alters settings can meet number 3. */
+ * caller that makes or alters settings can meet number 3.
+ *
+ * The last three are the stream's. No sequence changes them, and a message
+ * leaves them. Between `held` and `count` there are three padding bytes of no
+ * fixed value: compare settings field by field. */
 typedef struct px8_settings {
     uint8_t mode;        /* 0, 1 or 2 (ESC 208) */
     uint8_t lines1;      /* lines of screen 1, by the table (ESC 208) */
@@ -159,13 +178,20 @@ typedef struct px8_settings {
     px8_keys keys;
     uint8_t patterns[PX8_PATTERNS]; /* any bytes: code c, 224 to 254, has the eight
                           * from 8 * (c - 224) on (ESC 224); stored only */
+    uint8_t waiting[PX8_WAITING_MOST]; /* the first `held` bytes are an unfinished
+                          * sequence: ESC, and fewer bytes than it has in all (nothing
+                          * else of it is judged yet; 27, 209 is one too); the others
+                          * are 0 */
+    uint8_t held;        /* how many bytes wait, 0 to 12, at most `count` */
+    uint32_t count;      /* bytes of the stream so far, 0 to PX8_COUNT_MOST */
 } px8_settings;
 
 /*
  * The opening settings: mode 0, 24 and 24 lines, 80 and 80 columns, boundary
  * 32, screen 1 selected (0), both places 1, 1, 1, tracking 1, step 1, secret
  * 0, cursor 1, display 1, kind 0; LEDs 0, charset U, strings 1, repeat 1,
- * delay 32, interval 16, shift 0, arrows 0; patterns 0.
+ * delay 32, interval 16, shift 0, arrows 0; patterns 0; waiting 0, held 0,
+ * count 0.
  */
 
 /* ---- stores ----
@@ -176,11 +202,14 @@ typedef struct px8_settings {
  * layer   Marks over the shown screen (ESC 210): byte PX8_AT(row, column) is 0
  *         where there is no mark, else the code at PX8_PLACES further on is
  *         shown in place of the cell's. Any bytes are accepted.
- * shown   What the display shows: byte PX8_AT(row, column). Every message that
- *         is served paints all 640; the library never reads it.
+ * shown   What the display shows: byte PX8_AT(row, column). Every message, piece
+ *         and closing that is served paints all 640, an empty one too; the
+ *         library never reads it.
  */
 
 /* ---- what a message holds ----
+ *
+ * And a stream, all its pieces together.
  *
  * Bytes 32 to 255 print at the cursor, which moves right, from the last column
  * to the next line; going below the last line lifts the screen by a line.
@@ -245,18 +274,20 @@ typedef struct px8_settings {
 
 /* ---- results ---- */
 
-/* The answer to a message. Between its fields there are padding bytes of no
- * fixed value: compare answers field by field. */
+/* The answer to a message, a piece or a closing. Between its fields there are
+ * padding bytes of no fixed value: compare answers field by field. */
 typedef struct px8_answer {
-    uint8_t number;    /* PX8_SERVED, or why the whole call was refused: 1, 2, 3;
-                        * sequences may be refused in a call that was served */
-    uint32_t taken;    /* bytes taken: all of the message, if served */
+    uint8_t number;    /* PX8_SERVED, or why the whole call was refused: 1, 2, 3, 15,
+                        * 16; sequences may be refused in a call that was served */
+    uint32_t taken;    /* bytes taken, if served: all of the message or piece, those
+                        * too that wait; none by closing */
     uint32_t accepted; /* sequences accepted (printed bytes and codes not counted) */
     uint32_t refused;  /* sequences refused */
     uint8_t first;     /* number of the first refusal, 10 to 14; 0 if there is none */
     uint8_t parameter; /* its first bad parameter, from 1, if it is 11; else 0 */
-    uint32_t offset;   /* where its ESC stands in the message, counted from 0;
-                        * 0 if there is none */
+    uint32_t offset;   /* where its ESC stands, counted from 0: in the message, or
+                        * for a piece and a closing in the stream; 0 if there is
+                        * none */
     size_t printed;    /* bytes of printed copies, a multiple of PX8_COPY */
 } px8_answer;
 
@@ -320,16 +351,19 @@ px8_opened px8_opening(uint8_t *cells, size_t cells_length,
  * another one each time.
  *
  * Each message is read by itself: a sequence does not run on into the next
- * one (number 12), save that 27, 209 at the very end means 27, 209, 0.
+ * one (number 12), save that 27, 209 at the very end means 27, 209, 0. A line
+ * that may be cut inside a sequence is for px8_piece.
  *
  * A message that is served (answer.number 0) may hold refused sequences. Each is
  * skipped alone and what follows is obeyed: after a refused cursor placing the
  * text is printed at the old cursor. Look at answer.refused too.
  *
- * A refused call (answer.number 1, 2 or 3) changes nothing: it returns the
+ * A refused call (answer.number 1, 2, 3 or 16) changes nothing: it returns the
  * settings as they were given, all counts 0, first, parameter, offset and printed 0,
  * and no byte of the stores or of the printer buffer is altered, the shown
- * screen included. The message itself is never altered.
+ * screen included. The message itself is never altered. 16 says that bytes of a
+ * stream wait: go on with the stream or close it first. While a stream is open
+ * and none waits a message is served, and leaves the stream's count.
  */
 px8_outcome px8_message(px8_settings settings,
                         const uint8_t *message, size_t message_length,
@@ -337,6 +371,44 @@ px8_outcome px8_message(px8_settings settings,
                         uint8_t *layer, size_t layer_length,
                         uint8_t *shown, size_t shown_length,
                         uint8_t *printer, size_t printer_length);
+
+/*
+ * Reads the next piece of a stream: up to PX8_MESSAGE_MOST bytes (it may be
+ * empty), cut from the line anywhere, inside a sequence too. The bytes that wait
+ * in the settings are read before it. What is unfinished at its end, 27, 209
+ * included, is not judged and waits in the settings that come back; the piece
+ * takes all its bytes all the same, and the count grows by them. Everything else
+ * is as with a message: cells, layer, settings and printed copies, and the shown
+ * screen is painted, a piece that finishes nothing included. answer.offset
+ * counts from the stream's start; it may lie before this piece, where the
+ * sequence began earlier.
+ *
+ * A copy (ESC 80) needs PX8_COPY bytes of room in the call that brings the 80.
+ *
+ * A refused call (answer.number 1, 2, 3 or 15) changes nothing, as with a
+ * message; the stream stands where it stood. After 15 closing still works.
+ */
+px8_outcome px8_piece(px8_settings settings,
+                      const uint8_t *piece, size_t piece_length,
+                      uint8_t *cells, size_t cells_length,
+                      uint8_t *layer, size_t layer_length,
+                      uint8_t *shown, size_t shown_length,
+                      uint8_t *printer, size_t printer_length);
+
+/*
+ * Ends the stream. 27, 209 that waits then means 27, 209, 0 (one sequence
+ * accepted); another unfinished sequence is refused by PX8_CUT, at its offset in
+ * the stream. The shown screen is painted, and then the waiting bytes and the
+ * count are forgotten: the next piece begins a stream of its own. It takes no
+ * byte and prints nothing, so it has no printer buffer: an unfinished sequence
+ * is never a copy. A stream that has had no piece can be closed too.
+ *
+ * A refused call (answer.number 1 or 3) changes nothing, as with a message.
+ */
+px8_outcome px8_closing(px8_settings settings,
+                        uint8_t *cells, size_t cells_length,
+                        uint8_t *layer, size_t layer_length,
+                        uint8_t *shown, size_t shown_length);
 
 /*
  * The part of a printer buffer to send on: its first `count` bytes, with
@@ -419,7 +491,7 @@ PX8_HOLDS(offsetof(px8_keys, interval) == 7);
 PX8_HOLDS(offsetof(px8_keys, shift) == 8);
 PX8_HOLDS(offsetof(px8_keys, arrows) == 9);
 
-PX8_HOLDS(sizeof(px8_settings) == 288);
+PX8_HOLDS(sizeof(px8_settings) == 308);
 PX8_HOLDS(offsetof(px8_settings, mode) == 0);
 PX8_HOLDS(offsetof(px8_settings, lines1) == 1);
 PX8_HOLDS(offsetof(px8_settings, lines2) == 2);
@@ -436,6 +508,9 @@ PX8_HOLDS(offsetof(px8_settings, display) == 17);
 PX8_HOLDS(offsetof(px8_settings, kind) == 18);
 PX8_HOLDS(offsetof(px8_settings, keys) == 19);
 PX8_HOLDS(offsetof(px8_settings, patterns) == 40);
+PX8_HOLDS(offsetof(px8_settings, waiting) == 288);
+PX8_HOLDS(offsetof(px8_settings, held) == 300);
+PX8_HOLDS(offsetof(px8_settings, count) == 304);
 
 PX8_HOLDS(sizeof(size_t) == 8);
 PX8_HOLDS(sizeof(px8_answer) == 32);
@@ -448,9 +523,9 @@ PX8_HOLDS(offsetof(px8_answer, parameter) == 17);
 PX8_HOLDS(offsetof(px8_answer, offset) == 20);
 PX8_HOLDS(offsetof(px8_answer, printed) == 24);
 
-PX8_HOLDS(sizeof(px8_outcome) == 320);
+PX8_HOLDS(sizeof(px8_outcome) == 344);
 PX8_HOLDS(offsetof(px8_outcome, settings) == 0);
-PX8_HOLDS(offsetof(px8_outcome, answer) == 288);
+PX8_HOLDS(offsetof(px8_outcome, answer) == 312);
 
 PX8_HOLDS(sizeof(px8_difference) == 4);
 PX8_HOLDS(offsetof(px8_difference, row) == 0);
@@ -467,9 +542,9 @@ PX8_HOLDS(offsetof(px8_first, number) == 0);
 PX8_HOLDS(offsetof(px8_first, found) == 1);
 PX8_HOLDS(offsetof(px8_first, difference) == 2);
 
-PX8_HOLDS(sizeof(px8_opened) == 289);
+PX8_HOLDS(sizeof(px8_opened) == 312);
 PX8_HOLDS(offsetof(px8_opened, settings) == 0);
-PX8_HOLDS(offsetof(px8_opened, number) == 288);
+PX8_HOLDS(offsetof(px8_opened, number) == 308);
 
 PX8_HOLDS(sizeof(px8_repeats) == 16);
 PX8_HOLDS(offsetof(px8_repeats, number) == 0);

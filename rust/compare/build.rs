@@ -1,5 +1,6 @@
 //! Writes the broken copies of the reference: one module for each entry of
-//! `src/breaks`, with the types left shared.
+//! `src/breaks`. Copied is the changed file and what is built on it; the
+//! rest, and the plain types, are the reference's own.
 
 #[path = "src/breaks/mod.rs"]
 mod breaks;
@@ -8,13 +9,13 @@ use breaks::{Break, BREAKS, SCREENS, TRACES};
 use std::fmt::Write;
 use std::path::{Path, PathBuf};
 
-/// A part of the reference that is copied whole, and its calls.
+/// A part of the reference, and its calls.
 struct Part {
     name: &'static str,
     breaks: &'static [&'static [Break]],
     /// the list of its broken copies
     list: &'static str,
-    shared: &'static [&'static str],
+    /// from below: each is built on some of those before it
     files: &'static [&'static str],
     /// the file with the calls, and the calls
     calls: (&'static str, &'static [&'static str]),
@@ -25,24 +26,21 @@ const PARTS: [Part; 3] = [
         name: "terminal",
         breaks: BREAKS,
         list: "BROKEN: &[Functions]",
-        shared: &["settings"],
-        files: &["read", "sound", "picture", "apply", "calls"],
-        calls: ("calls", &["opening", "message", "printed"]),
+        files: &["settings", "read", "stream", "sound", "picture", "apply", "calls"],
+        calls: ("calls", &["opening", "message", "piece", "closing", "printed"]),
     },
     Part {
         name: "screens",
         breaks: SCREENS,
         list: "BROKEN_SCREENS: &[screens::Functions]",
-        shared: &["settings"],
-        files: &["differences"],
+        files: &["settings", "differences"],
         calls: ("differences", &["compare", "first_difference"]),
     },
     Part {
         name: "traces",
         breaks: TRACES,
         list: "BROKEN_TRACES: &[traces::Functions]",
-        shared: &["settings", "sound"],
-        files: &["repeats"],
+        files: &["settings", "sound", "repeats"],
         calls: ("repeats", &["key_repeats"]),
     },
 ];
@@ -73,20 +71,22 @@ fn copies(part: &Part, sources: &Path) -> String {
     text + &list + "];\n"
 }
 
-/// The part's files inside a module of their own, one passage changed.
+/// The part's files inside a module, one passage changed.
 fn copy(module: &str, part: &Part, change: &Break, sources: &Path) -> String {
     let mut text = format!("#[allow(dead_code, unused)]\npub mod {module} {{\n");
-    for shared in part.shared {
-        writeln!(text, "pub use reference::{shared};").unwrap();
-    }
     let mut changed = 0;
+    let mut copied: Vec<&str> = Vec::new();
     for file in part.files {
         let name = format!("{file}.rs");
         let mut source = std::fs::read_to_string(sources.join(&name)).unwrap();
         if change.file == name {
             changed += source.matches(change.old).count();
             source = source.replace(change.old, change.new);
+        } else if !copied.iter().any(|below| source.contains(&format!("super::{below}::"))) {
+            writeln!(text, "pub use reference::{file};").unwrap();
+            continue;
         }
+        copied.push(file);
         writeln!(text, "pub mod {file} {{\n{source}\n}}").unwrap();
     }
     assert_eq!(changed, 1, "break {}: its passage must stand once in {}", change.name, change.file);

@@ -6,26 +6,30 @@ use native.Mathlib.Omega.{arith}
 use mathlib.Core.Bool.{Bool, _&&_, cond, false, true}
 use mathlib.Core.List.{List, [], _∷_}
 use lib.ListN.{getD, length, length-replicate, replicate}
-use lib.Dec.{eqb}
-use borrow.Author.Tests.{eq-eqb}
+use lib.Dec.{eqb, leb}
+use borrow.Author.Tests.{eq-eqb, eqb-true, leb-true}
 use Rattle.model.specs.declared.Answer.{Answer}
 use Rattle.model.specs.declared.Item.{Item}
 use Rattle.model.specs.declared.Item.the-variants.{Control, Printed, Refused, Sequence}
 use Rattle.model.specs.State.{State, opened, openedSettings}
 use Rattle.model.specs.Checks.{inRanges?, member, passes}
 use Rattle.model.specs.Screens.{base, cellAt, columnsOf, height, lineAt, linesOf, placeOf, textRows}
-use Rattle.model.specs.Sound.{Good, Inside, arrayRanges, keyRanges, mode0, plainRanges}
+use Rattle.model.specs.Line.{heldIn, limit, padded}
+use Rattle.model.specs.Sound.{Good, Inside, Sound, arrayRanges, keyRanges, mode0, plainRanges}
 use Rattle.model.specs.Picture.{covered, painting, picture, pictureAt, under, windowAt}
-use Rattle.model.specs.Reading.{Read}
-use Rattle.model.specs.Items.{applyAll, blankAnswer, copies, counted, countedAll, eventsOf}
-use Rattle.model.specs.Calls.{Asked, Call, Promised, Reason, Request, Terminal, accepted, allFree, answerOf, eventsIn, firstOf, message, numberOf, printedBy, readsBy, readsIn, reasons, requestOf, served, short, shownAfter, sized, soundIn, terminal}
+use Rattle.model.specs.Reading.{Read, remaining}
+use Rattle.model.specs.Items.{Event, applyAll, blankAnswer, copies, counted, countedAll, eventsOf}
+use Rattle.model.specs.Calls.{Asked, Call, Promised, Reason, Request, Terminal, accepted, allFree, answerOf, closing, countable, eventsBy, eventsIn, firstOf, itemBytes, lineMoved, message, noneWaits, numberOf, ownReasons, piece, printedBy, readsBy, readsIn, reason, reasons, request, requestOf, served, short, shownAfter, sized, soundIn, startOf, takenBy, takenIn, terminal}
 use Rattle.model.specs.Opening.{openedBy, openedTerminal, openingNumber, unopened}
 use Rattle.model.specs.Claims.{Shown}
-use Rattle.model.specs.Demand.{Opening, Resumed, acceptable}
+use Rattle.model.specs.Demand.{Opening, Resumed}
 use Rattle.model.proofs.Tests.{and-both, and-left, and-right, cond-at, differ, elim-at, ranges-true}
 use Rattle.model.proofs.ByteLaws.{getD-listFrom, length-listFrom}
-use Rattle.model.proofs.SoundLaws.{true-sound}
-use Rattle.model.proofs.Events.{AllLegal, legal-reads}
+use Rattle.model.proofs.LineLaws.{sound-padded, sound-piece, sound-quiet, true-line}
+use Rattle.model.proofs.SoundLaws.{sound-true, true-sound}
+use Rattle.model.proofs.Events.{AllLegal, legal-append, legal-reads}
+use Rattle.model.proofs.Gathering.{none-unfinished}
+use Rattle.model.proofs.Printing.{printed-reads, reads-accepted}
 
 -- a call's number is 0 exactly when it is accepted
 free-number : (rs : List Reason) → allFree rs ≡ true → firstOf rs ≡ 0
@@ -39,18 +43,29 @@ pub number-accepted : (t : Terminal) (q : Request) → accepted t q ≡ true →
 unfolding accepted numberOf
 number-accepted t q e = free-number (reasons t (q .asked)) e
 
-pub accepted-number : (t : Terminal) (q : Request) → numberOf t q ≡ 0 → accepted t q ≡ true
-unfolding accepted numberOf reasons allFree firstOf
-accepted-number t q e = go (q .asked) e
-  where
-    three : (a b c : Bool) → _≡_ {A = ℕ} (elim a [ true ↦ elim b [ true ↦ elim c [ true ↦ 0 | false ↦ 3 ] | false ↦ 2 ] | false ↦ 1 ]) 0 → (a && (b && (c && true))) ≡ true
-    three true true true e = refl
-    three true true false e = absurd (omega arith)
-    three true false c e = absurd (omega arith)
-    three false b c e = absurd (omega arith)
+-- no reason's number is 0
+abbrev Numbered : List Reason → Type 0
+Numbered [] = Unit {0}
+Numbered (r ∷ rs) = (1 ≤ r .number) × Numbered rs
 
-    go : (a : Asked) → firstOf (reasons t a) ≡ 0 → allFree (reasons t a) ≡ true
-    go (message m) e = three (sized t) (short m) (soundIn t) e
+number-free : (rs : List Reason) → Numbered rs → firstOf rs ≡ 0 → allFree rs ≡ true
+unfolding allFree firstOf
+number-free [] p e = refl
+number-free (r ∷ rs) p e = go (r .free) e (number-free rs (p .1))
+  where
+    go : (b : Bool) → _≡_ {A = ℕ} (elim b [ true ↦ firstOf rs | false ↦ r .number ]) 0 → (firstOf rs ≡ 0 → allFree rs ≡ true) → (b && allFree rs) ≡ true
+    go true e f = f e
+    go false e f = absurd (omega (arith, p .0, e))
+
+numbered-reasons : (t : Terminal) (a : Asked) → Numbered (reasons t a)
+unfolding reasons
+numbered-reasons t (message m) = (omega arith, (omega arith, (omega arith, (omega arith, tt))))
+numbered-reasons t (piece m) = (omega arith, (omega arith, (omega arith, (omega arith, tt))))
+numbered-reasons t closing = (omega arith, (omega arith, tt))
+
+pub accepted-number : (t : Terminal) (q : Request) → numberOf t q ≡ 0 → accepted t q ≡ true
+unfolding accepted numberOf
+accepted-number t q e = number-free (reasons t (q .asked)) (numbered-reasons t (q .asked)) e
 
 pub refused-number : (t : Terminal) (q : Request) → (numberOf t q ≡ 0 → ⊥) → accepted t q ≡ false
 refused-number t q n = go (accepted t q) refl
@@ -61,50 +76,49 @@ refused-number t q n = go (accepted t q) refl
 
 -- of a refused call: "the settings given, zero counts, its number, and every store unaltered"
 pub refused-leaves : (t : Terminal) (q : Request) → accepted t q ≡ false → served t q ≡ t
-unfolding served eventsIn readsIn shownAfter applyAll
+unfolding served eventsIn shownAfter applyAll
 refused-leaves t q e =
-    ap (λ (b : Bool). let st = applyAll (eventsOf (cond b (readsBy t q) [])) (t .state) in terminal (st .settings) (st .cells) (st .layer) (cond b (painting st) (t .shown))) e
+    ap (λ (b : Bool). let st = applyAll (cond b (eventsBy t q) []) (t .state) in terminal (st .settings) (st .cells) (st .layer) (cond b (painting st) (t .shown))) e
 
-pub refused-answer : (t : Terminal) (q : Request) → accepted t q ≡ false → answerOf t q ≡ blankAnswer (numberOf t q)
-unfolding answerOf readsIn countedAll
-refused-answer t q e = ap (λ (b : Bool). countedAll (cond b (readsBy t q) []) (blankAnswer (numberOf t q))) e
+pub refused-answer : (t : Terminal) (q : Request) → accepted t q ≡ false → answerOf t q ≡ blankAnswer (numberOf t q) 0
+unfolding answerOf readsIn takenIn countedAll
+refused-answer t q e = ap (λ (b : Bool). countedAll (cond b (readsBy t q) []) (blankAnswer (numberOf t q) (cond b (takenBy (q .asked)) 0))) e
 
 pub refused-prints : (t : Terminal) (q : Request) → accepted t q ≡ false → printedBy t q ≡ []
-unfolding printedBy eventsIn readsIn copies
-refused-prints t q e = ap (λ (b : Bool). copies (eventsOf (cond b (readsBy t q) [])) (t .state)) e
+unfolding printedBy eventsIn copies
+refused-prints t q e = ap (λ (b : Bool). copies (cond b (eventsBy t q) []) (t .state)) e
 
 -- of an accepted call
 unfoldable pub after : Terminal → Request → Terminal
-after t q = let st = applyAll (eventsOf (readsBy t q)) (t .state) in record { state = st; shown = painting st }
+after t q = let st = applyAll (eventsBy t q) (t .state) in record { state = st; shown = painting st }
 
 pub accepted-leaves : (t : Terminal) (q : Request) → accepted t q ≡ true → served t q ≡ after t q
-unfolding served eventsIn readsIn shownAfter after
+unfolding served eventsIn shownAfter after
 accepted-leaves t q e =
-    ap (λ (b : Bool). let st = applyAll (eventsOf (cond b (readsBy t q) [])) (t .state) in terminal (st .settings) (st .cells) (st .layer) (cond b (painting st) (t .shown))) e
+    ap (λ (b : Bool). let st = applyAll (cond b (eventsBy t q) []) (t .state) in terminal (st .settings) (st .cells) (st .layer) (cond b (painting st) (t .shown))) e
 
-pub accepted-answer : (t : Terminal) (q : Request) → accepted t q ≡ true → answerOf t q ≡ countedAll (readsBy t q) (blankAnswer 0)
-unfolding answerOf readsIn
-accepted-answer t q e = (λ i. countedAll (cond (e i) (readsBy t q) []) (blankAnswer (number-accepted t q e i)))
+pub accepted-answer : (t : Terminal) (q : Request) → accepted t q ≡ true → answerOf t q ≡ countedAll (readsBy t q) (blankAnswer 0 (takenBy (q .asked)))
+unfolding answerOf readsIn takenIn
+accepted-answer t q e = (λ i. countedAll (cond (e i) (readsBy t q) []) (blankAnswer (number-accepted t q e i) (cond (e i) (takenBy (q .asked)) 0)))
 
 pub accepted-prints : (t : Terminal) (q : Request) → accepted t q ≡ true → printedBy t q ≡ copies (eventsOf (readsBy t q)) (t .state)
-unfolding printedBy eventsIn readsIn
-accepted-prints t q e = ap (λ (b : Bool). copies (eventsOf (cond b (readsBy t q) [])) (t .state)) e
+accepted-prints t q e = printed-reads t q ∙ ap (λ (rs : List Read). copies (eventsOf rs) (t .state)) (reads-accepted t q e)
 
 -- counting leaves the number
-counted-number : (i : Item) (n at : ℕ) (a : Answer) → counted i n at a .number ≡ a .number
-counted-number (Printed c) n at a = refl
-counted-number (Control c) n at a = refl
-counted-number (Sequence q) n at a = refl
-counted-number (Refused k p) n at a = refl
+counted-number : (i : Item) (at : ℕ) (a : Answer) → counted i at a .number ≡ a .number
+counted-number (Printed c) at a = refl
+counted-number (Control c) at a = refl
+counted-number (Sequence q) at a = refl
+counted-number (Refused k p) at a = refl
 
 all-number : (rs : List Read) (a : Answer) → countedAll rs a .number ≡ a .number
 unfolding countedAll
 all-number [] a = refl
-all-number (r ∷ rs) a = all-number rs _ ∙ counted-number (r .item) (length (r .bytes)) (r .at) a
+all-number (r ∷ rs) a = all-number rs _ ∙ counted-number (r .item) (r .at) a
 
 pub answer-number : (t : Terminal) (q : Request) → answerOf t q .number ≡ numberOf t q
 unfolding answerOf
-answer-number t q = all-number (readsIn t q) (blankAnswer (numberOf t q))
+answer-number t q = all-number (readsIn t q) (blankAnswer (numberOf t q) (takenIn t q))
 
 -- the promise is an equation on the whole terminal
 pub left-is : (c : Call) → Promised c → c .left ≡ served (c .given) (requestOf c)
@@ -114,10 +128,51 @@ pub state-served : (t : Terminal) (q : Request) → served t q .state ≡ applyA
 unfolding served
 state-served t q = refl
 
--- what a call reads is legal
+-- an accepted call was given sound settings, and stores of their sizes; a piece is within the limit, and a message is read while none waits
+sound-in : (t : Terminal) (q : Request) → accepted t q ≡ true → (sized t ≡ true) × (soundIn t ≡ true)
+unfolding accepted reasons allFree
+sound-in t q e = go (q .asked) e
+  where
+    three : (a b c d : Bool) → (a && (b && (c && (d && true)))) ≡ true → (a ≡ true) × (c ≡ true)
+    three a b c d e = let z = and-right b _ (and-right a _ e) in (and-left a _ e, and-left c _ z)
+
+    go : (a : Asked) → allFree (reasons t a) ≡ true → (sized t ≡ true) × (soundIn t ≡ true)
+    go (message m) e = three (sized t) (short m) (soundIn t) (noneWaits (t .state .settings)) e
+    go (piece m) e = three (sized t) (short m) (soundIn t) (countable (t .state .settings) m) e
+    go closing e = (and-left (sized t) _ e, and-left (soundIn t) _ (and-right (sized t) _ e))
+
+pub accepted-sized : (t : Terminal) (q : Request) → accepted t q ≡ true → sized t ≡ true
+accepted-sized t q e = sound-in t q e .0
+
+pub accepted-sound : (t : Terminal) (q : Request) → accepted t q ≡ true → Sound (t .state .settings)
+unfolding soundIn
+accepted-sound t q e = sound-true (t .state .settings) (sound-in t q e .1)
+
+pub accepted-counts : (t : Terminal) (m : List ℕ) (room : ℕ) → accepted t (request (piece m) room) ≡ true → t .state .settings .count + length m ≤ limit
+unfolding accepted reasons allFree countable
+accepted-counts t m room e = leb-true _ _ (and-left (leb (t .state .settings .count + length m) limit) true (and-right (soundIn t) _ (and-right (short m) _ (and-right (sized t) _ e))))
+
+pub accepted-quiet : (t : Terminal) (m : List ℕ) (room : ℕ) → accepted t (request (message m) room) ≡ true → t .state .settings .held ≡ 0
+unfolding accepted reasons allFree noneWaits
+accepted-quiet t m room e = eqb-true _ _ (and-left (eqb (t .state .settings .held) 0) true (and-right (soundIn t) _ (and-right (short m) _ (and-right (sized t) _ e))))
+
+-- what a call leaves of the line is sound
+legal-moved : (t : Terminal) (a : Asked) (room : ℕ) → accepted t (request a room) ≡ true → (st : State) → AllLegal (lineMoved (t .state .settings) a) st
+unfolding lineMoved
+legal-moved t (message m) room e st = tt
+legal-moved t (piece m) room e st =
+    let s = t .state .settings in
+    let r : List ℕ = remaining (heldIn s) m in
+    (true-line (padded r) (length r) (s .count + length m) (sound-piece (s .waiting) (s .held) (s .count) (accepted-sound t (request (piece m) room) e .line) m (accepted-counts t m room e)), tt)
+legal-moved t closing room e st = (true-line (padded []) 0 0 (sound-padded [] 0 none-unfinished (omega arith) (omega arith)), tt)
+
+-- what happens in a call is legal
 pub legal-in : (t : Terminal) (q : Request) → AllLegal (eventsIn t q) (t .state)
-unfolding readsIn readsBy eventsIn
-legal-in t q = cond-at (λ (rs : List Read). AllLegal (eventsOf rs) (t .state)) (accepted t q) _ _ (λ e. legal-reads _ _ (t .state) (q .room)) (λ e. tt)
+unfolding readsBy eventsIn eventsBy
+legal-in t q = cond-at (λ (es : List Event). AllLegal es (t .state)) (accepted t q) _ _
+    (λ e. legal-append (eventsOf (readsBy t q)) (lineMoved (t .state .settings) (q .asked)) (t .state)
+    (legal-reads (itemBytes (t .state .settings) (q .asked)) (startOf (t .state .settings) (q .asked)) (t .state) (q .room))
+    (legal-moved t (q .asked) (q .room) e (applyAll (eventsOf (readsBy t q)) (t .state)))) (λ e. tt)
 
 -- the shown screen: a painted one shows the picture
 shown-painting : (st : State) → Shown (record { state = st; shown = painting st })
@@ -157,18 +212,14 @@ sound-good : (t : Terminal) → Good (t .state) → soundIn t ≡ true
 unfolding soundIn
 sound-good t g = true-sound (t .state .settings) (g .sound)
 
-pub number-good : (t : Terminal) (q : Request) → Good (t .state) → length (t .shown) ≡ 640 → numberOf t q ≡ cond (acceptable (q .asked)) 0 2
-unfolding numberOf reasons firstOf
+pub number-good : (t : Terminal) (q : Request) → Good (t .state) → length (t .shown) ≡ 640 → numberOf t q ≡ firstOf (ownReasons (t .state .settings) (q .asked))
+unfolding numberOf reasons ownReasons firstOf
 number-good t q g e = go (q .asked)
   where
-    three : (a b c : Bool) → a ≡ true → c ≡ true → _≡_ {A = ℕ} (elim a [ true ↦ elim b [ true ↦ elim c [ true ↦ 0 | false ↦ 3 ] | false ↦ 2 ] | false ↦ 1 ]) (cond b 0 2)
-    three true true true p q = refl
-    three true false c p q = refl
-    three true true false p q = absurd (differ (sym q))
-    three false b c p q = absurd (differ (sym p))
-
-    go : (a : Asked) → firstOf (reasons t a) ≡ cond (acceptable a) 0 2
-    go (message m) = three (sized t) (short m) (soundIn t) (sized-good t g e) (sound-good t g)
+    go : (a : Asked) → firstOf (reasons t a) ≡ firstOf (ownReasons (t .state .settings) a)
+    go (message m) = λ i. firstOf (reason 1 (sized-good t g e i) ∷ reason 2 (short m) ∷ reason 3 (sound-good t g i) ∷ reason 16 (noneWaits (t .state .settings)) ∷ [])
+    go (piece m) = λ i. firstOf (reason 1 (sized-good t g e i) ∷ reason 2 (short m) ∷ reason 3 (sound-good t g i) ∷ reason 15 (countable (t .state .settings) m) ∷ [])
+    go closing = λ i. firstOf (reason 1 (sized-good t g e i) ∷ reason 3 (sound-good t g i) ∷ [])
 
 -- what an accepted opening leaves: blank, and the picture is blank
 opened-blank : replicate 640 32 ≡ painting opened
@@ -189,6 +240,7 @@ resumed-opened = record {
     step-low = omega arith;
     step-high = omega arith;
     plain = ranges-true (plainRanges openedSettings) refl;
+    line = sound-quiet;
   };
   cells-are = length-replicate {A = ℕ} 3840 32;
   layer-is = length-replicate {A = ℕ} 1280 0;

@@ -11,19 +11,21 @@ use Rattle.model.specs.declared.Item.{Item}
 use Rattle.model.specs.declared.Place.{Place}
 use Rattle.model.specs.declared.Item.the-variants.{Control, Printed, Refused, Sequence}
 use Rattle.model.specs.State.{State}
-use Rattle.model.specs.Sound.{Good}
-use Rattle.model.specs.Screens.{base, cellAt, columnsOf, lineAt, linesOf, size}
+use Rattle.model.specs.Screens.{base, cellAt, columnsOf, height, lineAt, linesOf, placeOf, size, textRows}
+use Rattle.model.specs.Line.{LineSound, line?, padded}
+use Rattle.model.specs.Sound.{Good, arrayRanges, keyRanges, plainRanges}
 use Rattle.model.specs.Sequences.{codeOf}
 use Rattle.model.specs.Reading.{byteOf, itemOf}
 use Rattle.model.specs.declared.Limits.{Limits}
 use Rattle.model.specs.Judging.{allowed, badOf, fitting, judged, legal?, legalItem?, limitsOf}
-use Rattle.model.specs.Rules.{applyItem}
-use Rattle.model.specs.Items.{Event, applyAll, happened, itemRead, eventsOf, readsOf}
+use Rattle.model.specs.Rules.{applyItem, withSettings}
+use Rattle.model.specs.Items.{Event, applyAll, happened, itemRead, lineLeft, lined, eventsOf, readsOf}
 use Rattle.model.specs.Claims.{InWindow, On, Unchanged, isRefusal, mustFollow, refusedEvent, setsMode}
 use Rattle.model.proofs.Frames.{SameScreen, legalEvent?}
 use Rattle.model.specs.Demand.{noEvent}
 use Rattle.model.proofs.Tests.{cond-at, differ}
 use Rattle.model.proofs.ByteLaws.{getD-part}
+use Rattle.model.proofs.LineLaws.{length-padded, line-true}
 use Rattle.model.proofs.Keep.{line-inside}
 use Rattle.model.proofs.ItemLaws.{Obeyed, obeyed-item}
 use Rattle.model.proofs.Following.{window-item}
@@ -66,14 +68,42 @@ unfolding applyAll
 legal-append [] fs a p q = q
 legal-append (e ∷ es) fs a p q = (p .0, legal-append es fs (happened e a) (p .1) q)
 
+-- a line that is left: nothing else moves
+good-lined : (w : List ℕ) (n : ℕ) (a : State) → Good a → line? (padded w) (length w) n ≡ true → Good (lined w n a)
+unfolding lined withSettings arrayRanges plainRanges keyRanges linesOf columnsOf height textRows placeOf
+good-lined w n a g e =
+    let l : LineSound (padded w) (length w) n = line-true (padded w) (length w) n e in
+    let z : length (padded w) ≡ 12 = length-padded w (l .fits) in
+    let h = g .sound .arrays in
+    record {
+      sound = record {
+        arrays = (h .0, (h .1 .0, (h .1 .1 .0, (h .1 .1 .1 .0, ((omega (arith, z), omega (arith, z)), tt)))));
+        shaped = g .sound .shaped;
+        selected = g .sound .selected;
+        inside = g .sound .inside;
+        step-low = g .sound .step-low;
+        step-high = g .sound .step-high;
+        plain = g .sound .plain;
+        line = l;
+      };
+      cells-are = g .cells-are;
+      layer-are = g .layer-are;
+    }
+
+same-lined : (k : ℕ) (w : List ℕ) (n : ℕ) (a : State) → SameScreen k a (lined w n a)
+unfolding lined withSettings linesOf columnsOf height textRows placeOf base size
+same-lined k w n a = record { same-base = refl; same-lines = refl; same-columns = refl; same-height = refl; same-place = refl; same-cells = refl }
+
 -- one event
 obeyed-event : (e : Event) (a : State) → Good a → legalEvent? e (limitsOf (a .settings)) ≡ true → Obeyed a (happened e a) (setsMode e)
 unfolding happened
 obeyed-event (itemRead r) a g l = obeyed-item (byteOf r) (r .item) a g l
+obeyed-event (lineLeft w n) a g l = record { good = good-lined w n a g l; other = λ e k h d. same-lined k w n a }
 
 window-event : (e : Event) (a : State) → Good a → legalEvent? e (limitsOf (a .settings)) ≡ true → mustFollow e ≡ true → a .settings .tracking ≡ 1 → InWindow (happened e a)
 unfolding happened
 window-event (itemRead r) a g l f on = window-item (byteOf r) (r .item) a g l f on
+window-event (lineLeft w n) a g l f on = absurd (differ (sym f))
 
 -- what stands before event n
 abbrev pub at : List Event → State → ℕ → State
@@ -84,6 +114,11 @@ unfolding applyAll
 good-at es a g l zero = g
 good-at [] a g l (suc n) = g
 good-at (e ∷ es) a g l (suc n) = good-at es (happened e a) (obeyed-event e a g (l .0) .good) (l .1) n
+
+pub good-all : (es : List Event) (a : State) → Good a → AllLegal es a → Good (applyAll es a)
+unfolding applyAll
+good-all [] a g l = g
+good-all (e ∷ es) a g l = good-all es (happened e a) (obeyed-event e a g (l .0) .good) (l .1)
 
 -- what stands after event n
 pub at-next : (es : List Event) (a : State) (n : ℕ) → n < length es → at es a (suc n) ≡ happened (getD es n noEvent) (at es a n)
@@ -102,6 +137,7 @@ refused-nothing (itemRead r) a e = go (r .item) e
     go (Control c) e = absurd (differ (sym e))
     go (Sequence q) e = absurd (differ (sym e))
     go (Refused n p) e = refl
+refused-nothing (lineLeft w n) a e = absurd (differ (sym e))
 
 -- what event n does
 pub event-at : (es : List Event) (a : State) → Good a → AllLegal es a → (n : ℕ) → n < length es → Obeyed (at es a n) (at es a (suc n)) (setsMode (getD es n noEvent))

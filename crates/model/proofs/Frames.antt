@@ -3,12 +3,13 @@ use mathlib.Core.Path.{_≡_}
 use Prim.Native.Nat.{ℕ}
 use mathlib.Core.Bool.{Bool}
 use mathlib.Core.List.{List}
-use lib.ListN.{take, drop}
+use lib.ListN.{length, take, drop}
 use Rattle.model.specs.declared.Limits.{Limits}
 use Rattle.model.specs.State.{State}
 use Rattle.model.specs.Screens.{linesOf, columnsOf, placeOf, height, base, size}
+use Rattle.model.specs.Line.{line?, padded}
 use Rattle.model.specs.Judging.{legalItem?}
-use Rattle.model.specs.Items.{Event, itemRead}
+use Rattle.model.specs.Items.{Event, itemRead, lineLeft}
 
 -- the cells of screen k
 abbrev pub cellsOf : State → ℕ → List ℕ
@@ -23,6 +24,7 @@ pub record SameScreen (k : ℕ) (a b : State) : Type 0 where
   pub same-place : placeOf (b .settings) k ≡ placeOf (a .settings) k
   pub same-cells : cellsOf b k ≡ cellsOf a k
 
--- the parameters of an event are in their ranges
+-- the parameters of an event are in their ranges, and a line that is left is sound
 abbrev pub legalEvent? : Event → Limits → Bool
 legalEvent? (itemRead r) s = legalItem? (r .item) s
+legalEvent? (lineLeft w n) s = line? (padded w) (length w) n

@@ -23,7 +23,21 @@ all-bytes w (x ∷ xs) =
     (unfinished? v) (all-bytes v xs ∙ append-assoc w (x ∷ []) xs)
     (append-assoc v (joined (gathered [] xs)) (remaining [] xs) ∙ ap (λ (l : List ℕ). v ++ l) (all-bytes [] xs) ∙ append-assoc w (x ∷ []) xs)
 
-joined-last : (xss : List (List ℕ)) (w : List ℕ) → joined (xss ++ lastly w) ≡ joined xss ++ w
+-- gathering goes on where it stopped: bytes may come in pieces
+pub gathered-append : (w xs ys : List ℕ) → (gathered w (xs ++ ys) ≡ gathered w xs ++ gathered (remaining w xs) ys) × (remaining w (xs ++ ys) ≡ remaining (remaining w xs) ys)
+unfolding gathered remaining
+gathered-append w [] ys = (refl, refl)
+gathered-append w (x ∷ xs) ys =
+    let v : List ℕ = w ++ (x ∷ []) in
+    by-test
+    (λ b. (elim b as (λ b. List (List ℕ)) [ true ↦ gathered v (xs ++ ys) | false ↦ v ∷ gathered [] (xs ++ ys) ]
+    ≡ elim b as (λ b. List (List ℕ)) [ true ↦ gathered v xs | false ↦ v ∷ gathered [] xs ] ++ gathered (elim b as (λ b. List ℕ) [ true ↦ remaining v xs | false ↦ remaining [] xs ]) ys)
+    × (elim b as (λ b. List ℕ) [ true ↦ remaining v (xs ++ ys) | false ↦ remaining [] (xs ++ ys) ]
+    ≡ remaining (elim b as (λ b. List ℕ) [ true ↦ remaining v xs | false ↦ remaining [] xs ]) ys))
+    (unfinished? v) (gathered-append v xs ys)
+    (ap (λ (l : List (List ℕ)). v ∷ l) (gathered-append [] xs ys .0), gathered-append [] xs ys .1)
+
+pub joined-last : (xss : List (List ℕ)) (w : List ℕ) → joined (xss ++ lastly w) ≡ joined xss ++ w
 unfolding joined
 joined-last [] [] = refl
 joined-last [] (b ∷ bs) = append-nil (b ∷ bs)
@@ -64,6 +78,59 @@ needed-least [] = omega arith
 needed-least (b ∷ []) = cond-at (λ (n : ℕ). 1 ≤ n) (eqb b 27) 2 1 (λ e. omega arith) (λ e. omega arith)
 needed-least (b ∷ c ∷ []) = cond-at (λ (n : ℕ). 1 ≤ n) (eqb b 27) _ 1 (λ e. cond-at (λ (n : ℕ). 1 ≤ n) (eqb c 208) 3 (rowOf c .bytes) (λ e. omega arith) (λ e. omega (arith, row-length c))) (λ e. omega arith)
 needed-least (b ∷ c ∷ k ∷ bs) = cond-at (λ (n : ℕ). 1 ≤ n) (eqb b 27) _ 1 (λ e. cond-at (λ (n : ℕ). 1 ≤ n) (eqb c 208) (modeRowOf k .bytes) (rowOf c .bytes) (λ e. omega (arith, mode-length k)) (λ e. omega (arith, row-length c))) (λ e. omega arith)
+
+-- no sequence has more than 13 bytes
+pub needed-most : (bs : List ℕ) → needed bs ≤ 13
+unfolding needed afterEscape afterMode
+needed-most [] = omega arith
+needed-most (b ∷ []) = cond-at (λ (n : ℕ). n ≤ 13) (eqb b 27) 2 1 (λ e. omega arith) (λ e. omega arith)
+needed-most (b ∷ c ∷ []) = cond-at (λ (n : ℕ). n ≤ 13) (eqb b 27) _ 1 (λ e. cond-at (λ (n : ℕ). n ≤ 13) (eqb c 208) 3 (rowOf c .bytes) (λ e. omega arith) (λ e. row-length c .1)) (λ e. omega arith)
+needed-most (b ∷ c ∷ k ∷ bs) = cond-at (λ (n : ℕ). n ≤ 13) (eqb b 27) _ 1 (λ e. cond-at (λ (n : ℕ). n ≤ 13) (eqb c 208) (modeRowOf k .bytes) (rowOf c .bytes) (λ e. mode-length k .1) (λ e. row-length c .1)) (λ e. omega arith)
+
+-- so at most 12 wait
+pub waiting-most : (bs : List ℕ) → unfinished? bs ≡ true → length bs ≤ 12
+unfolding unfinished?
+waiting-most bs e = omega (arith, ltb-true (length bs) (needed bs) e, needed-most bs)
+
+after-mode : (ys : List ℕ) → 3 ≤ afterMode ys
+unfolding afterMode
+after-mode [] = omega arith
+after-mode (k ∷ ys) = mode-length k .0
+
+after-escape : (ys : List ℕ) → 2 ≤ afterEscape ys
+unfolding afterEscape
+after-escape [] = omega arith
+after-escape (c ∷ ys) = cond-at (λ (n : ℕ). 2 ≤ n) (eqb c 208) (afterMode ys) (rowOf c .bytes) (λ e. omega (arith, after-mode ys)) (λ e. row-length c .0)
+
+-- unfinished bytes stay short of their need, whatever follows
+pub needed-grows : (w ys : List ℕ) → length w < needed w → length w < needed (w ++ ys)
+unfolding needed afterEscape afterMode
+needed-grows [] ys h = needed-least ys
+needed-grows (b ∷ []) ys h = go (eqb b 27) h (after-escape ys)
+  where
+    go : (t : Bool) → 1 < cond t 2 1 → 2 ≤ afterEscape ys → 1 < cond t (afterEscape ys) 1
+    go true h k = k
+    go false h k = h
+needed-grows (b ∷ c ∷ []) ys h = go (eqb b 27) (eqb c 208) h (after-mode ys)
+  where
+    go : (t u : Bool) → 2 < cond t (cond u 3 (rowOf c .bytes)) 1 → 3 ≤ afterMode ys → 2 < cond t (cond u (afterMode ys) (rowOf c .bytes)) 1
+    go true true h k = k
+    go true false h k = h
+    go false u h k = absurd (omega arith)
+needed-grows (b ∷ c ∷ k ∷ w) ys h = h
+
+-- none are unfinished too
+pub none-unfinished : unfinished? [] ≡ true
+unfolding unfinished? needed
+none-unfinished = refl
+
+-- what waits in the end is unfinished, as what waited was
+pub remaining-unfinished : (w xs : List ℕ) → unfinished? w ≡ true → unfinished? (remaining w xs) ≡ true
+unfolding remaining
+remaining-unfinished w [] e = e
+remaining-unfinished w (x ∷ xs) e =
+    elim-at (λ (l : List ℕ). unfinished? l ≡ true) (unfinished? (w ++ (x ∷ []))) (remaining (w ++ (x ∷ [])) xs) (remaining [] xs)
+    (λ f. remaining-unfinished (w ++ (x ∷ [])) xs f) (λ f. remaining-unfinished [] xs none-unfinished)
 
 -- more bytes change nothing once there are enough
 pub needed-more : (xs ys : List ℕ) → needed xs ≤ length xs → needed (xs ++ ys) ≡ needed xs
@@ -120,7 +187,7 @@ needed-three b c k bs (suc zero) h e f = absurd (omega arith)
 needed-three b c k bs (suc (suc zero)) h e f = absurd (omega arith)
 needed-three b c k bs (suc (suc (suc n))) h e f = rw (e, f)
 
-needed-own : (bs : List ℕ) → needed (take (needed bs) bs) ≡ needed bs
+pub needed-own : (bs : List ℕ) → needed (take (needed bs) bs) ≡ needed bs
 unfolding needed afterEscape afterMode
 needed-own [] = refl
 needed-own (b ∷ []) = cond-at (λ (n : ℕ). needed (take n (b ∷ [])) ≡ n) (eqb b 27) 2 1 (λ e. rw e) (λ e. rw e)
@@ -132,7 +199,7 @@ needed-own (b ∷ c ∷ k ∷ bs) =
     (λ e. cond-at (λ (n : ℕ). needed (take n (b ∷ c ∷ k ∷ bs)) ≡ n) (eqb c 208) (modeRowOf k .bytes) (rowOf c .bytes) (λ f. needed-three b c k bs _ (mode-length k .0) e f) (λ f. needed-two b c (k ∷ bs) _ (row-length c .0) e f)) (λ e. rw e)
 
 -- an item is cut off at once, whatever follows
-finished : (w : List ℕ) (y : ℕ) (ys rest : List ℕ) → length (w ++ (y ∷ ys)) ≡ needed (w ++ (y ∷ ys))
+pub finished : (w : List ℕ) (y : ℕ) (ys rest : List ℕ) → length (w ++ (y ∷ ys)) ≡ needed (w ++ (y ∷ ys))
     → (gathered w ((y ∷ ys) ++ rest) ≡ (w ++ (y ∷ ys)) ∷ gathered [] rest) × (remaining w ((y ∷ ys) ++ rest) ≡ remaining [] rest)
 unfolding gathered remaining unfinished?
 finished w y [] rest h =
@@ -157,7 +224,7 @@ finished w y (x ∷ ys) rest h =
         let f : needed v ≤ length v = ltb-false _ _ e in
         absurd (omega (arith, length-append v (x ∷ ys), f, needed-more v (x ∷ ys) f, h))
 
-cut-off : (own rest : List ℕ) → length own ≡ needed own → (gathered [] (own ++ rest) ≡ own ∷ gathered [] rest) × (remaining [] (own ++ rest) ≡ remaining [] rest)
+pub cut-off : (own rest : List ℕ) → length own ≡ needed own → (gathered [] (own ++ rest) ≡ own ∷ gathered [] rest) × (remaining [] (own ++ rest) ≡ remaining [] rest)
 unfolding needed
 cut-off [] rest h = absurd (omega arith)
 cut-off (y ∷ ys) rest h = finished [] y ys rest h
@@ -171,14 +238,14 @@ some-append : {xs ys : List (List ℕ)} → AllSome xs → AllSome ys → AllSom
 some-append none q = q
 some-append (some h p) q = some h (some-append p q)
 
-some-gathered : (w bs : List ℕ) → AllSome (gathered w bs)
+pub some-gathered : (w bs : List ℕ) → AllSome (gathered w bs)
 unfolding gathered
 some-gathered w [] = none
 some-gathered w (b ∷ bs) =
     elim-at AllSome (unfinished? (w ++ (b ∷ []))) (gathered (w ++ (b ∷ [])) bs) ((w ++ (b ∷ [])) ∷ gathered [] bs) (λ e. some-gathered (w ++ (b ∷ [])) bs)
     (λ e. some (simp length-append (omega arith)) (some-gathered [] bs))
 
-some-last : (w : List ℕ) → AllSome (lastly w)
+pub some-last : (w : List ℕ) → AllSome (lastly w)
 some-last [] = none
 some-last (b ∷ bs) = some {x = b ∷ bs} (omega arith) none
 

@@ -51,6 +51,7 @@ sound-mode s m l1 l2 c1 c2 b h z = record {
   step-low = omega arith;
   step-high = omega (arith, height-low (withMode s m l1 l2 c1 c2 b));
   plain = search (h .plain, tracks) depth 30;
+  line = h .line;
 }
   where
     tracks : Passes (range 0 1 1)
@@ -70,7 +71,7 @@ kept-display : (n : ℕ) (a : State) → Good a → Passes (range 0 n 1) → Kep
 unfolding withSettings plainRanges arrayRanges keyRanges linesOf columnsOf height textRows placeOf base size
 kept-display n a g e = record {
   good = record {
-    sound = record { arrays = g .sound .arrays; shaped = g .sound .shaped; selected = g .sound .selected; inside = g .sound .inside; step-low = g .sound .step-low; step-high = g .sound .step-high; plain = search (g .sound .plain, e) depth 30 };
+    sound = record { arrays = g .sound .arrays; shaped = g .sound .shaped; selected = g .sound .selected; inside = g .sound .inside; step-low = g .sound .step-low; step-high = g .sound .step-high; plain = search (g .sound .plain, e) depth 30; line = g .sound .line };
     cells-are = g .cells-are;
     layer-are = g .layer-are;
   };

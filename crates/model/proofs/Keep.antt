@@ -129,6 +129,7 @@ module _ (a : State) (g : Good a) where
         step-low = g .sound .step-low;
         step-high = g .sound .step-high;
         plain = g .sound .plain;
+        line = g .sound .line;
       };
       cells-are = g .cells-are;
       layer-are = g .layer-are;
@@ -205,7 +206,7 @@ module _ (a : State) (g : Good a) where
   unfolding withSettings plainRanges keyRanges linesOf columnsOf height textRows placeOf base size
   kept-stored-only kind ks ps h l = record {
     good = record {
-      sound = record { arrays = l; shaped = g .sound .shaped; selected = g .sound .selected; inside = g .sound .inside; step-low = g .sound .step-low; step-high = g .sound .step-high; plain = search (g .sound .plain, h) depth 30 };
+      sound = record { arrays = l; shaped = g .sound .shaped; selected = g .sound .selected; inside = g .sound .inside; step-low = g .sound .step-low; step-high = g .sound .step-high; plain = search (g .sound .plain, h) depth 30; line = g .sound .line };
       cells-are = g .cells-are;
       layer-are = g .layer-are;
     };
@@ -220,7 +221,7 @@ module _ (a : State) (g : Good a) where
       → Good (flagged sel tr st se cu a) × ((k : ℕ) → SameScreen k a (flagged sel tr st se cu a))
   unfolding flagged withSettings plainRanges arrayRanges keyRanges linesOf columnsOf height textRows placeOf base size
   kept-flags sel tr st se cu o p q r u v = (
-    record { sound = record { arrays = g .sound .arrays; shaped = g .sound .shaped; selected = o; inside = g .sound .inside; step-low = q; step-high = r; plain = search (g .sound .plain, p, u, v) depth 30 }; cells-are = g .cells-are; layer-are = g .layer-are },
+    record { sound = record { arrays = g .sound .arrays; shaped = g .sound .shaped; selected = o; inside = g .sound .inside; step-low = q; step-high = r; plain = search (g .sound .plain, p, u, v) depth 30; line = g .sound .line }; cells-are = g .cells-are; layer-are = g .layer-are },
     λ k. record { same-base = refl; same-lines = refl; same-columns = refl; same-height = refl; same-place = refl; same-cells = refl },
   )
 

@@ -23,7 +23,7 @@ use Rattle.model.specs.State.{State}
 use Rattle.model.specs.Reading.{Read, decoded, ended, itemOf, kindOf, unfinished?}
 use Rattle.model.specs.Judging.{allowed, badOf, fitting, judged, legal?, limitsOf, ranges}
 use Rattle.model.specs.Items.{blankAnswer, counted, countedAll, obeyedBy, printerBytes, read, readsOf}
-use Rattle.model.specs.Calls.{Request, Terminal, accepted, answerOf, numberOf, readsBy, readsIn, requestOf}
+use Rattle.model.specs.Calls.{Request, Terminal, accepted, answerOf, numberOf, readsBy, readsIn, requestOf, takenIn}
 use Rattle.model.specs.Claims.{isRefusal}
 use Rattle.model.specs.Demand.{stood}
 use Rattle.model.specs.Parameters.{FirstBad, FirstRefusal, Named, NamedItem, Naming, behind, here, none, valuesOf}
@@ -138,11 +138,11 @@ decoded-numbered at bs s =
     (λ e. elim-at (Numbered p s) (ltb (getD bs 0 0) 32) (Control (getD bs 0 0)) (Printed (getD bs 0 0)) (λ e. refl) (λ e. refl))
 
 -- counting hands on a number and its parameter together
-counted-named : (i : Item) (n at : ℕ) (a : Answer) → NamedItem i → Named (a .first) (a .parameter) → Named (counted i n at a .first) (counted i n at a .parameter)
-counted-named (Printed c) n at a h g = g
-counted-named (Control c) n at a h g = g
-counted-named (Sequence q) n at a h g = g
-counted-named (Refused k p) n at a h g = go (eqb (a .refused) 0)
+counted-named : (i : Item) (at : ℕ) (a : Answer) → NamedItem i → Named (a .first) (a .parameter) → Named (counted i at a .first) (counted i at a .parameter)
+counted-named (Printed c) at a h g = g
+counted-named (Control c) at a h g = g
+counted-named (Sequence q) at a h g = g
+counted-named (Refused k p) at a h g = go (eqb (a .refused) 0)
   where
     go : (b : Bool) → Named (cond b k (a .first)) (cond b p (a .parameter))
     go true = h
@@ -154,8 +154,8 @@ unfolding countedAll readsOf
 all-named [] at st room a g = g
 all-named (bs ∷ bss) at st room a g =
     let r = read at bs (limitsOf (st .settings)) room in
-    all-named bss (at + length bs) (obeyedBy r st) (room - printerBytes (r .item)) (counted (r .item) (length bs) at a)
-    (counted-named (r .item) (length bs) at a (read-named at bs (limitsOf (st .settings)) room) g)
+    all-named bss (at + length bs) (obeyedBy r st) (room - printerBytes (r .item)) (counted (r .item) at a)
+    (counted-named (r .item) at a (read-named at bs (limitsOf (st .settings)) room) g)
 
 none-named : Named 0 0
 none-named = record { eleven = λ e. absurd (omega arith); another = λ e. refl }
@@ -163,24 +163,24 @@ none-named = record { eleven = λ e. absurd (omega arith); another = λ e. refl 
 answer-named : (t : Terminal) (q : Request) → Named (answerOf t q .first) (answerOf t q .parameter)
 unfolding answerOf readsIn readsBy countedAll
 answer-named t q =
-    cond-at (λ (rs : List Read). let a = countedAll rs (blankAnswer (numberOf t q)) in Named (a .first) (a .parameter)) (accepted t q) _ []
-    (λ e. all-named _ _ (t .state) (q .room) (blankAnswer (numberOf t q)) none-named) (λ e. none-named)
+    cond-at (λ (rs : List Read). let a = countedAll rs (blankAnswer (numberOf t q) (takenIn t q)) in Named (a .first) (a .parameter)) (accepted t q) _ []
+    (λ e. all-named _ _ (t .state) (q .room) (blankAnswer (numberOf t q) (takenIn t q)) none-named) (λ e. none-named)
 
 -- once an item is refused, what is first stays
-kept-first : (i : Item) (n at : ℕ) (a : Answer) → eqb (a .refused) 0 ≡ false
-    → let b = counted i n at a in (eqb (b .refused) 0 ≡ false) × (b .first ≡ a .first) × (b .parameter ≡ a .parameter) × (b .offset ≡ a .offset)
-kept-first (Printed c) n at a e = (e, refl, refl, refl)
-kept-first (Control c) n at a e = (e, refl, refl, refl)
-kept-first (Sequence q) n at a e = (e, refl, refl, refl)
-kept-first (Refused k p) n at a e = (ne-eqb (a .refused + 1) 0 (λ f. omega arith), rw e, rw e, rw e)
+kept-first : (i : Item) (at : ℕ) (a : Answer) → eqb (a .refused) 0 ≡ false
+    → let b = counted i at a in (eqb (b .refused) 0 ≡ false) × (b .first ≡ a .first) × (b .parameter ≡ a .parameter) × (b .offset ≡ a .offset)
+kept-first (Printed c) at a e = (e, refl, refl, refl)
+kept-first (Control c) at a e = (e, refl, refl, refl)
+kept-first (Sequence q) at a e = (e, refl, refl, refl)
+kept-first (Refused k p) at a e = (ne-eqb (a .refused + 1) 0 (λ f. omega arith), rw e, rw e, rw e)
 
 all-kept : (rs : List Read) (a : Answer) → eqb (a .refused) 0 ≡ false
     → let b = countedAll rs a in (b .first ≡ a .first) × (b .parameter ≡ a .parameter) × (b .offset ≡ a .offset)
 unfolding countedAll
 all-kept [] a e = (refl, refl, refl)
 all-kept (r ∷ rs) a e =
-    let b = counted (r .item) (length (r .bytes)) (r .at) a in
-    let k = kept-first (r .item) (length (r .bytes)) (r .at) a e in
+    let b = counted (r .item) (r .at) a in
+    let k = kept-first (r .item) (r .at) a e in
     let z = all-kept rs b (k .0) in
     (z .0 ∙ k .1, z .1 ∙ k .2, z .2 ∙ k .3)
 
@@ -196,12 +196,12 @@ unfolding countedAll
 first-in [] a h = rw (h .1, h .2, h .3) none
 first-in (r ∷ rs) a h = go (r .item) refl (first-in rs)
   where
-    go : (i : Item) → r .item ≡ i → ((b : Answer) → NoneYet b → FirstIn rs (countedAll rs b)) → FirstIn (r ∷ rs) (countedAll rs (counted i (length (r .bytes)) (r .at) a))
+    go : (i : Item) → r .item ≡ i → ((b : Answer) → NoneYet b → FirstIn rs (countedAll rs b)) → FirstIn (r ∷ rs) (countedAll rs (counted i (r .at) a))
     go (Printed c) e rest = behind (ap isRefusal e) (rest _ h)
     go (Control c) e rest = behind (ap isRefusal e) (rest _ h)
     go (Sequence q) e rest = behind (ap isRefusal e) (rest _ h)
     go (Refused k p) e rest =
-        let b = counted (Refused k p) (length (r .bytes)) (r .at) a in
+        let b = counted (Refused k p) (r .at) a in
         let z = all-kept rs b (ne-eqb (b .refused) 0 (λ f. omega arith)) in
         rw (z .0, z .1, z .2, h .0) (here e)
 
@@ -211,7 +211,7 @@ refused-by q s room e = ap (λ (b : Bool). fitting (cond b (Sequence q) (Refused
 
 answer-first : (t : Terminal) (q : Request) → FirstIn (readsIn t q) (answerOf t q)
 unfolding answerOf
-answer-first t q = first-in (readsIn t q) (blankAnswer (numberOf t q)) (refl, refl, refl, refl)
+answer-first t q = first-in (readsIn t q) (blankAnswer (numberOf t q) (takenIn t q)) (refl, refl, refl, refl)
 
 mode-byte : (at : ℕ) (bs : List ℕ) → getD bs 0 0 ≡ 27 → getD bs 1 0 ≡ 208 → 3 < getD bs 2 0 → decoded at bs ≡ Refused 11 1
 unfolding decoded kindOf modeRowOf find

@@ -1,29 +1,30 @@
--- The counts of the answer: the printer bytes are as many as the answer says and fit in the room, and every byte is taken.
+-- The counts of the answer: the printer bytes are as many as the answer says and fit in the room, and every byte that is sent is taken.
 use mathlib.Core.Path.{_∙_, _≡_, ap, refl, subst, sym}
 use Prim.Native.Nat.{_*_, _+_, _-_, _≤_, max, suc, zero, ℕ}
 use native.Mathlib.Nat.{add-zero, zero-add}
 use native.Mathlib.Omega.{arith}
 use mathlib.Core.Bool.{Bool, _&&_, cond, true}
-use mathlib.Core.List.{List, [], _∷_}
+use mathlib.Core.List.{List, [], _++_, _∷_, append-assoc, append-nil}
 use lib.ListN.{length, length-append}
 use lib.Dec.{eqb, ltb}
 use borrow.Author.Tests.{ltb-false}
 use Rattle.model.specs.declared.Answer.{Answer}
 use Rattle.model.specs.declared.Item.{Item}
 use Rattle.model.specs.declared.Item.the-variants.{Control, Printed, Refused, Sequence}
-use Rattle.model.specs.Bytes.{joined, listFrom}
+use Rattle.model.specs.declared.Settings.{Settings}
+use Rattle.model.specs.Bytes.{listFrom}
+use Rattle.model.specs.Line.{heldIn}
 use Rattle.model.specs.State.{State}
 use Rattle.model.specs.Picture.{copied, copiedRows, picture}
 use Rattle.model.specs.Sequences.{codeOf}
 use Rattle.model.specs.Reading.{Read, itemOf}
 use Rattle.model.specs.Judging.{allowed, fitting, limitsOf}
-use Rattle.model.specs.Items.{blankAnswer, bytesRead, copies, copyOf, counted, countedAll, happened, eventsOf, obeyedBy, printerBytes, read, readsOf}
-use Rattle.model.specs.Calls.{Asked, Call, Promised, Request, Terminal, accepted, answerOf, eventsIn, itemBytes, message, numberOf, printedBy, readsBy, readsIn, requestOf, startOf}
+use Rattle.model.specs.Items.{Event, applyAll, blankAnswer, bytesRead, copies, copyOf, counted, countedAll, happened, eventsOf, obeyedBy, printerBytes, printsOf, read, readsOf}
+use Rattle.model.specs.Calls.{Asked, Call, Promised, Request, Terminal, accepted, answerOf, closing, eventsBy, eventsIn, itemBytes, lineMoved, message, numberOf, piece, printedBy, readsBy, readsIn, requestOf, sentBy, startOf, takenBy, takenIn}
 use Rattle.model.specs.Claims.{InOrder}
-use Rattle.model.specs.Demand.{sentBy}
 use Rattle.model.proofs.Tests.{cond-at, cond₂}
 use Rattle.model.proofs.ByteLaws.{length-listFrom, length-written}
-use Rattle.model.proofs.Gathering.{AllSome, joined-uncut, none, some, some-uncut}
+use Rattle.model.proofs.Gathering.{AllSome, none, some, some-gathered, some-last, some-uncut}
 
 pub length-rows : (f : ℕ → ℕ) (r n : ℕ) → length (copiedRows f r n) ≡ n * 82
 unfolding copiedRows
@@ -65,52 +66,75 @@ copies-fit (bs ∷ bss) at st room =
     let k : printerBytes (r .item) ≤ room = fits-room (allowed (itemOf at bs) (limitsOf (st .settings))) room in
     subst (λ (n : ℕ). n ≤ room) (sym (length-append (copyOf (r .item) st) rest ∙ ap (λ (n : ℕ). n + length rest) (length-copy (r .item) st))) (omega (arith, h, k))
 
+-- what is printed by events one behind the other
+pub copies-append : (es fs : List Event) (a : State) → copies (es ++ fs) a ≡ copies es a ++ copies fs (applyAll es a)
+unfolding copies applyAll
+copies-append [] fs a = refl
+copies-append (e ∷ es) fs a =
+    ap (λ (l : List ℕ). printsOf e a ++ l) (copies-append es fs (happened e a)) ∙ sym (append-assoc (printsOf e a) (copies es (happened e a)) (copies fs (applyAll es (happened e a))))
+
+-- nothing is printed where a line is left
+moved-prints : (s : Settings) (q : Asked) (a : State) → copies (lineMoved s q) a ≡ []
+unfolding lineMoved copies
+moved-prints s (message m) a = refl
+moved-prints s (piece m) a = refl
+moved-prints s closing a = refl
+
+-- the items alone print
+pub prints-by : (t : Terminal) (q : Request) → copies (eventsBy t q) (t .state) ≡ copies (eventsOf (readsBy t q)) (t .state)
+unfolding eventsBy
+prints-by t q =
+    copies-append (eventsOf (readsBy t q)) (lineMoved (t .state .settings) (q .asked)) (t .state)
+    ∙ ap (λ (l : List ℕ). copies (eventsOf (readsBy t q)) (t .state) ++ l) (moved-prints (t .state .settings) (q .asked) _)
+    ∙ append-nil (copies (eventsOf (readsBy t q)) (t .state))
+
+pub printed-reads : (t : Terminal) (q : Request) → printedBy t q ≡ copies (eventsOf (readsIn t q)) (t .state)
+unfolding printedBy eventsIn readsIn copies
+printed-reads t q = cond₂ (λ (es : List Event) (rs : List Read). copies es (t .state) ≡ copies (eventsOf rs) (t .state)) (accepted t q) (accepted t q) (eventsBy t q) [] (readsBy t q) [] refl (λ e. prints-by t q) (λ e. refl)
+
 -- the printer bytes of a call fit in its room
 pub prints-fit : (d : Terminal) (q : Request) → length (printedBy d q) ≤ q .room
-unfolding printedBy eventsIn readsIn readsBy copies
-prints-fit d q = cond-at (λ (rs : List Read). length (copies (eventsOf rs) (d .state)) ≤ q .room) (accepted d q) _ [] (λ e. copies-fit _ _ (d .state) (q .room)) (λ e. omega arith)
+unfolding readsIn readsBy copies
+prints-fit d q = subst (λ (l : List ℕ). length l ≤ q .room) (sym (printed-reads d q))
+    (cond-at (λ (rs : List Read). length (copies (eventsOf rs) (d .state)) ≤ q .room) (accepted d q) _ [] (λ e. copies-fit _ _ (d .state) (q .room)) (λ e. omega arith))
 
 -- so the printer buffer keeps its length
 pub buffer-length : (c : Call) → Promised c → length (c .printer) ≡ length (c .buffer)
 buffer-length c p = ap length (p .printer-is) ∙ length-written _ (c .buffer) (prints-fit (c .given) (requestOf c))
 
 -- one item more
-counted-printed : (i : Item) (n at : ℕ) (a : Answer) → counted i n at a .printed ≡ a .printed + printerBytes i
-counted-printed (Printed c) n at a = sym (add-zero (a .printed))
-counted-printed (Control c) n at a = sym (add-zero (a .printed))
-counted-printed (Sequence q) n at a = refl
-counted-printed (Refused k p) n at a = sym (add-zero (a .printed))
+counted-printed : (i : Item) (at : ℕ) (a : Answer) → counted i at a .printed ≡ a .printed + printerBytes i
+counted-printed (Printed c) at a = sym (add-zero (a .printed))
+counted-printed (Control c) at a = sym (add-zero (a .printed))
+counted-printed (Sequence q) at a = refl
+counted-printed (Refused k p) at a = sym (add-zero (a .printed))
 
-counted-taken : (i : Item) (n at : ℕ) (a : Answer) → counted i n at a .taken ≡ a .taken + n
-counted-taken (Printed c) n at a = refl
-counted-taken (Control c) n at a = refl
-counted-taken (Sequence q) n at a = refl
-counted-taken (Refused k p) n at a = refl
+counted-taken : (i : Item) (at : ℕ) (a : Answer) → counted i at a .taken ≡ a .taken
+counted-taken (Printed c) at a = refl
+counted-taken (Control c) at a = refl
+counted-taken (Sequence q) at a = refl
+counted-taken (Refused k p) at a = refl
 
 all-printed : (rs : List Read) (st : State) (a : Answer) → countedAll rs a .printed ≡ a .printed + length (copies (eventsOf rs) st)
 unfolding countedAll copies happened
 all-printed [] st a = sym (add-zero (a .printed))
 all-printed (r ∷ rs) st a =
-    let n = length (r .bytes) in
     let rest = copies (eventsOf rs) (obeyedBy r st) in
-    all-printed rs (obeyedBy r st) (counted (r .item) n (r .at) a)
-    ∙ omega (arith, counted-printed (r .item) n (r .at) a, length-append (copyOf (r .item) st) rest, length-copy (r .item) st)
+    all-printed rs (obeyedBy r st) (counted (r .item) (r .at) a)
+    ∙ omega (arith, counted-printed (r .item) (r .at) a, length-append (copyOf (r .item) st) rest, length-copy (r .item) st)
 
 -- "invented counts fall to the items": the count of printer bytes
 pub printed-is : (d : Terminal) (q : Request) → answerOf d q .printed ≡ length (printedBy d q)
-unfolding answerOf printedBy eventsIn
-printed-is d q = all-printed (readsIn d q) (d .state) (blankAnswer (numberOf d q)) ∙ zero-add _
+unfolding answerOf
+printed-is d q = all-printed (readsIn d q) (d .state) (blankAnswer (numberOf d q) (takenIn d q)) ∙ zero-add _ ∙ ap length (sym (printed-reads d q))
 
-all-taken : (bss : List (List ℕ)) (at : ℕ) (st : State) (room : ℕ) (a : Answer) → countedAll (readsOf bss at st room) a .taken ≡ a .taken + length (joined bss)
-unfolding countedAll readsOf joined
-all-taken [] at st room a = sym (add-zero (a .taken))
-all-taken (bs ∷ bss) at st room a =
-    let r = read at bs (limitsOf (st .settings)) room in
-    all-taken bss (at + length bs) (obeyedBy r st) (room - printerBytes (r .item)) (counted (r .item) (length bs) at a)
-    ∙ omega (arith, counted-taken (r .item) (length bs) at a, length-append bs (joined bss))
+all-taken : (rs : List Read) (a : Answer) → countedAll rs a .taken ≡ a .taken
+unfolding countedAll
+all-taken [] a = refl
+all-taken (r ∷ rs) a = all-taken rs (counted (r .item) (r .at) a) ∙ counted-taken (r .item) (r .at) a
 
--- "every byte of the message belongs to exactly one item": the items' bytes are those that were cut, and all of them are taken
-bytes-of : (bss : List (List ℕ)) (at : ℕ) (st : State) (room : ℕ) → bytesRead (readsOf bss at st room) ≡ bss
+-- "every byte of the message belongs to exactly one item": the items' bytes are those that were cut
+pub bytes-of : (bss : List (List ℕ)) (at : ℕ) (st : State) (room : ℕ) → bytesRead (readsOf bss at st room) ≡ bss
 unfolding readsOf
 bytes-of [] at st room = refl
 bytes-of (bs ∷ bss) at st room = ap (λ (l : List (List ℕ)). bs ∷ l) (bytes-of bss _ _ _)
@@ -120,32 +144,31 @@ unfolding readsOf
 in-order none at st room = tt
 in-order (some h p) at st room = (refl, (h, in-order p _ _ _))
 
-some-asked : (a : Asked) → AllSome (itemBytes a)
+some-asked : (s : Settings) (a : Asked) → AllSome (itemBytes s a)
 unfolding itemBytes
-some-asked (message m) = some-uncut m
+some-asked s (message m) = some-uncut m
+some-asked s (piece m) = some-gathered (heldIn s) m
+some-asked s closing = some-last (heldIn s)
 
-start-asked : (a : Asked) → startOf a ≡ 0
-start-asked (message m) = refl
-
-joined-asked : (a : Asked) → joined (itemBytes a) ≡ sentBy a
-unfolding itemBytes
-joined-asked (message m) = joined-uncut m
+taken-asked : (a : Asked) → takenBy a ≡ length (sentBy a)
+unfolding takenBy
+taken-asked (message m) = refl
+taken-asked (piece m) = refl
+taken-asked closing = refl
 
 module _ (t : Terminal) (q : Request) (e : accepted t q ≡ true) where
-  pub once : joined (bytesRead (readsIn t q)) ≡ sentBy (q .asked)
-  unfolding readsIn readsBy
-  once =
-      ap (λ (b : Bool). joined (bytesRead (cond b (readsBy t q) []))) e ∙ ap joined (bytes-of (itemBytes (q .asked)) (startOf (q .asked)) (t .state) (q .room))
-      ∙ joined-asked (q .asked)
+  pub reads-accepted : readsIn t q ≡ readsBy t q
+  unfolding readsIn
+  reads-accepted = ap (λ (b : Bool). cond b (readsBy t q) []) e
 
-  pub ordered : InOrder 0 (readsIn t q)
-  unfolding readsIn readsBy
-  ordered =
-      subst (λ (b : Bool). InOrder 0 (cond b (readsBy t q) [])) (sym e)
-      (subst (λ (n : ℕ). InOrder n (readsOf (itemBytes (q .asked)) (startOf (q .asked)) (t .state) (q .room))) (start-asked (q .asked)) (in-order (some-asked (q .asked)) (startOf (q .asked)) (t .state) (q .room)))
+  pub ordered : InOrder (startOf (t .state .settings) (q .asked)) (readsIn t q)
+  unfolding readsBy
+  ordered = subst (InOrder (startOf (t .state .settings) (q .asked))) (sym reads-accepted) (in-order (some-asked (t .state .settings) (q .asked)) _ (t .state) (q .room))
+
+  pub bytes-asked : bytesRead (readsIn t q) ≡ itemBytes (t .state .settings) (q .asked)
+  unfolding readsBy
+  bytes-asked = ap bytesRead reads-accepted ∙ bytes-of (itemBytes (t .state .settings) (q .asked)) _ (t .state) (q .room)
 
   pub taken-is : answerOf t q .taken ≡ length (sentBy (q .asked))
-  unfolding answerOf readsIn readsBy
-  taken-is =
-      ap (λ (b : Bool). countedAll (cond b (readsBy t q) []) (blankAnswer (numberOf t q)) .taken) e
-      ∙ all-taken (itemBytes (q .asked)) (startOf (q .asked)) (t .state) (q .room) (blankAnswer (numberOf t q)) ∙ zero-add _ ∙ ap length (joined-asked (q .asked))
+  unfolding answerOf takenIn
+  taken-is = all-taken (readsIn t q) (blankAnswer (numberOf t q) (takenIn t q)) ∙ ap (λ (b : Bool). cond b (takenBy (q .asked)) 0) e ∙ taken-asked (q .asked)

@@ -4,7 +4,7 @@ use mathlib.Core.Path.{_∙_, _≡_, ap, refl, subst, sym}
 use Prim.Native.Nat.{_*_, _+_, _-_, _<_, _≤_, suc, zero, ℕ}
 use native.Mathlib.Nat.{le-of-suc-le-suc, not-suc-le-zero}
 use native.Mathlib.Omega.{arith}
-use mathlib.Core.Bool.{Bool, cond, false, true}
+use mathlib.Core.Bool.{false, true}
 use mathlib.Core.List.{List, [], _++_, _∷_}
 use lib.ListN.{length, length-append, take}
 use lib.Seq.{take-append-add}
@@ -13,17 +13,19 @@ use Rattle.model.specs.declared.Settings.{Settings}
 use Rattle.model.specs.Bytes.{joined, written}
 use Rattle.model.specs.State.{State}
 use Rattle.model.specs.Screens.{base, cellAt, columnsOf, lineAt, linesOf, size}
+use Rattle.model.specs.Line.{heldIn}
 use Rattle.model.specs.Sound.{Good, Sound}
 use Rattle.model.specs.Items.{Event, applyAll, blankAnswer, bytesRead}
-use Rattle.model.specs.Calls.{Call, Promised, Request, Terminal, accepted, answerOf, eventsIn, numberOf, printedBy, readsIn, requestOf, served}
-use Rattle.model.specs.Claims.{Apart, InOrder, On, Shown, Standing, setsMode}
-use Rattle.model.specs.Demand.{Demand, Demand3, Made, Nth, Resumed, Start, Stretch, acceptable, before, event, eventsOver, first, itemCount, later, left, next, none, opening, requests, resumed, sentBy, stands, stood}
+use Rattle.model.specs.Calls.{Asked, Call, Promised, Request, Terminal, accepted, answerOf, eventsIn, firstOf, message, numberOf, ownReasons, printedBy, readsIn, request, requestOf, sentBy, served, startOf}
+use Rattle.model.specs.Claims.{Apart, InOrder, On, Shown, Standing, countAfter, setsMode, waitsAfter}
+use Rattle.model.specs.Demand.{Demand, Demand3, Made, Nth, Resumed, Start, Stretch, before, event, eventsOver, first, itemCount, later, left, next, none, opening, requests, resumed, stands, stood}
 use Rattle.model.proofs.Frames.{SameScreen}
 use Rattle.model.proofs.Keep.{same-refl, same-trans, within}
 use Rattle.model.proofs.ItemLaws.{Obeyed}
 use Rattle.model.proofs.Events.{AllLegal, apply-append, at-next, cell-inside, chained, event-at, good-at, legal-append, refused-nothing, unchanged, window-at}
 use Rattle.model.proofs.CallLaws.{accepted-number, answer-number, left-is, legal-in, number-good, opening-resumed, opening-shown, refused-answer, refused-leaves, refused-number, refused-prints, shown-accepted, shown-served, sized-served, state-served}
-use Rattle.model.proofs.Printing.{buffer-length, once, ordered, printed-is, taken-is}
+use Rattle.model.proofs.Printing.{buffer-length, ordered, printed-is, taken-is}
+use Rattle.model.proofs.LineAfter.{line-after, once, whole}
 use Rattle.model.proofs.Places.{one-cell}
 
 -- what stands after a list is what its events made
@@ -46,7 +48,7 @@ made-take (next e p m) zero = none
 made-take (next e p m) (suc n) = next e p (made-take m n)
 
 -- the calls leave what stands
-exact-all : {t : Terminal} {cs : List Call} → Made t cs → left t cs ≡ stands t (requests cs)
+pub exact-all : {t : Terminal} {cs : List Call} → Made t cs → left t cs ≡ stands t (requests cs)
 unfolding left stands
 exact-all none = refl
 exact-all {t} (next {c = c} {cs = cs} e p m) =
@@ -68,7 +70,7 @@ map-take [] (suc n) = refl
 map-take (c ∷ cs) (suc n) = ap (λ (l : List Request). requestOf c ∷ l) (map-take cs n)
 
 -- any fact of a call that follows from its promise and what it was given
-each : (P : Terminal → Call → Type 0) → ((c : Call) → Promised c → P (c .given) c)
+pub each : (P : Terminal → Call → Type 0) → ((c : Call) → Promised c → P (c .given) c)
     → {t : Terminal} {cs : List Call} → Made t cs → (n : ℕ) (c : Call) → Nth n cs c → P (stood t cs n) c
 unfolding stands
 each P given {t} (next g p m) zero c first = subst (λ (x : Terminal). P x c) g (given c p)
@@ -76,7 +78,7 @@ each P given {t} (next {c = b} {cs = cs} g p m) (suc n) c (later h) =
     subst (λ (x : Terminal). P (stands x (requests (take n cs))) c) (left-is b p ∙ ap (λ (x : Terminal). served x (requestOf b)) g) (each P given m n c h)
 
 -- and what it left, from the promise alone
-left-unaltered : (c : Call) → Promised c → accepted (c .given) (requestOf c) ≡ false → (c .left ≡ c .given) × (c .answer ≡ blankAnswer (numberOf (c .given) (requestOf c))) × (c .printer ≡ c .buffer)
+pub left-unaltered : (c : Call) → Promised c → accepted (c .given) (requestOf c) ≡ false → (c .left ≡ c .given) × (c .answer ≡ blankAnswer (numberOf (c .given) (requestOf c)) 0) × (c .printer ≡ c .buffer)
 unfolding written
 left-unaltered c p e = (
   left-is c p ∙ refused-leaves (c .given) (requestOf c) e,
@@ -84,19 +86,19 @@ left-unaltered c p e = (
   p .printer-is ∙ ap (λ (ys : List ℕ). written ys (c .buffer)) (refused-prints (c .given) (requestOf c) e),
 )
 
-number-is : (c : Call) → Promised c → c .answer .number ≡ numberOf (c .given) (requestOf c)
+pub number-is : (c : Call) → Promised c → c .answer .number ≡ numberOf (c .given) (requestOf c)
 number-is c p = ap (λ (a : Answer). a .number) (p .answer-is) ∙ answer-number (c .given) (requestOf c)
 
-unaltered : (c : Call) → Promised c → (c .answer .number ≡ 0 → ⊥) → (c .left ≡ c .given) × (c .answer ≡ blankAnswer (c .answer .number)) × (c .printer ≡ c .buffer)
+unaltered : (c : Call) → Promised c → (c .answer .number ≡ 0 → ⊥) → (c .left ≡ c .given) × (c .answer ≡ blankAnswer (c .answer .number) 0) × (c .printer ≡ c .buffer)
 unaltered c p n =
     let z = left-unaltered c p (refused-number (c .given) (requestOf c) (λ e. n (number-is c p ∙ e))) in
-    (z .0, z .1 ∙ ap blankAnswer (sym (number-is c p)), z .2)
+    (z .0, z .1 ∙ ap (λ (n : ℕ). blankAnswer n 0) (sym (number-is c p)), z .2)
 
-is-accepted : (c : Call) → Promised c → c .answer .number ≡ 0 → accepted (c .given) (requestOf c) ≡ true
+pub is-accepted : (c : Call) → Promised c → c .answer .number ≡ 0 → accepted (c .given) (requestOf c) ≡ true
 is-accepted c p e = accepted-number (c .given) (requestOf c) (sym (number-is c p) ∙ e)
 
 -- the shown screen: it stays true, and an accepted message makes it true
-shown-stands : (qs : List Request) (t : Terminal) → Shown t → Shown (stands t qs)
+pub shown-stands : (qs : List Request) (t : Terminal) → Shown t → Shown (stands t qs)
 unfolding stands
 shown-stands [] t s = s
 shown-stands (q ∷ qs) t s = shown-stands qs (served t q) (shown-served t q s)
@@ -112,7 +114,7 @@ shown-from (next g p m) zero c first e (suc n) l =
 shown-from (next g p m) (suc i) c (later h) e zero l = absurd (not-suc-le-zero l)
 shown-from (next g p m) (suc i) c (later h) e (suc n) l = shown-from m i c h e n (le-of-suc-le-suc l)
 
-sized-stands : (qs : List Request) (t : Terminal) → length (t .shown) ≡ 640 → length (stands t qs .shown) ≡ 640
+pub sized-stands : (qs : List Request) (t : Terminal) → length (t .shown) ≡ 640 → length (stands t qs .shown) ≡ 640
 unfolding stands
 sized-stands [] t e = e
 sized-stands (q ∷ qs) t e = sized-stands qs (served t q) (sized-served t q e)
@@ -136,11 +138,44 @@ standing-of : {st : State} → Good st → Standing st
 standing-of g = record { sound = g .sound; inside = g .sound .inside; apart = apart-of _ (g .sound); cells-are = g .cells-are; layer-is = g .layer-are }
 
 -- the printer bytes of a call
-printed-in : (c : Call) → Promised c → (length (printedBy (c .given) (requestOf c)) ≡ c .answer .printed) × (length (c .printer) ≡ length (c .buffer))
+pub printed-in : (c : Call) → Promised c → (length (printedBy (c .given) (requestOf c)) ≡ c .answer .printed) × (length (c .printer) ≡ length (c .buffer))
 printed-in c p = (sym (ap (λ (a : Answer). a .printed) (p .answer-is) ∙ printed-is (c .given) (requestOf c)), buffer-length c p)
 
+-- the bytes of a call, and its line
+abbrev Once : Terminal → Call → Type 0
+Once x c = (heldIn (x .state .settings) ++ sentBy (c .asked) ≡ joined (bytesRead (readsIn x (requestOf c))) ++ heldIn (c .left .state .settings))
+    × (InOrder (startOf (x .state .settings) (c .asked)) (readsIn x (requestOf c))) × (c .answer .taken ≡ length (sentBy (c .asked)))
+
+abbrev Whole : Terminal → Call → List ℕ → Type 0
+Whole x c m = (joined (bytesRead (readsIn x (requestOf c))) ≡ m) × (InOrder 0 (readsIn x (requestOf c))) × (c .answer .taken ≡ length m)
+
+abbrev LineIs : Terminal → Call → Type 0
+LineIs x c = (heldIn (c .left .state .settings) ≡ waitsAfter (x .state .settings) (c .asked)) × (c .left .state .settings .count ≡ countAfter (x .state .settings) (c .asked))
+
+once-in : (c : Call) → Promised c → c .answer .number ≡ 0 → Once (c .given) c
+once-in c p e =
+    let a = is-accepted c p e in (
+      once (c .given) (c .asked) (length (c .buffer)) a ∙ ap (λ (s : Settings). joined (bytesRead (readsIn (c .given) (requestOf c))) ++ heldIn s) (sym (p .settings-are)),
+      ordered (c .given) (requestOf c) a,
+      ap (λ (a : Answer). a .taken) (p .answer-is) ∙ taken-is (c .given) (requestOf c) a,
+    )
+
+whole-in : (c : Call) → Promised c → c .answer .number ≡ 0 → (m : List ℕ) → c .asked ≡ message m → Whole (c .given) c m
+unfolding startOf
+whole-in c p e m f =
+    let q : c .answer .taken ≡ length m = once-in c p e .2 ∙ ap (λ (a : Asked). length (sentBy a)) f in
+    let a : accepted (c .given) (request (message m) (length (c .buffer))) ≡ true = subst (λ (a : Asked). accepted (c .given) (request a (length (c .buffer))) ≡ true) f (is-accepted c p e) in
+    let z = subst (λ (a : Asked). (joined (bytesRead (readsIn (c .given) (request a (length (c .buffer))))) ≡ m) × (InOrder 0 (readsIn (c .given) (request a (length (c .buffer)))))) (sym f)
+    (whole (c .given) m (length (c .buffer)) a, ordered (c .given) (request (message m) (length (c .buffer))) a) in
+    (z .0, z .1, q)
+
+line-in : (c : Call) → Promised c → c .answer .number ≡ 0 → LineIs (c .given) c
+line-in c p e =
+    let z = line-after (c .given) (c .asked) (length (c .buffer)) (is-accepted c p e) in
+    (ap heldIn (p .settings-are) ∙ z .0, ap (λ (s : Settings). s .count) (p .settings-are) ∙ z .1)
+
 -- both starts are good
-start-resumed : (t : Terminal) → Start t → Resumed t
+pub start-resumed : (t : Terminal) → Start t → Resumed t
 start-resumed t (opening o) = opening-resumed t o
 start-resumed t (resumed r) = r
 
@@ -161,7 +196,7 @@ module _ (t : Terminal) (cs : List Call) (made : Made t cs) where
     good-left : (n : ℕ) → Good (left t (take n cs) .state)
     good-left n = subst Good (sym (by-items n)) (good-at (eventsOver t (requests cs)) (t .state) good (legal-over t (requests cs)) (length (eventsOver t (requests (take n cs)))))
 
-    number : (n : ℕ) (c : Call) → Nth n cs c → c .answer .number ≡ cond (acceptable (c .asked)) 0 2
+    number : (n : ℕ) (c : Call) → Nth n cs c → c .answer .number ≡ firstOf (ownReasons (stood t cs n .state .settings) (c .asked))
     number n c h =
         let g : Good (stood t cs n .state) = subst (λ (x : Terminal). Good (x .state)) (exact n) (good-left n) in
         each (λ x c. c .answer .number ≡ numberOf x (requestOf c)) number-is made n c h
@@ -183,15 +218,15 @@ module _ (t : Terminal) (cs : List Call) (made : Made t cs) where
     prints = each (λ x c. c .printer ≡ written (printedBy x (requestOf c)) (c .buffer)) (λ c p. p .printer-is) made;
     printed = each (λ x c. (length (printedBy x (requestOf c)) ≡ c .answer .printed) × (length (c .printer) ≡ length (c .buffer))) printed-in made;
     numbers = each (λ x c. c .answer .number ≡ numberOf x (requestOf c)) number-is made;
-    refused = each (λ x c. (c .answer .number ≡ 0 → ⊥) → (c .left ≡ c .given) × (c .answer ≡ blankAnswer (c .answer .number)) × (c .printer ≡ c .buffer)) unaltered made;
+    refused = each (λ x c. (c .answer .number ≡ 0 → ⊥) → (c .left ≡ c .given) × (c .answer ≡ blankAnswer (c .answer .number) 0) × (c .printer ≡ c .buffer)) unaltered made;
     refusals = λ n h e. at-next (eventsOver t (requests cs)) (t .state) n h ∙ refused-nothing (event t cs n) (before t cs n) e;
-    once = each (λ x c. c .answer .number ≡ 0 → (joined (bytesRead (readsIn x (requestOf c))) ≡ sentBy (c .asked)) × (InOrder 0 (readsIn x (requestOf c))) × (c .answer .taken ≡ length (sentBy (c .asked))))
-        (λ c p e. let a = is-accepted c p e in (once (c .given) (requestOf c) a, ordered (c .given) (requestOf c) a, ap (λ (a : Answer). a .taken) (p .answer-is) ∙ taken-is (c .given) (requestOf c) a)) made;
+    once = each (λ x c. c .answer .number ≡ 0 → Once x c) once-in made;
+    whole = each (λ x c. c .answer .number ≡ 0 → (m : List ℕ) → c .asked ≡ message m → Whole x c m) whole-in made;
+    line = each (λ x c. c .answer .number ≡ 0 → LineIs x c) line-in made;
     by-items = λ n h. by-items n;
     opened-shown = λ o n h. shown-left (made-take made n) (opening-shown t o);
     message-shown = λ i c h e n l u. shown-from made i c h e n l;
-    accepts = λ start n c h e. number start n c h ∙ ap (λ (b : Bool). cond b 0 2) e;
-    refuses = λ start n c h e. number start n c h ∙ ap (λ (b : Bool). cond b 0 2) e;
+    numbered = number;
     standing = λ start n h. standing-of (good-at (eventsOver t (requests cs)) (t .state) (good start) (legal-over t (requests cs)) n);
     left-standing = λ start n h. (
       standing-of (good-left start n),

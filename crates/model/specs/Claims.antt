@@ -13,10 +13,11 @@ use Rattle.model.specs.State.{State}
 use Rattle.model.specs.Screens.{linesOf, columnsOf, placeOf, height, base, size, cellAt, here}
 use Rattle.model.specs.Sound.{Sound, Inside}
 use Rattle.model.specs.Picture.{pictureAt}
-use Rattle.model.specs.Reading.{Read}
+use Rattle.model.specs.Reading.{Read, remaining}
+use Rattle.model.specs.Line.{heldIn}
 use Rattle.model.specs.Sequences.{codeOf}
-use Rattle.model.specs.Items.{Event, itemRead}
-use Rattle.model.specs.Calls.{Terminal}
+use Rattle.model.specs.Items.{Event, itemRead, lineLeft}
+use Rattle.model.specs.Calls.{Terminal, Asked, message, piece, closing}
 
 -- a line and a column of screen k (0 or 1)
 pub record On (s : Settings) (k l c : ℕ) : Type 0 where
@@ -49,6 +50,18 @@ abbrev pub InOrder : ℕ → List Read → Type 0
 InOrder at [] = Unit {0}
 InOrder at (r ∷ rs) = (r .at ≡ at) × ((1 ≤ length (r .bytes)) × InOrder (at + length (r .bytes)) rs)
 
+-- P1, the bytes that wait after an accepted call: of a message none, since it is refused while bytes wait
+unfoldable pub waitsAfter : Settings → Asked → List ℕ
+waitsAfter s (message m) = []
+waitsAfter s (piece m) = remaining (heldIn s) m
+waitsAfter s closing = []
+
+-- and the stream's byte count
+unfoldable pub countAfter : Settings → Asked → ℕ
+countAfter s (message m) = s .count
+countAfter s (piece m) = s .count + length m
+countAfter s closing = 0
+
 -- "Row r, column c is byte 80(r−1)+c−1 of the shown screen": all 640 places show the picture of what stands
 pub record Shown (t : Terminal) : Type 0 where
   pub places : length (t .shown) ≡ 640
@@ -80,15 +93,18 @@ isRefusal (Control c) = false
 isRefusal (Sequence q) = false
 isRefusal (Refused n p) = true
 
--- the same of an event
+-- the same of an event; what moves a stream's line is none of these
 abbrev pub setsMode : Event → Bool
 setsMode (itemRead r) = isMode (r .item)
+setsMode (lineLeft w n) = false
 
 abbrev pub refusedEvent : Event → Bool
 refusedEvent (itemRead r) = isRefusal (r .item)
+refusedEvent (lineLeft w n) = false
 
 abbrev pub mustFollow : Event → Bool
 mustFollow (itemRead r) = follows (r .item)
+mustFollow (lineLeft w n) = false
 
 -- each cell, the cursor and the window of screen k are in b as in a
 pub record Unchanged (k : ℕ) (a b : State) : Type 0 where

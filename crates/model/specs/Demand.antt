@@ -1,17 +1,19 @@
--- Document 01, "Lists of messages": demand 3, a single claim about a whole list of calls.
+-- Document 01, "Lists of messages": demand 3, a single claim about a whole list of calls; document 02, P1: "pieces and closings stand in its
+-- lists with messages, an accepted one counting as an accepted message".
 use mathlib.Core.Path.{_≡_}
 use Prim.Native.Nat.{ℕ, suc, _≤_, _<_}
-use mathlib.Core.Bool.{Bool, true, false}
+use mathlib.Core.Bool.{true, false, cond}
 use mathlib.Core.List.{List, [], _∷_, _++_, map}
 use lib.ListN.{length, getD, take}
 use Rattle.model.specs.declared.Item.the-variants.{Refused}
 use Rattle.model.specs.Bytes.{joined, written}
 use Rattle.model.specs.State.{State}
+use Rattle.model.specs.Line.{heldIn}
 use Rattle.model.specs.Sound.{Sound}
 use Rattle.model.specs.Items.{Event, itemRead, applyAll, blankAnswer, bytesRead}
-use Rattle.model.specs.Calls.{Terminal, Asked, message, Request, Call, requestOf, Promised, short, numberOf, answerOf, printedBy, readsIn, eventsIn, served}
+use Rattle.model.specs.Calls.{Terminal, message, sentBy, startOf, Request, Call, requestOf, Promised, short, firstOf, ownReasons, numberOf, answerOf, printedBy, readsIn, eventsIn, served}
 use Rattle.model.specs.Opening.{OpeningPromised}
-use Rattle.model.specs.Claims.{Standing, InOrder, Shown, InWindow, setsMode, refusedEvent, mustFollow, Unchanged}
+use Rattle.model.specs.Claims.{Standing, InOrder, waitsAfter, countAfter, Shown, InWindow, setsMode, refusedEvent, mustFollow, Unchanged}
 
 -- "Each call gets the settings and these three stores as the call before left them", and keeps its promise
 pub data Made : Terminal → List Call → Type 0 where
@@ -60,38 +62,31 @@ pub data Nth : ℕ → List Call → Call → Type 0 where
   first : {c : Call} {cs : List Call} → Nth 0 (c ∷ cs) c
   later : {n : ℕ} {b c : Call} {cs : List Call} → Nth n cs c → Nth (suc n) (b ∷ cs) c
 
--- the items of a whole list, one call's after the other's: "across calls too"
+-- what happens in a whole list, one call's items and line after the other's: "across calls too"
 unfoldable pub eventsOver : Terminal → List Request → List Event
 eventsOver t [] = []
 eventsOver t (q ∷ qs) = eventsIn t q ++ eventsOver (served t q) qs
 
--- read past the end of a list of items; no claim reaches it
+-- read past the end of a list of events; no claim reaches it
 abbrev pub noEvent : Event
 noEvent = itemRead (record { at = 0; item = Refused 0 0; bytes = [] })
 
--- item n of a list, counted from 0 over all its calls
+-- event n of a list, an item or what moves the line, counted from 0 over all its calls
 abbrev pub event : Terminal → List Call → ℕ → Event
 event t cs n = getD (eventsOver t (requests cs)) n noEvent
 
--- the number of its items
+-- the number of its events
 abbrev pub itemCount : Terminal → List Call → ℕ
 itemCount t cs = length (eventsOver t (requests cs))
 
--- what stands before item n
+-- what stands before event n
 abbrev pub before : Terminal → List Call → ℕ → State
 before t cs n = applyAll (take n (eventsOver t (requests cs))) (t .state)
 
--- "any items of the list that follow one another, across calls too, each read with the same screen selected and none a mode setting": items i to j − 1, screen k
+-- "any items of the list that follow one another, across calls too, each read with the same screen selected and none a mode setting": events i to j − 1, screen k. What moves
+-- the line between two items selects nothing and alters no screen
 abbrev pub Stretch : Terminal → List Call → ℕ → ℕ → ℕ → Type 0
 Stretch t cs i j k = (n : ℕ) → i ≤ n → n < j → (before t cs n .settings .selected ≡ k) × (setsMode (event t cs n) ≡ false)
-
--- the bytes that are sent
-abbrev pub sentBy : Asked → List ℕ
-sentBy (message m) = m
-
--- what is asked and not too long: 2 is the one number that such a list's calls are refused by
-abbrev pub acceptable : Asked → Bool
-acceptable (message m) = short m
 
 -- the claim about a whole list
 pub record Demand3 (t : Terminal) (cs : List Call) : Type 0 where
@@ -107,22 +102,29 @@ pub record Demand3 (t : Terminal) (cs : List Call) : Type 0 where
   pub numbers : (n : ℕ) (c : Call) → Nth n cs c → c .answer .number ≡ numberOf (stood t cs n) (requestOf c)
   -- "a refused call changes nothing": settings and stores, zero counts, the printer buffer
   pub refused : (n : ℕ) (c : Call) → Nth n cs c → (c .answer .number ≡ 0 → ⊥)
-      → (c .left ≡ c .given) × (c .answer ≡ blankAnswer (c .answer .number)) × (c .printer ≡ c .buffer)
+      → (c .left ≡ c .given) × (c .answer ≡ blankAnswer (c .answer .number) 0) × (c .printer ≡ c .buffer)
   -- "and a refusal changes nothing"
   pub refusals : (n : ℕ) → n < itemCount t cs → refusedEvent (event t cs n) ≡ true → before t cs (suc n) ≡ before t cs n
-  -- "every byte of the message belongs to exactly one item": an accepted call's items are its message, cut, each behind the one before
+  -- "every byte of the message belongs to exactly one item", or waits: the bytes that waited and those sent are an accepted call's items, each
+  -- behind the one before, and the bytes that wait then; all that were sent are taken
   pub once : (n : ℕ) (c : Call) → Nth n cs c → c .answer .number ≡ 0
-      → (joined (bytesRead (readsIn (stood t cs n) (requestOf c))) ≡ sentBy (c .asked)) × (InOrder 0 (readsIn (stood t cs n) (requestOf c))) × (c .answer .taken ≡ length (sentBy (c .asked)))
+      → (heldIn (stood t cs n .state .settings) ++ sentBy (c .asked) ≡ joined (bytesRead (readsIn (stood t cs n) (requestOf c))) ++ heldIn (c .left .state .settings))
+      × (InOrder (startOf (stood t cs n .state .settings) (c .asked)) (readsIn (stood t cs n) (requestOf c))) × (c .answer .taken ≡ length (sentBy (c .asked)))
+  -- a whole message is read while none waits: its items are the message, cut, from offset 0
+  pub whole : (n : ℕ) (c : Call) → Nth n cs c → c .answer .number ≡ 0 → (m : List ℕ) → c .asked ≡ message m
+      → (joined (bytesRead (readsIn (stood t cs n) (requestOf c))) ≡ m) × (InOrder 0 (readsIn (stood t cs n) (requestOf c))) × (c .answer .taken ≡ length m)
+  -- "the waiting bytes and the count moving as said here"
+  pub line : (n : ℕ) (c : Call) → Nth n cs c → c .answer .number ≡ 0
+      → (heldIn (c .left .state .settings) ≡ waitsAfter (stood t cs n .state .settings) (c .asked)) × (c .left .state .settings .count ≡ countAfter (stood t cs n .state .settings) (c .asked))
   -- what stands after each call is what the items of the list made, up to that call's last
   pub by-items : (n : ℕ) → n ≤ length cs → left t (take n cs) .state ≡ before t cs (length (eventsOver t (requests (take n cs))))
   -- from an accepted opening on, all 640 places show the picture of what stands
   pub opened-shown : Opening t → (n : ℕ) → n ≤ length cs → Shown (left t (take n cs))
-  -- from the first accepted message on, too
+  -- from the first accepted message, piece or closing on, too
   pub message-shown : (i : ℕ) (c : Call) → Nth i cs c → c .answer .number ≡ 0 → (n : ℕ) → i < n → n ≤ length cs → Shown (left t (take n cs))
   -- FROM AN ACCEPTED OPENING, OR FROM SOUND SETTINGS
-  -- no call is refused but a message over 4,096 bytes
-  pub accepts : Start t → (n : ℕ) (c : Call) → Nth n cs c → acceptable (c .asked) ≡ true → c .answer .number ≡ 0
-  pub refuses : Start t → (n : ℕ) (c : Call) → Nth n cs c → acceptable (c .asked) ≡ false → c .answer .number ≡ 2
+  -- no call is refused but by 2, a message or a piece over 4,096 bytes, by 15, a piece past the limit, and by 16, a message while bytes wait
+  pub numbered : Start t → (n : ℕ) (c : Call) → Nth n cs c → c .answer .number ≡ firstOf (ownReasons (stood t cs n .state .settings) (c .asked))
   -- before and after every item: the settings sound, each cursor and window inside its screen, the screens' cells apart and among the 3,840
   pub standing : Start t → (n : ℕ) → n ≤ itemCount t cs → Standing (before t cs n)
   -- and after each call, the shown screen of its size
@@ -135,3 +137,13 @@ pub record Demand3 (t : Terminal) (cs : List Call) : Type 0 where
 -- "a single claim about a whole list and not one for each call"
 abbrev pub Demand : Type 0
 Demand = (t : Terminal) (cs : List Call) → Made t cs → Demand3 t cs
+
+-- calls that ask for messages alone
+pub data AllMessages : List Call → Type 0 where
+  noMore : AllMessages []
+  another : {c : Call} {cs : List Call} (m : List ℕ) → c .asked ≡ message m → AllMessages cs → AllMessages (c ∷ cs)
+
+-- of lists of messages alone, from a start where none waits, what demand 3 said before P1: no call is refused but a message over 4,096 bytes
+abbrev pub AsBefore : Type 0
+AsBefore = (t : Terminal) (cs : List Call) → Made t cs → Start t → t .state .settings .held ≡ 0 → AllMessages cs
+    → (n : ℕ) (c : Call) → Nth n cs c → (m : List ℕ) → c .asked ≡ message m → c .answer .number ≡ cond (short m) 0 2

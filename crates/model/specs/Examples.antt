@@ -1,5 +1,6 @@
 -- Document 01, "Bays' examples": a message from the opening, with a printer room, and what it must give. All rows marked P; of the
--- rest those that say something of the rules; and rows of ours where the table is silent. Then a list for each request of document 02.
+-- rest those that say something of the rules; and rows of ours where the table is silent. Then a list for each request of document 02 that one
+-- message shows; several calls one after the other are in Runs.
 use Prim.Native.Nat.{ℕ, suc, zero, _+_, _-_, _*_}
 use mathlib.Core.Bool.{Bool, true, false, _&&_}
 use mathlib.Core.List.{List, [], _∷_, _++_}
@@ -7,6 +8,7 @@ use lib.ListN.{length, getD, replicate}
 use lib.Dec.{eqb}
 use Rattle.model.specs.declared.Answer.{Answer}
 use Rattle.model.specs.Bytes.{listFrom}
+use Rattle.model.specs.Line.{padded}
 use Rattle.model.specs.Screens.{linesOf, columnsOf, placeOf, cellAt}
 use Rattle.model.specs.Calls.{Terminal, Request, request, message, served, answerOf, printedBy}
 use Rattle.model.specs.Opening.{openedTerminal}
@@ -31,6 +33,8 @@ pub data Fact : Type 0 where
   led : ℕ → ℕ → Fact  -- INS, CAPS, NUM as 1 to 3, and 0 or 1
   arrow : ℕ → ℕ → Fact  -- arrow code by its number, from 1
   pattern : ℕ → ℕ → ℕ → Fact  -- code, row from 1, byte
+  refusedBy : ℕ → Fact  -- the call's number; all counts 0
+  waits : List ℕ → ℕ → Fact  -- the bytes that wait, the others of the array 0, and the stream's count
   keySettings : ℕ → ℕ → ℕ → ℕ → ℕ → ℕ → Fact  -- set, key strings, repeat, its two numbers, shift
   displayed : ℕ → ℕ → ℕ → ℕ → Fact  -- cursor on, its type, key display, boundary
 
@@ -43,6 +47,13 @@ allAre c (x ∷ xs) = elim (eqb x c) [ true ↦ allAre c xs | false ↦ false ]
 abbrev pub down? : ℕ → ℕ → ℕ → List ℕ → Bool
 down? zero c b xs = true
 down? (suc n) c b xs = elim (eqb (getD xs (80 * n + (c - 1)) 0) b) [ true ↦ down? n c b xs | false ↦ false ]
+
+-- the same bytes
+abbrev pub same? : List ℕ → List ℕ → Bool
+same? [] [] = true
+same? [] (y ∷ ys) = false
+same? (x ∷ xs) [] = false
+same? (x ∷ xs) (y ∷ ys) = elim (eqb x y) [ true ↦ same? xs ys | false ↦ false ]
 
 -- a fact, of what a call left, its answer and its printer bytes
 unfoldable pub holds : Fact → Terminal → Answer → List ℕ → Bool
@@ -64,6 +75,8 @@ holds (printedByte i b) d w bs = eqb (getD bs i 0) b
 holds (led k b) d w bs = eqb (getD (d .state .settings .keys .leds) (k - 1) 2) b
 holds (arrow k b) d w bs = eqb (getD (d .state .settings .keys .arrows) (k - 1) 0) b
 holds (pattern c r b) d w bs = eqb (getD (d .state .settings .patterns) ((c - 224) * 8 + (r - 1)) 0) b
+holds (refusedBy n) d w bs = eqb (w .number) n && eqb (w .taken) 0 && eqb (w .accepted) 0 && eqb (w .refused) 0 && eqb (w .first) 0 && eqb (w .offset) 0 && eqb (w .printed) 0 && eqb (length bs) 0
+holds (waits v n) d w bs = let s = d .state .settings in same? (s .waiting) (padded v) && eqb (s .held) (length v) && eqb (s .count) n
 holds (keySettings c s r a b h) d w bs = let k = d .state .settings .keys in eqb (k .charset) c && eqb (k .strings) s && eqb (k .repeat) r && eqb (k .delay) a && eqb (k .interval) b && eqb (k .shift) h
 holds (displayed o n e p) d w bs = let s = d .state .settings in eqb (s .cursor) o && eqb (s .kind) n && eqb (s .display) e && eqb (s .boundary) p
 

@@ -1,5 +1,5 @@
 -- Document 01, "Lists of messages": "An accepted message is read into items; each in turn changes what stands as its rule
--- says"; and of "Stores and calls" the counts of the answer, which the items fix.
+-- says"; and of "Stores and calls" the counts of the answer, which the items fix. Document 02, P1: what moves a stream's line.
 use Prim.Native.Nat.{ℕ, _+_, _-_}
 use mathlib.Core.Bool.{cond}
 use mathlib.Core.List.{List, [], _∷_, _++_, map}
@@ -8,13 +8,14 @@ use lib.Dec.{eqb}
 use Rattle.model.specs.declared.Answer.{Answer}
 use Rattle.model.specs.declared.Item.{Item}
 use Rattle.model.specs.declared.Item.the-variants.{Printed, Control, Sequence, Refused}
-use Rattle.model.specs.State.{State}
+use Rattle.model.specs.State.{State, withLine}
+use Rattle.model.specs.Line.{padded}
 use Rattle.model.specs.Picture.{copied, copySize}
 use Rattle.model.specs.Sequences.{codeOf}
 use Rattle.model.specs.Reading.{Read, byteOf, itemOf}
 use Rattle.model.specs.declared.Limits.{Limits}
 use Rattle.model.specs.Judging.{limitsOf, judged}
-use Rattle.model.specs.Rules.{applyItem}
+use Rattle.model.specs.Rules.{applyItem, withSettings}
 
 -- the item of some bytes at an offset, judged
 abbrev pub read : ℕ → List ℕ → Limits → ℕ → Read
@@ -42,18 +43,24 @@ readsOf (bs ∷ bss) at st room =
 abbrev pub bytesRead : List Read → List (List ℕ)
 bytesRead rs = map (λ (r : Read). r .bytes) rs
 
--- what happens to what stands: an item that is read
+-- what happens to what stands: an item that is read; or bytes that wait and a count are left (P1), so that settings move only by events
 pub data Event : Type 0 where
   itemRead : Read → Event
+  lineLeft : List ℕ → ℕ → Event
 
 -- the events of what is read
 abbrev pub eventsOf : List Read → List Event
 eventsOf [] = []
 eventsOf (r ∷ rs) = itemRead r ∷ eventsOf rs
 
+-- P1: other waiting bytes and another count, and nothing else
+unfoldable pub lined : List ℕ → ℕ → State → State
+lined w n st = withSettings (withLine (st .settings) (padded w) (length w) n) st
+
 -- what an event does
 unfoldable pub happened : Event → State → State
 happened (itemRead r) st = obeyedBy r st
+happened (lineLeft w n) st = lined w n st
 
 -- "each in turn"
 unfoldable pub applyAll : List Event → State → State
@@ -70,25 +77,26 @@ copyOf (Refused n p) st = []
 -- the bytes that an event prints
 abbrev pub printsOf : Event → State → List ℕ
 printsOf (itemRead r) st = copyOf (r .item) st
+printsOf (lineLeft w n) st = []
 
 -- the bytes that events print, one behind the other
 unfoldable pub copies : List Event → State → List ℕ
 copies [] st = []
 copies (e ∷ es) st = printsOf e st ++ copies es (happened e st)
 
--- the answer before any item: "zero counts, its number"
-abbrev pub blankAnswer : ℕ → Answer
-blankAnswer n = record { number = n; taken = 0; accepted = 0; refused = 0; first = 0; parameter = 0; offset = 0; printed = 0 }
+-- the answer before any item: "zero counts, its number", and the bytes taken, which the request fixes
+abbrev pub blankAnswer : ℕ → ℕ → Answer
+blankAnswer n t = record { number = n; taken = t; accepted = 0; refused = 0; first = 0; parameter = 0; offset = 0; printed = 0 }
 
--- one item more, of so many bytes, at an offset
-abbrev pub counted : Item → ℕ → ℕ → Answer → Answer
-counted (Printed c) n at a = record { number = a .number; taken = a .taken + n; accepted = a .accepted; refused = a .refused; first = a .first; parameter = a .parameter; offset = a .offset; printed = a .printed }
-counted (Control c) n at a = record { number = a .number; taken = a .taken + n; accepted = a .accepted; refused = a .refused; first = a .first; parameter = a .parameter; offset = a .offset; printed = a .printed }
-counted (Sequence q) n at a = record { number = a .number; taken = a .taken + n; accepted = a .accepted + 1; refused = a .refused; first = a .first; parameter = a .parameter; offset = a .offset; printed = a .printed + printerBytes (Sequence q) }
-counted (Refused k p) n at a = record { number = a .number; taken = a .taken + n; accepted = a .accepted; refused = a .refused + 1; first = cond (eqb (a .refused) 0) k (a .first); parameter = cond (eqb (a .refused) 0) p (a .parameter); offset = cond (eqb (a .refused) 0) at (a .offset); printed = a .printed }
+-- one item more, at an offset
+abbrev pub counted : Item → ℕ → Answer → Answer
+counted (Printed c) at a = a
+counted (Control c) at a = a
+counted (Sequence q) at a = record { number = a .number; taken = a .taken; accepted = a .accepted + 1; refused = a .refused; first = a .first; parameter = a .parameter; offset = a .offset; printed = a .printed + printerBytes (Sequence q) }
+counted (Refused k p) at a = record { number = a .number; taken = a .taken; accepted = a .accepted; refused = a .refused + 1; first = cond (eqb (a .refused) 0) k (a .first); parameter = cond (eqb (a .refused) 0) p (a .parameter); offset = cond (eqb (a .refused) 0) at (a .offset); printed = a .printed }
 
 -- "number, bytes taken, sequences accepted, sequences refused, number and offset of the first refusal (0 and 0 if none), printer bytes";
 -- document 02, P10: "every answer that carries a first refusal passes it on", the parameter that it names
 unfoldable pub countedAll : List Read → Answer → Answer
 countedAll [] a = a
-countedAll (r ∷ rs) a = countedAll rs (counted (r .item) (length (r .bytes)) (r .at) a)
+countedAll (r ∷ rs) a = countedAll rs (counted (r .item) (r .at) a)

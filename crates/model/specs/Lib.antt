@@ -2,10 +2,11 @@ pub mod Bytes
 pub mod State
 pub mod Screens
 pub mod Checks
-pub mod Sound
-pub mod Picture
 pub mod Sequences
 pub mod Reading
+pub mod Line
+pub mod Sound
+pub mod Picture
 pub mod Judging
 pub mod Rules
 pub mod OnScreen
@@ -14,5 +15,7 @@ pub mod Calls
 pub mod Opening
 pub mod Claims
 pub mod Demand
+pub mod Stream
 pub mod Parameters
 pub mod Examples
+pub mod Runs

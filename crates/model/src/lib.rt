@@ -34,7 +34,8 @@ pub struct Keys {
 }
 
 // The settings. `selected` is 0 for screen 1 and 1 for screen 2, and picks the place. `cursor` is whether the cursor is on (1), `kind` its
-// type, `display` the key display as sent.
+// type, `display` the key display as sent. `waiting` has in its first `held` bytes the unfinished sequence of a stream, the others 0; `count` is
+// the stream's byte count.
 #[repr(C)]
 pub struct Settings {
     pub mode: u8,
@@ -53,10 +54,13 @@ pub struct Settings {
     pub kind: u8,
     pub keys: Keys,
     pub patterns: [u8; 248],
+    pub waiting: [u8; 12],
+    pub held: u8,
+    pub count: u32,
 }
 
 // A whole sequence, one case a second byte (208: a mode byte), its parameters as sent.
-// The rows of a pattern are named by the offset of the first in the message.
+// The rows of a pattern are named by the offset of the first in the message, or from the stream's start.
 pub enum Sequence {
     PrintCode(u8),
     Clear,
@@ -179,7 +183,7 @@ pub enum Item {
     Refused { number: u8, parameter: u8 },
 }
 
-// The answer of the message call.
+// The answer of the message, piece and closing calls.
 #[repr(C)]
 pub struct Answer {
     pub number: u8,
@@ -192,7 +196,7 @@ pub struct Answer {
     pub printed: usize,
 }
 
-// What the message call returns.
+// What the message, piece and closing calls return.
 #[repr(C)]
 pub struct Outcome {
     pub settings: Settings,

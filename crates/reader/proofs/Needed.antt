@@ -19,7 +19,7 @@ use Rattle.reader.proofs.Found.{mode-least, row-least, two-defaults}
 abbrev ours : ℕ → ℕ → Bool → ℕ
 ours c k b = cond b (modeRowOf k .bytes) (find (refusal 0 0 10 0) rows c .bytes)
 
-abbrev theirs : ℕ → ℕ → Bool → ℕ
+abbrev pub theirs : ℕ → ℕ → Bool → ℕ
 theirs c k b = cond b (modeRowOf k .bytes) (rowOf c .bytes)
 
 module _ (c k : ℕ) where
@@ -28,7 +28,7 @@ module _ (c k : ℕ) where
   listed true h = refl
   listed false h = ⊎-elim (λ d. absurd (h (ap (λ (r : Row). r .bytes) (d .0)))) (λ s. ap (λ (r : Row). r .bytes) (sym s)) (two-defaults (refusal 0 0 10 0) (refusal 0 2 10 0) rows c)
 
-  length-listed : (lengthOf c k ≡ 0 → ⊥) → theirs c k (eqb c 208) ≡ lengthOf c k
+  pub length-listed : (lengthOf c k ≡ 0 → ⊥) → theirs c k (eqb c 208) ≡ lengthOf c k
   unfolding lengthOf
   length-listed h = listed (eqb c 208) h
 

@@ -9,7 +9,7 @@ ghost use Rattle.reader.specs.Reading.{ReadAt};
 mod decoding;
 mod judging;
 
-use decoding::byte;
+pub use decoding::byte;
 use decoding::decode;
 use judging::judge;
 use model::Item;

@@ -3,8 +3,10 @@ use mathlib.Core.Path.{_≡_}
 use Prim.Native.Nat.{ℕ}
 use mathlib.Core.List.{List}
 use lib.ListN.{length}
-use Rattle.model.specs.Calls.{Promised, Terminal, answerOf, called, message, printedBy, request}
-use Rattle.model.specs.Opening.{OpeningPromised, openingNumber, unopened}
+use Rattle.model.specs.declared.Answer.{Answer}
+use Rattle.model.specs.declared.Outcome.{Outcome}
+use Rattle.model.specs.Calls.{Asked, Call, Promised, Terminal, answerOf, printedBy, request}
+use Rattle.model.specs.Opening.{OpeningPromised, firstPart, openingNumber, unopened}
 use Rattle.report.specs.Adler.{adlerFrom}
 use Rattle.recording.specs.declared.Played.{Played}
 
@@ -13,7 +15,16 @@ pub record Opens (cells layer shown : List ℕ) (r : Played) (cells′ layer′ 
   pub opens : OpeningPromised cells layer shown (r .settings) (openingNumber (unopened cells layer shown)) cells′ layer′ shown′
   pub sum-is : r .printer ≡ 1
 
--- a message call on t with that printer buffer, and the sum over the printer bytes of all calls, before and after
-pub record Plays (m : List ℕ) (t : Terminal) (buffer : List ℕ) (sum sum′ : ℕ) (t′ : Terminal) (printer : List ℕ) : Type 0 where
-  pub plays : Promised (called m t buffer (answerOf t (request (message m) (length buffer))) t′ printer)
-  pub sum-is : sum′ ≡ adlerFrom sum (printedBy t (request (message m) (length buffer)))
+-- a call: what is asked, what it was given (terminal, printer buffer), what it returns and leaves
+abbrev pub callOf : Asked → Terminal → List ℕ → Answer → Terminal → List ℕ → Call
+callOf asked given buffer answer left printer = record { asked = asked; given = given; left = left; answer = answer; buffer = buffer; printer = printer }
+
+-- a call on t with that printer buffer, and the sum over the printer bytes of all calls, before and after
+pub record Plays (asked : Asked) (t : Terminal) (buffer : List ℕ) (sum sum′ : ℕ) (t′ : Terminal) (printer : List ℕ) : Type 0 where
+  pub plays : Promised (callOf asked t buffer (answerOf t (request asked (length buffer))) t′ printer)
+  pub sum-is : sum′ ≡ adlerFrom sum (printedBy t (request asked (length buffer)))
+
+-- what is handed on of a call that left its printer buffer so: its settings, and the sum with its printer bytes
+pub record Told (sum : ℕ) (out : Outcome) (printer : List ℕ) (r : Played) : Type 0 where
+  pub settings-are : r .settings ≡ out .settings
+  pub sum-is : r .printer ≡ adlerFrom sum (firstPart (out .answer .printed) printer)

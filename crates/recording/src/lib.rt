@@ -1,11 +1,13 @@
-// Recordings of messages, read record by record from standard input and played: body length and kind, two bytes each,
-// little-endian, then the body.
+// Recordings of calls, read record by record from standard input and played: body length and kind, two bytes each, little-endian, then the
+// body.
 ghost use mathlib.Core.Path.{_≡_};
+ghost use mathlib.Core.List.{[]};
 ghost use Prim.Native.Nat.{_+_, _*_};
-ghost use Rattle.model.specs.Calls.{terminal};
-ghost use Rattle.recording.specs.Playing.{Opens, Plays};
+ghost use Rattle.model.specs.Calls.{Asked, terminal};
+ghost use Rattle.recording.specs.Playing.{Opens, Plays, Told};
 use libc::STDIN_FILENO;
 use model::Answer;
+use model::Outcome;
 use model::Settings;
 
 // What stands at the input: its end, a record that is cut, or a whole record, whose body is in the caller's buffer.
@@ -66,7 +68,7 @@ pub fn open(cells: &mut [u8], layer: &mut [u8], shown: &mut [u8]) -> Played
 }
 
 // One message call, and its line.
-pub fn play(
+pub fn play_message(
     number: u64,
     played: Played,
     message: &[u8],
@@ -75,14 +77,54 @@ pub fn play(
     shown: &mut [u8],
     printer: &mut [u8],
 ) -> Played
-    ensures { λ r. ⌜ Plays (now (message .entry)) (terminal (played .settings) (now (cells .entry)) (now (layer .entry)) (now (shown .entry))) (now (printer .entry)) (played .printer) (r .printer) (terminal (r .settings) (now (cells .exit)) (now (layer .exit)) (now (shown .exit))) (now (printer .exit)) ⌝ }
+    ensures { λ r. ⌜ Plays (Asked.message (now (message .entry))) (terminal (played .settings) (now (cells .entry)) (now (layer .entry)) (now (shown .entry))) (now (printer .entry)) (played .printer) (r .printer) (terminal (r .settings) (now (cells .exit)) (now (layer .exit)) (now (shown .exit))) (now (printer .exit)) ⌝ }
 {
     let before = played.settings;
     let outcome = terminal::message(before, message, cells, layer, shown, printer);
+    told(number, played.printer, outcome, printer)
+}
+
+// One piece of a stream, and its line.
+pub fn play_piece(
+    number: u64,
+    played: Played,
+    piece: &[u8],
+    cells: &mut [u8],
+    layer: &mut [u8],
+    shown: &mut [u8],
+    printer: &mut [u8],
+) -> Played
+    ensures { λ r. ⌜ Plays (Asked.piece (now (piece .entry))) (terminal (played .settings) (now (cells .entry)) (now (layer .entry)) (now (shown .entry))) (now (printer .entry)) (played .printer) (r .printer) (terminal (r .settings) (now (cells .exit)) (now (layer .exit)) (now (shown .exit))) (now (printer .exit)) ⌝ }
+{
+    let before = played.settings;
+    let outcome = board::px8_piece(before, piece, cells, layer, shown, printer);
+    told(number, played.printer, outcome, printer)
+}
+
+// The closing of a stream, and its line. It is lent no printer buffer.
+pub fn play_closing(
+    number: u64,
+    played: Played,
+    cells: &mut [u8],
+    layer: &mut [u8],
+    shown: &mut [u8],
+) -> Played
+    ensures { λ r. ⌜ Plays Asked.closing (terminal (played .settings) (now (cells .entry)) (now (layer .entry)) (now (shown .entry))) [] (played .printer) (r .printer) (terminal (r .settings) (now (cells .exit)) (now (layer .exit)) (now (shown .exit))) [] ⌝ }
+{
+    let before = played.settings;
+    let outcome = board::px8_closing(before, cells, layer, shown);
+    let none = [0u8; 0];
+    told(number, played.printer, outcome, &none)
+}
+
+// The line of a call; what it left, and the sum over its printer bytes, is handed on.
+fn told(number: u64, sum: u32, outcome: Outcome, printer: &[u8]) -> Played
+    ensures { λ r. ⌜ Told sum outcome (now (printer .entry)) r ⌝ }
+{
     let settings = outcome.settings;
     let answer = outcome.answer;
     say_line(number, answer);
-    let sum = report::adler32(played.printer, terminal::printed(printer, answer.printed));
+    let sum = report::adler32(sum, terminal::printed(printer, answer.printed));
     Played {
         settings,
         printer: sum,

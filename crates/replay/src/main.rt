@@ -1,12 +1,20 @@
-// Plays a recording of messages from standard input, from an opening: a line a record, then what stands.
+// Plays a recording of calls from standard input, from an opening: a line a record, then what stands. Kind 1 is a message, 2 a piece of a
+// stream, 3 its closing.
 ghost use Prim.Native.Nat.{_≤_};
 use model::CELLS;
 use model::COPY;
 use model::LAYER;
 use model::SHOWN;
+use recording::Played;
 use recording::Record;
 
-// A recording holds at most 60,000 bytes.
+// The kind of the next record, and its size with its head of four bytes; size 0 where the recording ends.
+struct Next {
+    kind: u16,
+    size: usize,
+}
+
+// A recording holds at most 1,000,000 bytes.
 fn main() {
     let mut cells = [0u8; CELLS];
     let mut layer = [0u8; LAYER];
@@ -15,12 +23,13 @@ fn main() {
     let mut body = [0u8; 65536];
     let mut played = recording::open(&mut cells, &mut layer, &mut shown);
     let mut number: u64 = 1;
-    let mut left: usize = 60000;
-    let mut size = next_size(number, left, &mut body);
-    while size >= 4 {
-        let length = size - 4;
-        played = recording::play(
+    let mut left: usize = 1000000;
+    let mut next = next_call(number, left, &mut body);
+    while next.size >= 4 {
+        let length = next.size - 4;
+        played = play(
             number,
+            next.kind,
             played,
             &body[..length],
             &mut cells,
@@ -29,38 +38,64 @@ fn main() {
             &mut printer,
         );
         number += 1;
-        left -= size;
-        size = next_size(number, left, &mut body);
+        left -= next.size;
+        next = next_call(number, left, &mut body);
     }
     let settings = played.settings;
     report::say_standing(settings, &cells, &layer, &shown, played.printer);
 }
 
-// The size of the next message's record, its head of four bytes too, or 0 where the recording ends: after its last byte, or at a record
-// that is cut, passes the limit or is no message.
-fn next_size(number: u64, left: usize, body: &mut [u8]) -> usize
-    ensures { λ r. ⌜ r ≤ left ⌝ }
+// The call that a record asks for. Other kinds than these three never come here.
+fn play(
+    number: u64,
+    kind: u16,
+    played: Played,
+    body: &[u8],
+    cells: &mut [u8],
+    layer: &mut [u8],
+    shown: &mut [u8],
+    printer: &mut [u8],
+) -> Played {
+    match kind {
+        2 => recording::play_piece(number, played, body, cells, layer, shown, printer),
+        3 => recording::play_closing(number, played, cells, layer, shown),
+        _ => recording::play_message(number, played, body, cells, layer, shown, printer),
+    }
+}
+
+// The next record, or the recording's end: after its last byte, or at a record that is cut, passes the limit or asks for no call.
+fn next_call(number: u64, left: usize, body: &mut [u8]) -> Next
+    ensures { λ r. ⌜ (r .size ≤ left) × (r .size ≤ 65539) ⌝ }
 {
     match recording::next_record(body) {
-        Record::End => 0,
+        Record::End => Next { kind: 0, size: 0 },
         Record::Cut => bad_record(number),
         Record::Whole { kind, length } => {
             let size = length as usize + 4;
-            if kind != 1 {
+            if !asks(kind, length) {
                 return bad_record(number);
             }
             if size > left {
                 return bad_record(number);
             }
-            size
+            Next { kind, size }
         }
     }
 }
 
-fn bad_record(number: u64) -> usize
-    ensures { λ r. ⌜ r ≤ 0 ⌝ }
+// Whether a record of this kind and length of body is a call: a closing has no body.
+fn asks(kind: u16, length: u16) -> bool {
+    match kind {
+        1 | 2 => true,
+        3 => length == 0,
+        _ => false,
+    }
+}
+
+fn bad_record(number: u64) -> Next
+    ensures { λ r. ⌜ r .size ≤ 0 ⌝ }
 {
     report::say_number(b"", number);
     report::say(b" bad record\n");
-    0
+    Next { kind: 0, size: 0 }
 }

@@ -37,7 +37,7 @@ fn say_row(shown: &[u8; SHOWN], r: usize)
 }
 
 // The letter of a code: "codes outside 32 to 126 as a dot".
-fn letter_of(code: u8) -> u8
+pub fn letter_of(code: u8) -> u8
     ensures { λ r. ⌜ r ≡ letter code ⌝ }
 {
     if code < 32 {

@@ -1,4 +1,4 @@
-// What stands: the settings in six lines, a line of sums, and the rows.
+// What stands: the settings in seven lines, a line of sums, and the rows.
 ghost use mathlib.Core.Path.{_≡_};
 ghost use Rattle.report.specs.Adler.{adler32};
 use crate::adler::adler32;
@@ -27,6 +27,8 @@ pub fn say_standing(
     say_place(b"screen 2", places[1]);
     say_cursor(settings);
     say_keys(keys, settings.display);
+    let waiting = settings.waiting;
+    say_stream(settings.count, &waiting, settings.held);
     say_number(b"sums cells ", adler32(1, cells) as u64);
     say_number(b" layer ", adler32(1, layer) as u64);
     say_number(b" patterns ", patterns_sum(&patterns) as u64);
@@ -92,6 +94,18 @@ fn say_arrows(arrows: &[u8; 12]) {
     let mut i: usize = 0;
     while i < 12 {
         say_byte(b" ", arrows[i]);
+        i += 1;
+    }
+    say(b"\n");
+}
+
+// `stream count N waiting B B ..`: the stream's byte count and the bytes that wait, none after the word where none wait.
+fn say_stream(count: u32, waiting: &[u8; 12], held: u8) {
+    say_number(b"stream count ", count as u64);
+    say(b" waiting");
+    let mut i: usize = 0;
+    while i < 12 && i < held as usize {
+        say_byte(b" ", waiting[i]);
         i += 1;
     }
     say(b"\n");

@@ -15,7 +15,7 @@ ghost use Rattle.screen.specs.Here.{shownHere};
 
 // The place that shows the cursor's cell, or 640 for none. Only in mode 1 is the window taller than the rows: the lines behind
 // those stand in the right half.
-pub(crate) fn shown(frame: Frame, place: Place) -> usize
+pub fn shown(frame: Frame, place: Place) -> usize
     requires { ⌜ Stands frame place ⌝ }
     ensures { λ r. ⌜ Reads shownHere frame place r ⌝ }
 {

@@ -1,6 +1,6 @@
 // Everything that acts on the selected screen alone: its cells, the layer, its cursor and window. What it needs of the settings
 // is a frame, which a caller keeps beside the selected screen's place, so that a printed byte copies no settings.
-mod cursor;
+pub mod cursor;
 mod lines;
 mod marks;
 mod places;

@@ -28,7 +28,7 @@ use Rattle.serving.specs.Counting.{answerAt, countsWith, noCounts}
 use Rattle.serving.specs.Serves.{Serves}
 
 -- counting an item is counting it
-counted-at : (i : Item) (n at : ℕ) (c : Counts) → counted i n at (answerAt at c) ≡ answerAt (at + n) (countsWith i at c)
+counted-at : (i : Item) (n at : ℕ) (c : Counts) → counted i at (answerAt n c) ≡ answerAt n (countsWith i at c)
 counted-at (Printed b) n at c = refl
 counted-at (Control b) n at c = refl
 counted-at (Sequence q) n at c = refl
@@ -56,7 +56,7 @@ module _ (m : List ℕ) (first : State) (buffer : List ℕ) where
     pub fits : c .printed ≤ length buffer
     pub same-size : length printer ≡ length buffer
     pub state-left : ends m at st (length buffer - c .printed) ≡ ends m 0 first (length buffer)
-    pub answer-left : answers m at st (length buffer - c .printed) (answerAt at c) ≡ answers m 0 first (length buffer) (blankAnswer 0)
+    pub answer-left : answers m at st (length buffer - c .printed) (answerAt (length m) c) ≡ answers m 0 first (length buffer) (blankAnswer 0 (length m))
     pub printed-done : take (c .printed) printer ++ prints m at st (length buffer - c .printed) ≡ prints m 0 first (length buffer)
     pub printer-rest : drop (c .printed) printer ≡ drop (c .printed) buffer
 
@@ -70,7 +70,7 @@ module _ (m : List ℕ) (first : State) (buffer : List ℕ) where
         fits = omega arith;
         same-size = refl;
         state-left = ap (ends m 0 first) z;
-        answer-left = ap (λ (n : ℕ). answers m 0 first n (blankAnswer 0)) z;
+        answer-left = ap (λ (n : ℕ). answers m 0 first n (blankAnswer 0 (length m))) z;
         printed-done = ap (prints m 0 first) z;
         printer-rest = refl;
       }
@@ -104,8 +104,7 @@ module _ (m : List ℕ) (first : State) (buffer : List ℕ) where
           fits = omega (arith, printed-with item at c, g .fits);
           same-size = ap length w ∙ length-put (c .printed) ys printer fit ∙ g .same-size;
           state-left = sym (ends-turn m at st room more ∙ (λ i. ends m (at + sym n i) (here i) (left i))) ∙ g .state-left;
-          answer-left = sym (answers-turn m at st room (answerAt at c) more
-              ∙ (λ i. answers m (at + sym n i) (here i) (left i) ((counted-at item (length (ownBytes m at)) at c ∙ ap (λ (x : ℕ). answerAt (at + x) (countsWith item at c)) (sym n)) i))) ∙ g .answer-left;
+          answer-left = sym (answers-turn m at st room (answerAt (length m) c) more ∙ (λ i. answers m (at + sym n i) (here i) (left i) (counted-at item (length m) at c i))) ∙ g .answer-left;
           printed-done =
               (λ i. take (p i) (w i) ++ tail) ∙ ap (λ (l : List ℕ). l ++ tail) (put-front (c .printed) ys printer fit) ∙ append-assoc (take (c .printed) printer) ys tail
               ∙ ap (λ (l : List ℕ). take (c .printed) printer ++ l) (sym (prints-turn m at st room more ∙ (λ i. ys ++ prints m (at + sym n i) (here i) (left i)))) ∙ g .printed-done;
@@ -128,6 +127,7 @@ module _ (m : List ℕ) (first : State) (buffer : List ℕ) where
       → shown ≡ painting (state (r .settings) (st .cells) (st .layer)) → Serves m first buffer r (st .cells) (st .layer) shown printer
   unfolding rest ends answers prints applyAll countedAll copies written
   finish at st c printer g h r e a w =
+      let end : at ≡ length m = omega (arith, g .reached) in
       let none : rest m at st (length buffer - c .printed) ≡ [] = rest-end m at st (length buffer - c .printed) h in
       let n : length (take (c .printed) printer) ≡ c .printed = length-take-le (c .printed) printer (omega (arith, g .fits, g .same-size)) in
       let all : take (c .printed) printer ≡ prints m 0 first (length buffer) =
@@ -135,7 +135,7 @@ module _ (m : List ℕ) (first : State) (buffer : List ℕ) where
       record {
         state-is = e ∙ ap (λ (rs : List Read). applyAll (eventsOf rs) st) (sym none) ∙ g .state-left;
         shown-is = w;
-        answer-is = a ∙ ap (λ (rs : List Read). countedAll rs (answerAt at c)) (sym none) ∙ g .answer-left;
+        answer-is = a ∙ ap (λ (n : ℕ). answerAt n c) end ∙ ap (λ (rs : List Read). countedAll rs (answerAt (length m) c)) (sym none) ∙ g .answer-left;
         printer-is =
             sym (take-append-drop (c .printed) printer) ∙ (λ i. all i ++ g .printer-rest i)
             ∙ ap (λ (x : ℕ). prints m 0 first (length buffer) ++ drop x buffer) (sym n ∙ ap length all);

@@ -25,5 +25,5 @@ itemsOf m st buffer = readsOf (uncut m) 0 st (length buffer)
 pub record Serves (m : List ℕ) (st : State) (buffer : List ℕ) (r : Outcome) (cells layer shown printer : List ℕ) : Type 0 where
   pub state-is : state (r .settings) cells layer ≡ applyAll (eventsOf (itemsOf m st buffer)) st
   pub shown-is : shown ≡ painting (state (r .settings) cells layer)
-  pub answer-is : r .answer ≡ countedAll (itemsOf m st buffer) (blankAnswer 0)
+  pub answer-is : r .answer ≡ countedAll (itemsOf m st buffer) (blankAnswer 0 (length m))
   pub printer-is : printer ≡ written (copies (eventsOf (itemsOf m st buffer)) st) buffer

@@ -13,6 +13,6 @@ use Rattle.model.proofs.Tests.{true-ranges}
 pub unmapped : (A B : Type 0) (f : A → B) (l : List A) (n : ℕ) → length (map f l) ≡ n → length l ≡ n
 unmapped A B f l n e = sym (length-map l f) ∙ e
 
-pub arrays : (s : Settings) → length (s .places) ≡ 2 → length (s .keys .leds) ≡ 3 → length (s .keys .arrows) ≡ 12 → length (s .patterns) ≡ 248 → inRanges? (arrayRanges s) ≡ true
+pub arrays : (s : Settings) → length (s .places) ≡ 2 → length (s .keys .leds) ≡ 3 → length (s .keys .arrows) ≡ 12 → length (s .patterns) ≡ 248 → length (s .waiting) ≡ 12 → inRanges? (arrayRanges s) ≡ true
 unfolding arrayRanges
-arrays s a b c d = true-ranges (arrayRanges s) (omega arith)
+arrays s a b c d e = true-ranges (arrayRanges s) (omega arith)

@@ -13,6 +13,7 @@ use Rattle.model.specs.Checks.{inRanges?, member, passes, range}
 use Rattle.model.specs.Screens.{columnsOf, height, linesOf, placeOf}
 use Rattle.model.specs.State.{nowhere}
 use Rattle.model.proofs.Keep.{height-low}
+use Rattle.model.specs.Line.{line?}
 use Rattle.model.specs.Sound.{arrayRanges, charsets, inside?, insideRanges, keyRanges, otherRanges, plainRanges, shapeRanges, shifts, sound?}
 
 pub three : (a b c d e f : Bool) → (a && b && c && d && e && f) ≡ ((a && b) && ((c && d) && ((e && f) && true)))
@@ -30,10 +31,10 @@ pub keys : (a b c d e f g h s i j k l m n o p t : Bool)
     ≡ ((a && b) && ((c && d) && ((e && f) && ((g && h) && (s && ((i && j) && ((k && l) && ((m && n) && ((o && p) && (t && true))))))))))
 keys a b c d e f g h s i j k l m n o p t = simp (and-assoc, and-true)
 
--- the whole test: two tests, four ranges and a test, two tests
-pub whole : (x y a b c d e f g h k u v : Bool)
-    → (x && y && a && b && c && d && e && f && g && h && k && u && v) ≡ (true && (x && (y && (((a && b) && ((c && d) && ((e && f) && ((g && h) && k)))) && (u && v)))))
-whole x y a b c d e f g h k u v = simp and-assoc
+-- the whole test: two tests, four ranges and a test, three tests
+pub whole : (x y a b c d e f g h k u v l : Bool)
+    → (x && y && a && b && c && d && e && f && g && h && k && u && v && l) ≡ (true && (x && (y && (((a && b) && ((c && d) && ((e && f) && ((g && h) && k)))) && (u && (v && l))))))
+whole x y a b c d e f g h k u v l = simp and-assoc
 
 -- the same of the lists of ranges, over their numbers
 module _ (l1 l2 c1 c2 : ℕ) where
@@ -67,13 +68,13 @@ stored kind k s t e f =
     (leb 0 (k .strings)) (leb (k .strings) 1) (leb 0 (k .repeat)) (leb (k .repeat) 1) (leb 1 (k .delay)) (leb (k .delay) 127) (leb 1 (k .interval)) (leb (k .interval) 127) t)
 
 -- the whole test, for settings whose arrays are of their types
-pub all : (s : Settings) (x y k u v : Bool) → inRanges? (arrayRanges s) ≡ true → x ≡ inRanges? (shapeRanges (s .mode) (s .lines1) (s .lines2) (s .columns1) (s .columns2)) → y ≡ inRanges? (otherRanges (s .selected) (s .step) (height s))
-    → k ≡ inRanges? (keyRanges (s .kind) (s .keys)) → u ≡ inside? s 0 → v ≡ inside? s 1
-    → (x && y && leb 0 (s .tracking) && leb (s .tracking) 1 && leb 0 (s .secret) && leb (s .secret) 1 && leb 0 (s .cursor) && leb (s .cursor) 1 && leb 0 (s .display) && leb (s .display) 1 && k && u && v) ≡ sound? s
+pub all : (s : Settings) (x y k u v l : Bool) → inRanges? (arrayRanges s) ≡ true → x ≡ inRanges? (shapeRanges (s .mode) (s .lines1) (s .lines2) (s .columns1) (s .columns2)) → y ≡ inRanges? (otherRanges (s .selected) (s .step) (height s))
+    → k ≡ inRanges? (keyRanges (s .kind) (s .keys)) → u ≡ inside? s 0 → v ≡ inside? s 1 → l ≡ line? (s .waiting) (s .held) (s .count)
+    → (x && y && leb 0 (s .tracking) && leb (s .tracking) 1 && leb 0 (s .secret) && leb (s .secret) 1 && leb 0 (s .cursor) && leb (s .cursor) 1 && leb 0 (s .display) && leb (s .display) 1 && k && u && v && l) ≡ sound? s
 unfolding sound? plainRanges inRanges? passes
-all s x y k u v z a b c d e =
-    rw (z, ← a, ← b, ← c, ← d, ← e)
-    (whole x y (leb 0 (s .tracking)) (leb (s .tracking) 1) (leb 0 (s .secret)) (leb (s .secret) 1) (leb 0 (s .cursor)) (leb (s .cursor) 1) (leb 0 (s .display)) (leb (s .display) 1) k u v)
+all s x y k u v l z a b c d e f =
+    rw (z, ← a, ← b, ← c, ← d, ← e, ← f)
+    (whole x y (leb 0 (s .tracking)) (leb (s .tracking) 1) (leb 0 (s .secret)) (leb (s .secret) 1) (leb 0 (s .cursor)) (leb (s .cursor) 1) (leb 0 (s .display)) (leb (s .display) 1) k u v l)
 
 -- of settings whose H is known: H less one is what the code has
 module _ (s : Settings) (h : ℕ) (e : h ≡ height s) where

@@ -4,6 +4,7 @@ ghost use mathlib.Core.Path.{_≡_};
 ghost use lib.ListN.{length};
 ghost use Prim.Native.Nat.{_+_, _-_};
 ghost use Rattle.model.specs.Checks.{inRanges?};
+ghost use Rattle.model.specs.Line.{line?};
 ghost use Rattle.model.specs.Sound.{shapeRanges, insideRanges, otherRanges, keyRanges, sound?};
 use model::Keys;
 use model::Place;
@@ -103,6 +104,16 @@ fn keys_in_range(kind: u8, keys: Keys) -> bool
         & shifted
 }
 
+// P1: "Waiting bytes are sound only as an unfinished sequence no longer than the count"; the length is that of the type
+fn line_sound(waiting: [u8; 12], held: u8, count: u32) -> bool
+    ensures { λ r. ⌜ (r ≡ line? waiting held count) × (length waiting ≡ 12) ⌝ }
+{
+    let begun = line::begun(held, waiting[0], waiting[1], waiting[2]);
+    let counted = line::counted(held, count);
+    let clean = line::clean(waiting, held);
+    begun & counted & clean
+}
+
 // "Settings are sound exactly when each lies in the range that the rules give"
 pub fn sound(settings: Settings) -> bool
     ensures { λ r. ⌜ r ≡ sound? settings ⌝ }
@@ -123,6 +134,8 @@ pub fn sound(settings: Settings) -> bool
     let stored = keys_in_range(settings.kind, keys);
     let one = inside(settings.lines1, settings.columns1, less, first);
     let two = inside(settings.lines2, settings.columns2, less, second);
+    let waiting = settings.waiting;
+    let lined = line_sound(waiting, settings.held, settings.count);
     shaped
         & other
         & (0 <= settings.tracking)
@@ -136,4 +149,5 @@ pub fn sound(settings: Settings) -> bool
         & stored
         & one
         & two
+        & lined
 }

@@ -3,7 +3,7 @@ use mathlib.Core.Path.{_∙_, _≡_, ap, refl}
 use Prim.Native.Nat.{ℕ}
 use native.Mathlib.Omega.{arith}
 use mathlib.Core.Bool.{Bool, false, true}
-use mathlib.Core.List.{List}
+use mathlib.Core.List.{List, [], _∷_}
 use lib.ListN.{length}
 use borrow.Author.Tests.{leb-true}
 use Rattle.model.specs.declared.Answer.{Answer}
@@ -11,7 +11,7 @@ use Rattle.model.specs.declared.Outcome.{Outcome}
 use Rattle.model.specs.declared.Settings.{Settings}
 use Rattle.model.specs.State.{state}
 use Rattle.model.specs.Items.{blankAnswer}
-use Rattle.model.specs.Calls.{Promised, Terminal, called, firstOf, message, numberOf, reasons, request, short, sized, soundIn, terminal}
+use Rattle.model.specs.Calls.{Promised, Terminal, called, firstOf, message, noneWaits, numberOf, reason, reasons, request, short, sized, soundIn, terminal}
 use Rattle.model.proofs.CallLaws.{accepted-number, refused-number}
 use Rattle.model.proofs.Loop.{answers, ends, prints, rest}
 use Rattle.model.proofs.Message.{promised-refused, promised-served}
@@ -19,22 +19,24 @@ use Rattle.model.proofs.SoundLaws.{sound-true}
 use Rattle.serving.specs.Serves.{Servable, Serves}
 use Rattle.terminal.proofs.Promises.{sizes}
 
--- the number by its three tests
-abbrev pub numberBy : Bool → Bool → Bool → ℕ
-numberBy true true true = 0
-numberBy true true false = 3
-numberBy true false c = 2
-numberBy false b c = 1
+-- the number by its four tests
+abbrev pub numberBy : Bool → Bool → Bool → Bool → ℕ
+numberBy true true true true = 0
+numberBy true true true false = 16
+numberBy true true false d = 3
+numberBy true false c d = 2
+numberBy false b c d = 1
 
-pub numbered : (t : Terminal) (m : List ℕ) (a b c : Bool) → sized t ≡ a → short m ≡ b → soundIn t ≡ c → firstOf (reasons t (message m)) ≡ numberBy a b c
+pub numbered : (t : Terminal) (m : List ℕ) (a b c d : Bool) → sized t ≡ a → short m ≡ b → soundIn t ≡ c → noneWaits (t .state .settings) ≡ d → firstOf (reasons t (message m)) ≡ numberBy a b c d
 unfolding firstOf reasons
-numbered t m a b c p q r = (λ i. elim (p i) as (λ x. ℕ) [ true ↦ elim (q i) as (λ x. ℕ) [ true ↦ elim (r i) as (λ x. ℕ) [ true ↦ 0 | false ↦ 3 ] | false ↦ 2 ] | false ↦ 1 ]) ∙ same a b c
+numbered t m a b c d p q r w = (λ i. firstOf (reason 1 (p i) ∷ reason 2 (q i) ∷ reason 3 (r i) ∷ reason 16 (w i) ∷ [])) ∙ same a b c d
   where
-    same : (a b c : Bool) → elim a as (λ x. ℕ) [ true ↦ elim b as (λ x. ℕ) [ true ↦ elim c as (λ x. ℕ) [ true ↦ 0 | false ↦ 3 ] | false ↦ 2 ] | false ↦ 1 ] ≡ numberBy a b c
-    same true true true = refl
-    same true true false = refl
-    same true false c = refl
-    same false b c = refl
+    same : (a b c d : Bool) → firstOf (reason 1 a ∷ reason 2 b ∷ reason 3 c ∷ reason 16 d ∷ []) ≡ numberBy a b c d
+    same true true true true = refl
+    same true true true false = refl
+    same true true false d = refl
+    same true false c d = refl
+    same false b c d = refl
 
 -- number 0 is the number of a call that can be served
 module _ (s : Settings) (m cells layer shown : List ℕ) where
@@ -43,13 +45,13 @@ module _ (s : Settings) (m cells layer shown : List ℕ) where
 
   pub servable : firstOf (reasons given (message m)) ≡ 0 → Servable s m cells layer shown
   unfolding soundIn
-  servable e = go (sized given) (short m) (soundIn given) refl refl refl
+  servable e = go (sized given) (short m) (soundIn given) (noneWaits s) refl refl refl refl
     where
-      go : (a b c : Bool) → sized given ≡ a → short m ≡ b → soundIn given ≡ c → Servable s m cells layer shown
-      go true true true p q r = let z = sizes given p in record { good = record { sound = sound-true s r; cells-are = z .0; layer-are = z .1 }; short = leb-true (length m) 4096 q; shown-are = z .2 }
-      go true true false p q r = absurd (omega (arith, e, numbered given m true true false p q r))
-      go true false c p q r = absurd (omega (arith, e, numbered given m true false c p q r))
-      go false b c p q r = absurd (omega (arith, e, numbered given m false b c p q r))
+      go : (a b c d : Bool) → sized given ≡ a → short m ≡ b → soundIn given ≡ c → noneWaits s ≡ d → Servable s m cells layer shown
+      go true true true d p q r w = let z = sizes given p in record { good = record { sound = sound-true s r; cells-are = z .0; layer-are = z .1 }; short = leb-true (length m) 4096 q; shown-are = z .2 }
+      go true true false d p q r w = absurd (omega (arith, e, numbered given m true true false d p q r w))
+      go true false c d p q r w = absurd (omega (arith, e, numbered given m true false c d p q r w))
+      go false b c d p q r w = absurd (omega (arith, e, numbered given m false b c d p q r w))
 
   module _ (buffer : List ℕ) where
     pub served : (r : Outcome) (cells′ layer′ shown′ printer′ : List ℕ) → firstOf (reasons given (message m)) ≡ 0 → Serves m (state s cells layer) buffer r cells′ layer′ shown′ printer′
@@ -58,7 +60,7 @@ module _ (s : Settings) (m cells layer shown : List ℕ) where
     served r cells′ layer′ shown′ printer′ e w =
         promised-served m given buffer (r .answer) (terminal (r .settings) cells′ layer′ shown′) printer′ (accepted-number given (request (message m) (length buffer)) e) (w .state-is) (w .shown-is) (w .answer-is) (w .printer-is)
 
-    pub refused : (n : ℕ) (a : Answer) → n ≡ firstOf (reasons given (message m)) → (n ≡ 0 → ⊥) → a ≡ blankAnswer n → Promised (called m given buffer a given buffer)
+    pub refused : (n : ℕ) (a : Answer) → n ≡ firstOf (reasons given (message m)) → (n ≡ 0 → ⊥) → a ≡ blankAnswer n 0 → Promised (called m given buffer a given buffer)
     unfolding numberOf
     refused n a e z w =
-        promised-refused m given buffer a given buffer (refused-number given (request (message m) (length buffer)) (λ k. z (e ∙ k))) refl (w ∙ ap blankAnswer e) refl
+        promised-refused m given buffer a given buffer (refused-number given (request (message m) (length buffer)) (λ k. z (e ∙ k))) refl (w ∙ ap (λ (k : ℕ). blankAnswer k 0) e) refl

@@ -1,5 +1,5 @@
 // The calls of the terminal: opening, message and printer. None asks anything of its caller: bad input is refused by number.
-mod numbers;
+pub mod numbers;
 mod opened;
 
 ghost use Rattle.model.specs.Calls.{Promised, called, terminal};

@@ -1,4 +1,4 @@
-// Numbers 0 to 3, in their order.
+// The numbers of a whole call, in their order.
 ghost use mathlib.Core.Path.{_≡_};
 ghost use Rattle.model.specs.Calls.{Asked, firstOf, reasons, sized, terminal};
 ghost use Rattle.model.specs.Items.{blankAnswer};
@@ -11,13 +11,13 @@ use model::SHOWN;
 use model::Settings;
 
 // 1: "a store is not of its size"; here, that all are
-pub(crate) fn stores_sized(cells: &[u8], layer: &[u8], shown: &[u8]) -> bool
+pub fn stores_sized(cells: &[u8], layer: &[u8], shown: &[u8]) -> bool
     ensures { λ r. ⌜ r ≡ sized (unopened (now (cells .entry)) (now (layer .entry)) (now (shown .entry))) ⌝ }
 {
     (cells.len() == CELLS) & ((layer.len() == LAYER) & (shown.len() == SHOWN))
 }
 
-// "Calls are checked in the order 1, 2, 3": the number of a message call
+// "Calls are checked in the order 1, 2, 3"; 16, "a whole message while bytes wait", is after 3: the number of a message call
 pub(crate) fn call_number(
     settings: Settings,
     message: &[u8],
@@ -29,7 +29,11 @@ pub(crate) fn call_number(
 {
     if stores_sized(cells, layer, shown) {
         if message.len() <= MESSAGE {
-            if soundness::sound(settings) { 0 } else { 3 }
+            if soundness::sound(settings) {
+                if settings.held == 0 { 0 } else { 16 }
+            } else {
+                3
+            }
         } else {
             2
         }
@@ -39,8 +43,8 @@ pub(crate) fn call_number(
 }
 
 // "zero counts, its number"
-pub(crate) fn refusal(number: u8) -> Answer
-    ensures { λ r. ⌜ r ≡ blankAnswer number ⌝ }
+pub fn refusal(number: u8) -> Answer
+    ensures { λ r. ⌜ r ≡ blankAnswer number 0 ⌝ }
 {
     Answer {
         number,

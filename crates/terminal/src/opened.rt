@@ -42,5 +42,8 @@ pub(crate) fn opened_settings() -> Settings
         kind: 0,
         keys,
         patterns,
+        waiting: [0u8; 12],
+        held: 0,
+        count: 0,
     }
 }

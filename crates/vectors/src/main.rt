@@ -127,7 +127,7 @@ fn message(
     if end > printer.len() {
         return bad_record(case);
     }
-    let played = recording::play(
+    let played = recording::play_message(
         case.number,
         case.played,
         message,

@@ -9,6 +9,7 @@
 //! - `report`: a whole comparison with its words, for a program's main
 //! - `breaks`: deliberately broken copies, to show that the lists find them
 //! - `vectors`: the named cases
+//! - `streams`: closed streams against one uncut reading
 //! - `screens`: the comparison of two screens, with a trait of its own
 //! - `traces`: key repeats, with a trait of its own
 //! - `classes`: counts by name
@@ -21,12 +22,13 @@ pub mod play;
 pub mod random;
 pub mod report;
 pub mod screens;
+pub mod streams;
 pub mod traces;
 pub mod vectors;
 
 use reference::{Answer, Settings};
 
-/// An implementation of the three calls on plain slices.
+/// An implementation of the terminal's calls on plain slices.
 pub trait Terminal {
     fn name(&self) -> &str;
 
@@ -42,30 +44,60 @@ pub trait Terminal {
         printer: &mut [u8],
     ) -> (Settings, Answer);
 
+    fn piece(
+        &mut self,
+        settings: Settings,
+        piece: &[u8],
+        cells: &mut [u8],
+        layer: &mut [u8],
+        shown: &mut [u8],
+        printer: &mut [u8],
+    ) -> (Settings, Answer);
+
+    fn closing(
+        &mut self,
+        settings: Settings,
+        cells: &mut [u8],
+        layer: &mut [u8],
+        shown: &mut [u8],
+    ) -> (Settings, Answer);
+
     fn printed<'a>(&mut self, buffer: &'a [u8], count: usize) -> &'a [u8];
 }
 
-/// An implementation given by three Rust functions.
+/// An implementation given by Rust functions.
 #[derive(Clone, Copy)]
 pub struct Functions {
     pub name: &'static str,
     pub opening: OpeningCall,
     pub message: MessageCall,
+    pub piece: MessageCall,
+    pub closing: ClosingCall,
     pub printed: for<'a> fn(&'a [u8], usize) -> &'a [u8],
 }
 
 pub type OpeningCall = fn(&mut [u8], &mut [u8], &mut [u8]) -> (Settings, u8);
 pub type MessageCall = fn(Settings, &[u8], &mut [u8], &mut [u8], &mut [u8], &mut [u8]) -> (Settings, Answer);
 
+pub type ClosingCall = fn(Settings, &mut [u8], &mut [u8], &mut [u8]) -> (Settings, Answer);
+
 pub const REFERENCE: Functions = Functions {
     name: "reference",
     opening: reference::opening,
     message: reference::message,
+    piece: reference::piece,
+    closing: reference::closing,
     printed: reference::printed,
 };
 
-pub const TUNED: Functions =
-    Functions { name: "tuned", opening: tuned::opening, message: tuned::message, printed: tuned::printed };
+pub const TUNED: Functions = Functions {
+    name: "tuned",
+    opening: tuned::opening,
+    message: tuned::message,
+    piece: tuned::piece,
+    closing: tuned::closing,
+    printed: tuned::printed,
+};
 
 include!(concat!(env!("OUT_DIR"), "/broken.rs"));
 
@@ -88,6 +120,28 @@ impl Terminal for Functions {
         printer: &mut [u8],
     ) -> (Settings, Answer) {
         (self.message)(settings, message, cells, layer, shown, printer)
+    }
+
+    fn piece(
+        &mut self,
+        settings: Settings,
+        piece: &[u8],
+        cells: &mut [u8],
+        layer: &mut [u8],
+        shown: &mut [u8],
+        printer: &mut [u8],
+    ) -> (Settings, Answer) {
+        (self.piece)(settings, piece, cells, layer, shown, printer)
+    }
+
+    fn closing(
+        &mut self,
+        settings: Settings,
+        cells: &mut [u8],
+        layer: &mut [u8],
+        shown: &mut [u8],
+    ) -> (Settings, Answer) {
+        (self.closing)(settings, cells, layer, shown)
     }
 
     fn printed<'a>(&mut self, buffer: &'a [u8], count: usize) -> &'a [u8] {

@@ -1,10 +1,13 @@
 //! `compare [--calls N] [--seed S] [--list L]`: the reference against the
 //! tuned version on random lists of calls; with `--screens` on pairs of
-//! screens, with `--traces` on traces of keys.
+//! screens, with `--traces` on traces of keys. With `--streams` closed
+//! streams of both against one uncut reading.
 //! `compare --breaks`: how soon each broken copy is found.
 
 use compare::play::{run, Plan};
-use compare::report::{command_line, compare, compare_screens, compare_traces, Options, Subject};
+use compare::report::{
+    command_line, compare, compare_screens, compare_streams, compare_traces, Options, Subject,
+};
 use compare::{screens, traces, Functions, Terminal};
 use compare::{BROKEN, BROKEN_SCREENS, BROKEN_TRACES, REFERENCE, TUNED};
 use reference::{Answer, Settings};
@@ -13,7 +16,9 @@ use std::process::ExitCode;
 
 fn main() -> ExitCode {
     let Some(options) = command_line() else {
-        eprintln!("usage: compare [--calls N] [--seed S] [--list L] [--screens | --traces] [--breaks]");
+        eprintln!(
+            "usage: compare [--calls N] [--seed S] [--list L] [--streams | --screens | --traces] [--breaks]"
+        );
         return ExitCode::from(2);
     };
     let good = if options.breaks { breaks(&options.plan) } else { versions(&options) };
@@ -28,6 +33,9 @@ fn main() -> ExitCode {
 fn versions(options: &Options) -> bool {
     match options.subject {
         Subject::Lists => compare(&mut { REFERENCE }, &mut { TUNED }, options),
+        Subject::Streams => {
+            compare_streams(&mut { REFERENCE }, options) && compare_streams(&mut { TUNED }, options)
+        }
         Subject::Screens => compare_screens(&mut { screens::REFERENCE }, &mut { screens::TUNED }, options),
         Subject::Traces => compare_traces(&mut { traces::REFERENCE }, &mut { traces::TUNED }, options),
     }
@@ -54,14 +62,40 @@ impl Terminal for Guarded {
         shown: &mut [u8],
         printer: &mut [u8],
     ) -> (Settings, Answer) {
-        let call = AssertUnwindSafe(|| self.0.message(settings, message, cells, layer, shown, printer));
-        let fallen = (settings, Answer { number: 255, ..Answer::default() });
-        catch_unwind(call).unwrap_or(fallen)
+        guarded(settings, || self.0.message(settings, message, cells, layer, shown, printer))
+    }
+
+    fn piece(
+        &mut self,
+        settings: Settings,
+        piece: &[u8],
+        cells: &mut [u8],
+        layer: &mut [u8],
+        shown: &mut [u8],
+        printer: &mut [u8],
+    ) -> (Settings, Answer) {
+        guarded(settings, || self.0.piece(settings, piece, cells, layer, shown, printer))
+    }
+
+    fn closing(
+        &mut self,
+        settings: Settings,
+        cells: &mut [u8],
+        layer: &mut [u8],
+        shown: &mut [u8],
+    ) -> (Settings, Answer) {
+        guarded(settings, || self.0.closing(settings, cells, layer, shown))
     }
 
     fn printed<'a>(&mut self, buffer: &'a [u8], count: usize) -> &'a [u8] {
         self.0.printed(buffer, count)
     }
+}
+
+/// A call, or a number that no call gives if it falls.
+fn guarded(settings: Settings, call: impl FnOnce() -> (Settings, Answer)) -> (Settings, Answer) {
+    let fallen = (settings, Answer { number: 255, ..Answer::default() });
+    catch_unwind(AssertUnwindSafe(call)).unwrap_or(fallen)
 }
 
 /// Every broken copy must be found within the planned calls.

@@ -1,7 +1,7 @@
 //! Plays the lists on two implementations and looks for a difference.
 
 use crate::coverage::Coverage;
-use crate::generate::{self, Call, SIZES};
+use crate::generate::{self, Call, Kind, SIZES};
 use crate::random::Random;
 use crate::Terminal;
 use reference::settings::OPENING;
@@ -26,6 +26,7 @@ pub struct Difference {
     /// calls played in all, this one included
     pub calls: u64,
     pub what: String,
+    pub kind: Kind,
     pub settings: Settings,
     pub room: usize,
     pub message: Vec<u8>,
@@ -38,7 +39,7 @@ impl std::fmt::Display for Difference {
         writeln!(f, "again: --seed {} --list {} --calls {}", self.seed, self.list, self.call)?;
         writeln!(f, "settings {:?}", self.settings)?;
         writeln!(f, "printer room {}", self.room)?;
-        write!(f, "message {:?}", self.message)
+        write!(f, "{:?} {:?}", self.kind, self.message)
     }
 }
 
@@ -55,12 +56,14 @@ struct Game<'a> {
     coverage: Option<&'a mut Coverage>,
     sides: [Side; 2],
     random: Random,
+    /// what is still to come of the stream
+    line: Vec<u8>,
     calls: u64,
 }
 
-/// A difference within a list: in what, and the call's settings, printer
-/// room and message.
-type Found = Result<(), Box<(String, Settings, usize, Vec<u8>)>>;
+/// A difference within a list: in what, and the call's kind, settings,
+/// printer room and message.
+type Found = Result<(), Box<(String, Kind, Settings, usize, Vec<u8>)>>;
 
 /// Plays lists until the planned number of calls is reached.
 pub fn run(
@@ -71,7 +74,8 @@ pub fn run(
 ) -> Result<u64, Box<Difference>> {
     let side = Side { settings: OPENING, stores: SIZES.map(|size| vec![0; size]) };
     let sides = [side.clone(), side];
-    let mut game = Game { left, right, coverage, sides, random: Random::of_list(plan.seed, 0), calls: 0 };
+    let random = Random::of_list(plan.seed, 0);
+    let mut game = Game { left, right, coverage, sides, random, line: Vec::new(), calls: 0 };
     let mut list = plan.list;
     let mut next_line = plan.progress;
     while game.calls < plan.calls {
@@ -88,21 +92,22 @@ pub fn run(
 impl Game<'_> {
     fn list(&mut self, plan: &Plan, list: u64) -> Result<(), Box<Difference>> {
         self.random = Random::of_list(plan.seed, list);
+        self.line.clear();
         let before = self.calls;
         let found = self.start().and_then(|()| {
             for _ in 0..self.random.between(1, 24) {
                 if self.calls >= plan.calls {
                     break;
                 }
-                self.message_call()?;
+                self.one_call()?;
             }
             Ok(())
         });
         let call = (self.calls - before) as usize;
         found.map_err(|found| {
-            let (what, settings, room, message) = *found;
+            let (what, kind, settings, room, message) = *found;
             let (seed, calls) = (plan.seed, self.calls);
-            Box::new(Difference { seed, list, call, calls, what, settings, room, message })
+            Box::new(Difference { seed, list, call, calls, what, kind, settings, room, message })
         })
     }
 
@@ -129,7 +134,10 @@ impl Game<'_> {
         let [left, right] = &mut given;
         let (settings, number) = opening(self.left, left);
         let other = opening(self.right, right);
-        let fail = |what: &str| Err(Box::new((format!("opening: {what}"), settings, 0, Vec::new())));
+        let fail = |what: &str| {
+            let what = format!("opening: {what}");
+            Err(Box::new((what, Kind::Message, settings, 0, Vec::new())))
+        };
         if (settings, number) != other {
             return fail(&format!("settings or number {number} {}", other.1));
         }
@@ -145,8 +153,9 @@ impl Game<'_> {
         Ok(())
     }
 
-    fn message_call(&mut self) -> Found {
-        let call = generate::call(&mut self.random, &self.sides[0].settings);
+    /// A message, a piece or a closing.
+    fn one_call(&mut self) -> Found {
+        let call = generate::call(&mut self.random, &self.sides[0].settings, &mut self.line);
         self.calls += 1;
         let settings = call.settings.map_or(self.sides[0].settings, |(_, broken)| broken);
         let mut printer = vec![0; call.room];
@@ -164,7 +173,7 @@ impl Game<'_> {
             let mut given = self.sides.clone().map(|side| resized(&side.stores, call.sizes));
             self.both(&call, settings, &mut given, printer)
         };
-        found.map_err(|what| Box::new((what, settings, call.room, call.message)))
+        found.map_err(|what| Box::new((what, call.kind, settings, call.room, call.message)))
     }
 
     /// Makes the call on both sides and compares everything it leaves.
@@ -178,8 +187,8 @@ impl Game<'_> {
         let mut other_printer = printer.clone();
         let [left, right] = given;
         let answers = [
-            message(self.left, settings, &call.message, left, &mut printer),
-            message(self.right, settings, &call.message, right, &mut other_printer),
+            made(self.left, call, settings, left, &mut printer),
+            made(self.right, call, settings, right, &mut other_printer),
         ];
         let (after, answer) = answers[0];
         if answer != answers[1].1 {
@@ -199,6 +208,11 @@ impl Game<'_> {
         if answer.number == 0 {
             self.sides[0].settings = after;
             self.sides[1].settings = after;
+            match call.kind {
+                Kind::Message => {}
+                Kind::Piece => drop(self.line.drain(..call.message.len())),
+                Kind::Closing => self.line.clear(),
+            }
         }
         Ok(())
     }
@@ -228,15 +242,19 @@ fn opening(terminal: &mut dyn Terminal, stores: &mut [Vec<u8>; 3]) -> (Settings,
     terminal.opening(cells, layer, shown)
 }
 
-fn message(
+fn made(
     terminal: &mut dyn Terminal,
+    call: &Call,
     settings: Settings,
-    bytes: &[u8],
     stores: &mut [Vec<u8>; 3],
     printer: &mut [u8],
 ) -> (Settings, Answer) {
     let [cells, layer, shown] = stores;
-    terminal.message(settings, bytes, cells, layer, shown, printer)
+    match call.kind {
+        Kind::Message => terminal.message(settings, &call.message, cells, layer, shown, printer),
+        Kind::Piece => terminal.piece(settings, &call.message, cells, layer, shown, printer),
+        Kind::Closing => terminal.closing(settings, cells, layer, shown),
+    }
 }
 
 fn resized(stores: &[Vec<u8>; 3], sizes: [usize; 3]) -> [Vec<u8>; 3] {

@@ -5,6 +5,7 @@
 use crate::coverage::Coverage;
 use crate::play::{run, Plan};
 use crate::screens::{self, Screens};
+use crate::streams;
 use crate::traces::{self, Repeats};
 use crate::Terminal;
 
@@ -13,6 +14,8 @@ use crate::Terminal;
 pub enum Subject {
     /// lists of calls of a terminal
     Lists,
+    /// closed streams against one uncut reading
+    Streams,
     /// pairs of screens
     Screens,
     /// traces of keys
@@ -40,6 +43,7 @@ pub fn command_line() -> Option<Options> {
                 options.plan.list = words.next()?.parse().ok()?;
                 options.one_list = true;
             }
+            "--streams" => options.subject = Subject::Streams,
             "--screens" => options.subject = Subject::Screens,
             "--traces" => options.subject = Subject::Traces,
             "--breaks" => options.breaks = true,
@@ -56,6 +60,14 @@ pub fn compare(left: &mut dyn Terminal, right: &mut dyn Terminal, options: &Opti
     let mut coverage = Coverage::new();
     let outcome = run(left, right, Some(&mut coverage), &options.plan);
     verdict("calls", outcome.map_err(|difference| difference.to_string()), &coverage.lines(), options)
+}
+
+/// Closed streams of one terminal against the reference's uncut reading.
+pub fn compare_streams(terminal: &mut dyn Terminal, options: &Options) -> bool {
+    println!("compare: closed streams, {}, seed {}", terminal.name(), options.plan.seed);
+    let mut classes = streams::classes();
+    let outcome = streams::run(terminal, &mut classes, &options.plan);
+    verdict("closed streams", outcome, &classes.lines(), options)
 }
 
 /// The same of the comparison of two screens.

@@ -2,9 +2,11 @@
 //! difference can be seen again, and the named cases are in order.
 
 use compare::coverage::Coverage;
+use compare::generate::Kind;
 use compare::play::{run, Plan};
 use compare::vectors::{cases, play, recording};
 use compare::{Functions, BROKEN, REFERENCE, TUNED};
+use reference::stream::waits;
 use reference::{Answer, Settings};
 use std::collections::BTreeSet;
 
@@ -34,7 +36,8 @@ fn a_difference_is_seen_again() {
     let Err(second) = again else { panic!("not seen again") };
     assert_eq!((first.list, first.call, &first.what), (second.list, second.call, &second.what));
     assert_eq!(first.message, second.message);
-    assert_eq!(&first.message[first.message.len() - 2..], &[27, 209]);
+    let read = [waits(&first.settings), &first.message].concat();
+    assert!(read.ends_with(&[27, 209]));
 }
 
 #[test]
@@ -62,7 +65,7 @@ fn scenes_are_built_whole() {
     assert!(built > 300);
 }
 
-/// The named cases, message by message, on both versions.
+/// The named cases, call by call, on both versions.
 #[test]
 fn tuned_equals_the_reference_on_the_named_cases() {
     for case in cases() {
@@ -71,9 +74,9 @@ fn tuned_equals_the_reference_on_the_named_cases() {
             let settings = (side.opening)(&mut stores.0, &mut stores.1, &mut stores.2).0;
             (settings, stores)
         });
-        for (room, bytes) in &case.messages {
-            let left = play_one(&REFERENCE, &mut sides[0], bytes, *room);
-            let right = play_one(&TUNED, &mut sides[1], bytes, *room);
+        for call in &case.calls {
+            let left = play_one(&REFERENCE, &mut sides[0], call);
+            let right = play_one(&TUNED, &mut sides[1], call);
             assert_eq!(left, right, "{}", case.name);
             assert!(sides[0] == sides[1], "{}", case.name);
         }
@@ -82,10 +85,15 @@ fn tuned_equals_the_reference_on_the_named_cases() {
 
 type Side = (Settings, (Vec<u8>, Vec<u8>, Vec<u8>));
 
-fn play_one(terminal: &Functions, side: &mut Side, bytes: &[u8], room: usize) -> (Answer, Vec<u8>) {
+fn play_one(terminal: &Functions, side: &mut Side, call: &(Kind, usize, Vec<u8>)) -> (Answer, Vec<u8>) {
+    let (kind, room, bytes) = call;
     let (settings, (cells, layer, shown)) = side;
-    let mut printer = vec![7; room];
-    let (after, answer) = (terminal.message)(*settings, bytes, cells, layer, shown, &mut printer);
+    let mut printer = vec![7; *room];
+    let (after, answer) = match kind {
+        Kind::Message => (terminal.message)(*settings, bytes, cells, layer, shown, &mut printer),
+        Kind::Piece => (terminal.piece)(*settings, bytes, cells, layer, shown, &mut printer),
+        Kind::Closing => (terminal.closing)(*settings, cells, layer, shown),
+    };
     *settings = after;
     (answer, printer)
 }

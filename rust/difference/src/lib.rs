@@ -36,6 +36,31 @@ impl Terminal for Board {
         (settings_from_board(&after), answer_from_board(&answer))
     }
 
+    fn piece(
+        &mut self,
+        settings: Settings,
+        piece: &[u8],
+        cells: &mut [u8],
+        layer: &mut [u8],
+        shown: &mut [u8],
+        printer: &mut [u8],
+    ) -> (Settings, Answer) {
+        let given = settings_to_board(&settings);
+        let (after, answer) = px8::piece(given, piece, cells, layer, shown, printer);
+        (settings_from_board(&after), answer_from_board(&answer))
+    }
+
+    fn closing(
+        &mut self,
+        settings: Settings,
+        cells: &mut [u8],
+        layer: &mut [u8],
+        shown: &mut [u8],
+    ) -> (Settings, Answer) {
+        let (after, answer) = px8::closing(settings_to_board(&settings), cells, layer, shown);
+        (settings_from_board(&after), answer_from_board(&answer))
+    }
+
     fn printed<'a>(&mut self, buffer: &'a [u8], count: usize) -> &'a [u8] {
         px8::printed(buffer, count)
     }
@@ -114,6 +139,9 @@ pub fn settings_to_board(s: &Settings) -> px8::Settings {
             arrows: keys.arrows,
         },
         patterns: s.patterns,
+        waiting: s.waiting,
+        held: s.held,
+        count: s.count,
     }
 }
 
@@ -146,6 +174,9 @@ pub fn settings_from_board(s: &px8::Settings) -> Settings {
             arrows: keys.arrows,
         },
         patterns: s.patterns,
+        waiting: s.waiting,
+        held: s.held,
+        count: s.count,
     }
 }
 

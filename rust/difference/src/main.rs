@@ -1,9 +1,11 @@
 //! `difference [--calls N] [--seed S] [--list L]`: the proved library
-//! against the reference on random lists of calls; with `--screens` on pairs
-//! of screens, with `--traces` on traces of keys.
+//! against the reference on random lists of calls, pieces and closings among
+//! them; with `--streams` its closed streams against the reference's uncut
+//! reading, with `--screens` on pairs of screens, with `--traces` on traces of
+//! keys.
 //! `difference --vectors`: the same on the named cases.
 
-use compare::report::{command_line, compare, compare_screens, compare_traces, Subject};
+use compare::report::{command_line, compare, compare_screens, compare_streams, compare_traces, Subject};
 use compare::traces;
 use compare::vectors::cases;
 use compare::{screens, REFERENCE};
@@ -17,12 +19,13 @@ fn main() -> ExitCode {
         let options = command_line().filter(|options| !options.breaks);
         let Some(options) = options else {
             eprintln!(
-                "usage: difference [--calls N] [--seed S] [--list L] [--screens | --traces] | --vectors"
+                "usage: difference [--calls N] [--seed S] [--list L] [--streams | --screens | --traces] | --vectors"
             );
             return ExitCode::from(2);
         };
         match options.subject {
             Subject::Lists => compare(&mut { REFERENCE }, &mut Board, &options),
+            Subject::Streams => compare_streams(&mut Board, &options),
             Subject::Screens => compare_screens(&mut { screens::REFERENCE }, &mut Board, &options),
             Subject::Traces => compare_traces(&mut { traces::REFERENCE }, &mut Board, &options),
         }

@@ -2,6 +2,7 @@
 //! the program's. Broken copies show that both ways of looking see something.
 
 use compare::play::{run, Plan};
+use compare::streams;
 use compare::vectors::cases;
 use compare::{BROKEN, REFERENCE};
 use difference::{case_difference, settings_from_board, settings_to_board, Board};
@@ -15,6 +16,12 @@ fn random_lists() {
             panic!("{difference}");
         }
     }
+}
+
+#[test]
+fn closed_streams() {
+    let plan = Plan { seed: 205, calls: 2_000, list: 0, progress: 0 };
+    assert_eq!(streams::run(&mut Board, &mut streams::classes(), &plan), Ok(plan.calls));
 }
 
 #[test]
@@ -42,6 +49,8 @@ fn settings_are_carried_over_whole() {
     }
     settings.places[1].column = 77;
     settings.keys.arrows = [1, 2, 3, 4, 5, 6, 7, 8, 9, 10, 11, 12];
+    settings.waiting = [21, 22, 23, 24, 25, 26, 27, 28, 29, 30, 31, 32];
+    (settings.held, settings.count) = (33, 0x0102_0304);
     let board = settings_to_board(&settings);
     assert_eq!(settings_from_board(&board), settings);
     assert_eq!(format!("{board:?}"), format!("{settings:?}"));

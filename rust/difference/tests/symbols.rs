@@ -30,11 +30,13 @@ fn symbols() -> Vec<(String, char)> {
 fn the_calls_are_exported() {
     let ours = symbols().into_iter().filter(|(name, kind)| name.starts_with("px8_") && *kind != 'U');
     let expected = [
+        "px8_closing",
         "px8_compare",
         "px8_first_difference",
         "px8_key_repeats",
         "px8_message",
         "px8_opening",
+        "px8_piece",
         "px8_printed",
     ];
     let expected = expected.map(|name| (name.to_string(), 'T'));

@@ -40,6 +40,30 @@ extern "C" {
         printer_length: usize,
     ) -> Outcome;
 
+    fn px8_piece(
+        settings: Settings,
+        piece: *const u8,
+        piece_length: usize,
+        cells: *mut u8,
+        cells_length: usize,
+        layer: *mut u8,
+        layer_length: usize,
+        shown: *mut u8,
+        shown_length: usize,
+        printer: *mut u8,
+        printer_length: usize,
+    ) -> Outcome;
+
+    fn px8_closing(
+        settings: Settings,
+        cells: *mut u8,
+        cells_length: usize,
+        layer: *mut u8,
+        layer_length: usize,
+        shown: *mut u8,
+        shown_length: usize,
+    ) -> Outcome;
+
     fn px8_printed(buffer: *const u8, length: usize, count: usize) -> usize;
 
     fn px8_key_repeats(
@@ -123,6 +147,85 @@ pub fn message(
     (outcome.settings, outcome.answer)
 }
 
+/// The piece call: the next bytes of a stream, cut where they happen to be cut.
+/// It is the message call but for this: what waits in the settings is read
+/// before the piece, what is unfinished at its end waits, and offsets count
+/// from the stream's start. Refused by 1, 2, 3 or 15.
+///
+/// ```
+/// let (mut cells, mut layer, mut shown) = ([0; px8::CELLS], [0; px8::LAYER], [0; px8::SHOWN]);
+/// let (settings, _) = px8::opening(&mut cells, &mut layer, &mut shown);
+/// let (after, answer) =
+///     px8::piece(settings, &[65, 27], &mut cells, &mut layer, &mut shown, &mut []);
+/// assert_eq!((answer.taken, answer.refused, after.waiting()), (2, 0, &[27][..]));
+/// let (after, answer) =
+///     px8::piece(after, &[27, 66], &mut cells, &mut layer, &mut shown, &mut []);
+/// assert_eq!(answer.to_string(), "answer 0 taken 2 accepted 0 refused 1 first 10 at 1");
+/// assert_eq!((&shown[..3], after.held, after.count), (&b"AB "[..], 0, 4));
+/// ```
+#[inline]
+pub fn piece(
+    settings: Settings,
+    piece: &[u8],
+    cells: &mut [u8],
+    layer: &mut [u8],
+    shown: &mut [u8],
+    printer: &mut [u8],
+) -> (Settings, Answer) {
+    // SAFETY: as of the message call.
+    let outcome = unsafe {
+        px8_piece(
+            settings,
+            piece.as_ptr(),
+            piece.len(),
+            cells.as_mut_ptr(),
+            cells.len(),
+            layer.as_mut_ptr(),
+            layer.len(),
+            shown.as_mut_ptr(),
+            shown.len(),
+            printer.as_mut_ptr(),
+            printer.len(),
+        )
+    };
+    (outcome.settings, outcome.answer)
+}
+
+/// The closing call: the stream ends. 27, 209 that waits then means 27, 209, 0,
+/// another unfinished sequence is refused by 12; the shown screen is painted,
+/// and the waiting bytes and the count are forgotten. It needs no printer
+/// buffer: no unfinished sequence is a copy. Refused by 1 or 3.
+///
+/// ```
+/// let (mut cells, mut layer, mut shown) = ([0; px8::CELLS], [0; px8::LAYER], [0; px8::SHOWN]);
+/// let (settings, _) = px8::opening(&mut cells, &mut layer, &mut shown);
+/// let (after, _) = px8::piece(settings, &[65, 27, 61], &mut cells, &mut layer, &mut shown, &mut []);
+/// let (after, answer) = px8::closing(after, &mut cells, &mut layer, &mut shown);
+/// assert_eq!(answer.to_string(), "answer 0 taken 0 accepted 0 refused 1 first 12 at 1");
+/// assert_eq!((after.held, after.count), (0, 0));
+/// ```
+#[inline]
+pub fn closing(
+    settings: Settings,
+    cells: &mut [u8],
+    layer: &mut [u8],
+    shown: &mut [u8],
+) -> (Settings, Answer) {
+    // SAFETY: as of the opening call; any settings may be given.
+    let outcome = unsafe {
+        px8_closing(
+            settings,
+            cells.as_mut_ptr(),
+            cells.len(),
+            layer.as_mut_ptr(),
+            layer.len(),
+            shown.as_mut_ptr(),
+            shown.len(),
+        )
+    };
+    (outcome.settings, outcome.answer)
+}
+
 /// The printer call: the first `count` bytes of the buffer itself, or its
 /// empty part if it is shorter.
 ///
@@ -167,10 +270,10 @@ mod tests {
 
     #[test]
     fn results_are_laid_out_as_in_the_header() {
-        assert_eq!((size_of::<Outcome>(), align_of::<Outcome>()), (320, 8));
-        assert_eq!((offset_of!(Outcome, settings), offset_of!(Outcome, answer)), (0, 288));
-        assert_eq!((size_of::<Opened>(), align_of::<Opened>()), (289, 1));
-        assert_eq!((offset_of!(Opened, settings), offset_of!(Opened, number)), (0, 288));
+        assert_eq!((size_of::<Outcome>(), align_of::<Outcome>()), (344, 8));
+        assert_eq!((offset_of!(Outcome, settings), offset_of!(Outcome, answer)), (0, 312));
+        assert_eq!((size_of::<Opened>(), align_of::<Opened>()), (312, 4));
+        assert_eq!((offset_of!(Opened, settings), offset_of!(Opened, number)), (0, 308));
         assert_eq!((size_of::<Repeats>(), align_of::<Repeats>()), (16, 8));
         assert_eq!((offset_of!(Repeats, number), offset_of!(Repeats, count)), (0, 8));
     }

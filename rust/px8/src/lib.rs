@@ -1,11 +1,13 @@
 //! The terminal of a weighing bay for Rust programs: a safe layer over the
 //! proved library's archive, `libboard.a`.
 //!
-//! [`Terminal`] owns its stores and is what most programs want. [`opening`],
-//! [`message`] and [`printed`] are the library's own three calls, on slices
-//! of any length; a wrong length is a refusal and never a fault. [`compare`],
-//! [`first_difference`] and [`differences`] lay two shown screens side by side.
-//! [`key_repeats`] works out from a trace which codes the keyboard sent.
+//! [`Terminal`] owns its stores and is what most programs want; [`Stream`]
+//! takes a serial line into it through [`std::io::Write`], cut at any byte.
+//! [`opening`], [`message`], [`piece`], [`closing`] and [`printed`] are the
+//! library's own calls, on slices of any length; a wrong length is a refusal
+//! and never a fault. [`compare`], [`first_difference`] and [`differences`] lay
+//! two shown screens side by side. [`key_repeats`] works out from a trace which
+//! codes the keyboard sent.
 //!
 //! The archive is looked for in the repository's `target/staticlib`, or in
 //! the folder named by the environment variable `PX8_LIB_DIR`.
@@ -22,10 +24,12 @@
 
 mod calls;
 mod screens;
+mod stream;
 mod terminal;
 mod types;
 
-pub use calls::{key_repeats, message, opening, printed};
+pub use calls::{closing, key_repeats, message, opening, piece, printed};
 pub use screens::{compare, differences, first_difference};
+pub use stream::{Refused, Stream};
 pub use terminal::{Reply, Terminal};
 pub use types::*;

@@ -1,6 +1,7 @@
 //! A terminal that owns its stores.
 
 use crate::calls;
+use crate::stream::Stream;
 use crate::types::{Answer, Settings, CELLS, COPY, LAYER, MESSAGE_MOST, ROWS, SHOWN, WIDTH};
 
 /// A terminal with its settings and stores.
@@ -19,7 +20,7 @@ pub struct Terminal {
     shown: [u8; SHOWN],
 }
 
-/// What a message gives back.
+/// What a message or a piece gives back.
 #[derive(Clone, Debug, PartialEq, Eq)]
 pub struct Reply {
     pub answer: Answer,
@@ -37,10 +38,10 @@ impl Terminal {
         Terminal { settings, cells, layer, shown }
     }
 
-    /// A terminal taken up again from what was saved. Nothing is judged here:
-    /// with settings that are not sound every message is refused, by 3 or, if
-    /// it is too long, by 2. The shown screen is painted by the next message
-    /// that is served.
+    /// A terminal taken up again from what was saved, in the middle of a
+    /// stream too. Nothing is judged here: with settings that are not sound
+    /// every message, piece and closing is refused, by 3 or, if it is too long,
+    /// by 2. The shown screen is painted by the next that is served.
     ///
     /// ```
     /// let mut terminal = px8::Terminal::open();
@@ -94,6 +95,91 @@ impl Terminal {
         let (after, answer) = calls::message(*settings, message, cells, layer, shown, printer);
         self.settings = after;
         (answer, calls::printed(printer, answer.printed))
+    }
+
+    /// Reads the next piece of a stream, with printer room for every copy that
+    /// it asks for. A sequence may be cut anywhere: what is unfinished waits for
+    /// the next piece, and [`Answer::offset`] counts from the stream's start.
+    /// While bytes wait a message is refused by [`BYTES_WAIT`](crate::BYTES_WAIT).
+    ///
+    /// ```
+    /// let mut terminal = px8::Terminal::open();
+    /// for part in [&b"38\x1b"[..], b"=", b"#$,50", b"0"] {
+    ///     assert!(terminal.piece(part).answer.is_clean());
+    /// }
+    /// assert!(terminal.closing().is_clean());
+    /// assert_eq!(terminal.to_string(), "1 38\n2\n3\n4     ,500\n5\n6\n7\n8\n");
+    /// ```
+    pub fn piece(&mut self, piece: &[u8]) -> Reply {
+        // an ESC that waits and an 80 that comes are a copy too
+        let joined = self.settings.waiting().last() == Some(&27) && piece.first() == Some(&80);
+        self.piece_with_room(piece, COPY * (copies_at_most(piece) + usize::from(joined)))
+    }
+
+    /// Reads a piece with just so much printer room.
+    ///
+    /// ```
+    /// let mut terminal = px8::Terminal::open();
+    /// terminal.piece_with_room(&[27, 80, 27], px8::COPY);
+    /// let answer = terminal.piece_with_room(&[80], px8::COPY - 1).answer;
+    /// assert_eq!((answer.first, answer.offset), (px8::NO_ROOM, 2));
+    /// ```
+    pub fn piece_with_room(&mut self, piece: &[u8], room: usize) -> Reply {
+        let mut printer = vec![0; room];
+        let answer = self.piece_into(piece, &mut printer).0;
+        printer.truncate(answer.printed);
+        Reply { answer, printed: printer }
+    }
+
+    /// Reads a piece with a lent printer buffer, and hands back the answer and
+    /// the part of the buffer that holds copies. Nothing is allocated.
+    ///
+    /// ```
+    /// let mut terminal = px8::Terminal::open();
+    /// let mut printer = [0; px8::COPY];
+    /// terminal.piece_into(b"net\x1b", &mut printer);
+    /// let (answer, copy) = terminal.piece_into(b"P", &mut printer);
+    /// assert_eq!(answer.taken, 1);
+    /// assert!(copy.starts_with(b"net "));
+    /// ```
+    pub fn piece_into<'a>(&mut self, piece: &[u8], printer: &'a mut [u8]) -> (Answer, &'a [u8]) {
+        let Terminal { settings, cells, layer, shown } = self;
+        let (after, answer) = calls::piece(*settings, piece, cells, layer, shown, printer);
+        self.settings = after;
+        (answer, calls::printed(printer, answer.printed))
+    }
+
+    /// Closes the stream: 27, 209 that waits means 27, 209, 0, another
+    /// unfinished sequence is refused by 12; then the waiting bytes and the
+    /// count are forgotten. It prints nothing.
+    ///
+    /// ```
+    /// let mut terminal = px8::Terminal::open();
+    /// terminal.message(&[27, 209, 1]);
+    /// terminal.piece(&[27, 209]);
+    /// assert_eq!(terminal.settings().selected, 1);
+    /// assert_eq!(terminal.closing().to_string(), "answer 0 taken 0 accepted 1 refused 0 first 0 at 0");
+    /// assert_eq!((terminal.settings().selected, terminal.settings().count), (0, 0));
+    /// ```
+    pub fn closing(&mut self) -> Answer {
+        let Terminal { settings, cells, layer, shown } = self;
+        let (after, answer) = calls::closing(*settings, cells, layer, shown);
+        self.settings = after;
+        answer
+    }
+
+    /// The stream as something to write to, from where it stands.
+    ///
+    /// ```
+    /// use std::io::Write;
+    /// let mut terminal = px8::Terminal::open();
+    /// let mut stream = terminal.stream();
+    /// write!(stream, "load {}", 38_500).unwrap();
+    /// assert!(stream.close().unwrap().answer.is_clean());
+    /// assert!(terminal.to_string().starts_with("1 load 38500\n"));
+    /// ```
+    pub fn stream(&mut self) -> Stream<'_> {
+        Stream::of(self)
     }
 
     /// Which codes a trace sends under the key repeat that stands, as ticks of

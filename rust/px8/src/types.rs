@@ -11,21 +11,31 @@ pub const CELLS: usize = 3840;
 pub const LAYER: usize = 1280;
 /// Bytes of the shown screen.
 pub const SHOWN: usize = ROWS * WIDTH;
-/// The longest message that is taken.
+/// The longest message that is taken, and the longest piece of a stream.
 pub const MESSAGE_MOST: usize = 4096;
 /// Bytes of a printed copy: 8 rows of 80, each followed by 13 and 10.
 pub const COPY: usize = ROWS * (WIDTH + 2);
 /// Bytes of the patterns: 31 codes of 8 rows.
 pub const PATTERNS: usize = 248;
+/// Bytes of a stream that wait at most.
+pub const WAITING_MOST: usize = 12;
+/// The most that a stream's byte count reaches.
+pub const COUNT_MOST: u32 = 1_000_000_000;
 
 /// The call was served.
 pub const SERVED: u8 = 0;
 /// A store is not of its size; the whole call is refused.
 pub const STORE_SIZE: u8 = 1;
-/// The message is longer than [`MESSAGE_MOST`]; the whole call is refused.
+/// The message or piece is longer than [`MESSAGE_MOST`]; the whole call is
+/// refused.
 pub const TOO_LONG: u8 = 2;
 /// A setting is outside its range; the whole call is refused.
 pub const UNSOUND: u8 = 3;
+/// The piece would take the stream's count past [`COUNT_MOST`]; the whole call
+/// is refused.
+pub const STREAM_TOO_LONG: u8 = 15;
+/// A message while bytes of a stream wait; the whole call is refused.
+pub const BYTES_WAIT: u8 = 16;
 /// More places differ than the list has records; the whole call is refused.
 pub const LIST_SHORT: u8 = 18;
 /// First refusal: the byte after ESC is not in the list.
@@ -33,7 +43,8 @@ pub const NOT_LISTED: u8 = 10;
 /// First refusal: a parameter is outside its range, or its sum with the one
 /// before is too large.
 pub const OUT_OF_RANGE: u8 = 11;
-/// First refusal: the message ends inside a sequence.
+/// First refusal: the message ends inside a sequence, or the stream is closed
+/// inside one.
 pub const CUT: u8 = 12;
 /// First refusal: ESC 80 with less than [`COPY`] of printer room left.
 pub const NO_ROOM: u8 = 13;
@@ -88,7 +99,8 @@ pub struct Keys {
 }
 
 /// The settings. H is the window's height: 16 in mode 1, else 8. They are
-/// sound when every field lies in the range given here.
+/// sound when every field lies in the range given here. The last three are the
+/// stream's; no sequence changes them, and a message leaves them.
 #[repr(C)]
 #[derive(Clone, Copy, Debug, PartialEq, Eq)]
 pub struct Settings {
@@ -125,16 +137,41 @@ pub struct Settings {
     pub keys: Keys,
     /// 31 patterns of 8 rows, for the codes 224 to 254 (224).
     pub patterns: [u8; PATTERNS],
+    /// The stream's bytes that wait: the first `held` are an unfinished
+    /// sequence, led by 27 and shorter than its whole length; the others are
+    /// 0. See [`Settings::waiting`].
+    pub waiting: [u8; WAITING_MOST],
+    /// How many bytes wait, 0 to 12, and at most `count`.
+    pub held: u8,
+    /// The stream's byte count, 0 to [`COUNT_MOST`].
+    pub count: u32,
 }
 
-/// The answer to a message.
+impl Settings {
+    /// The bytes that wait for the rest of their sequence; of settings that
+    /// are not sound, no more than there is room for.
+    ///
+    /// ```
+    /// let mut terminal = px8::Terminal::open();
+    /// terminal.piece(&[b'3', b'8', 27, 61]);
+    /// assert_eq!(terminal.settings().waiting(), [27, 61]);
+    /// assert_eq!(terminal.settings().count, 4);
+    /// ```
+    pub fn waiting(&self) -> &[u8] {
+        &self.waiting[..usize::from(self.held).min(WAITING_MOST)]
+    }
+}
+
+/// The answer to a message, a piece or a closing.
 #[repr(C)]
 #[derive(Clone, Copy, Debug, PartialEq, Eq)]
 pub struct Answer {
-    /// [`SERVED`], or why the whole call was refused: 1, 2 or 3. Sequences may
-    /// be refused in a call that was served: see [`Answer::is_clean`].
+    /// [`SERVED`], or why the whole call was refused: 1, 2, 3 or 16 a message;
+    /// 1, 2, 3 or 15 a piece; 1 or 3 a closing. Sequences may be refused in a
+    /// call that was served: see [`Answer::is_clean`].
     pub number: u8,
-    /// Bytes taken: all of the message, if served.
+    /// Bytes taken: all of the message or piece, if served; a closing takes
+    /// none.
     pub taken: u32,
     /// Sequences accepted.
     pub accepted: u32,
@@ -146,7 +183,8 @@ pub struct Answer {
     /// [`OUT_OF_RANGE`]: the byte after the sequence's second one is 1, and
     /// where only the sum of two is too large it is the later. Else 0.
     pub parameter: u8,
-    /// Where its ESC stands in the message, from 0; 0 if there is none.
+    /// Where its ESC stands, from 0: in the message, or for a piece and a
+    /// closing in the stream. 0 if there is none.
     pub offset: u32,
     /// Bytes of printed copies, a multiple of [`COPY`].
     pub printed: usize,
@@ -186,7 +224,7 @@ impl Answer {
     }
 }
 
-/// Why a sequence of a message was refused. It prints itself in words, and is
+/// Why a sequence was refused. It prints itself in words, and is
 /// an error that `?` can hand on.
 #[derive(Clone, Copy, Debug, PartialEq, Eq)]
 pub struct Refusal {
@@ -194,7 +232,8 @@ pub struct Refusal {
     pub number: u8,
     /// The first bad parameter, from 1, of [`OUT_OF_RANGE`]; else 0.
     pub parameter: u8,
-    /// Where the sequence's ESC stands in the message, from 0.
+    /// Where the sequence's ESC stands, from 0: in the message, or for a piece
+    /// and a closing in the stream.
     pub offset: u32,
 }
 
@@ -210,7 +249,7 @@ impl std::fmt::Display for Refusal {
                     _ => write!(f, ", or its sum with the one before is too large"),
                 }
             }
-            CUT => write!(f, "the message ends inside the sequence"),
+            CUT => write!(f, "the message or stream ends inside the sequence"),
             NO_ROOM => write!(f, "a copy needs {COPY} bytes of printer room, and fewer are left"),
             MODE_3 => write!(f, "mode 3 is not served"),
             // no answer has another number

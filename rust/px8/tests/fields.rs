@@ -44,6 +44,9 @@ fn opening_settings() {
         kind: 0,
         keys,
         patterns: [0; 248],
+        waiting: [0; 12],
+        held: 0,
+        count: 0,
     };
     assert_eq!(Terminal::open().settings(), &expected);
 }
@@ -121,6 +124,26 @@ fn every_pattern() {
         let start = 8 * usize::from(code - 224);
         sets(&message, |s| s.patterns[start..start + 8].copy_from_slice(&message[3..]));
     }
+}
+
+/// The stream's three, by pieces: a byte of each that waits, the longest, and
+/// a count of more than three bytes' worth.
+#[test]
+fn waiting_held_and_count() {
+    for length in 1..=12 {
+        let mut terminal = Terminal::open();
+        let mut expected = *terminal.settings();
+        let sequence = [27, 198, 101, 102, 103, 104, 105, 106, 107, 108, 109, 110];
+        expected.waiting[..length].copy_from_slice(&sequence[..length]);
+        (expected.held, expected.count) = (length as u8, length as u32);
+        assert!(terminal.piece(&sequence[..length]).answer.is_clean());
+        assert_eq!(terminal.settings(), &expected);
+    }
+    let opened = Terminal::open();
+    let given = Settings { count: 0x3000_0000, ..*opened.settings() };
+    let mut terminal = Terminal::resume(given, *opened.cells(), *opened.layer(), *opened.shown());
+    terminal.piece(&[0; 0x0102]);
+    assert_eq!(terminal.settings(), &Settings { count: 0x3000_0102, ..given });
 }
 
 /// Five numbers and the printed bytes, all different.

@@ -24,7 +24,7 @@ fn keys() {
 
 #[test]
 fn settings() {
-    assert_eq!((size_of::<Settings>(), align_of::<Settings>()), (288, 1));
+    assert_eq!((size_of::<Settings>(), align_of::<Settings>()), (308, 4));
     assert_eq!(offset_of!(Settings, mode), 0);
     assert_eq!(offset_of!(Settings, lines1), 1);
     assert_eq!(offset_of!(Settings, lines2), 2);
@@ -41,6 +41,9 @@ fn settings() {
     assert_eq!(offset_of!(Settings, kind), 18);
     assert_eq!(offset_of!(Settings, keys), 19);
     assert_eq!(offset_of!(Settings, patterns), 40);
+    assert_eq!(offset_of!(Settings, waiting), 288);
+    assert_eq!(offset_of!(Settings, held), 300);
+    assert_eq!(offset_of!(Settings, count), 304);
 }
 
 #[test]

@@ -1,7 +1,7 @@
 //! Refused calls and sequences, and what stays as it was: settings, stores,
 //! the printer buffer, and the bytes around all of them.
 
-use px8::{Answer, Settings, Terminal, CELLS, COPY, LAYER, MESSAGE_MOST, SHOWN};
+use px8::{Answer, Settings, Terminal, CELLS, COPY, COUNT_MOST, LAYER, MESSAGE_MOST, SHOWN};
 
 const GUARD: usize = 64;
 
@@ -15,19 +15,24 @@ fn inner(store: &mut [u8]) -> &mut [u8] {
     &mut store[GUARD..end]
 }
 
+/// A call on settings and bytes; a closing looks at the bytes no more than at
+/// the printer buffer.
+type Call = fn(Settings, &[u8], &mut [u8], &mut [u8], &mut [u8], &mut [u8]) -> (Settings, Answer);
+
+const CLOSING: Call = |settings, _, cells, layer, shown, _| px8::closing(settings, cells, layer, shown);
+
 /// Makes the call on guarded stores of these sizes, and returns its results
 /// and whether every byte of every buffer stayed.
-fn call(settings: Settings, message: &[u8], sizes: [usize; 4]) -> (Settings, Answer, bool) {
+fn call(made: Call, settings: Settings, bytes: &[u8], sizes: [usize; 4]) -> (Settings, Answer, bool) {
     let mut stores = sizes.map(guarded);
     let before = stores.clone();
     let [cells, layer, shown, printer] = &mut stores;
-    let (after, answer) =
-        px8::message(settings, message, inner(cells), inner(layer), inner(shown), inner(printer));
+    let (after, answer) = made(settings, bytes, inner(cells), inner(layer), inner(shown), inner(printer));
     (after, answer, stores == before)
 }
 
-fn refused(settings: Settings, message: &[u8], sizes: [usize; 4], number: u8) {
-    let (after, answer, unaltered) = call(settings, message, sizes);
+fn refused(made: Call, settings: Settings, bytes: &[u8], sizes: [usize; 4], number: u8) {
+    let (after, answer, unaltered) = call(made, settings, bytes, sizes);
     let expected =
         Answer { number, taken: 0, accepted: 0, refused: 0, first: 0, parameter: 0, offset: 0, printed: 0 };
     assert_eq!(answer, expected);
@@ -48,7 +53,9 @@ fn stores_of_a_wrong_size() {
         for size in [0, 1, SIZES[store] - 1, SIZES[store] + 1] {
             let mut sizes = SIZES;
             sizes[store] = size;
-            refused(settings, b"text\x1bP", sizes, px8::STORE_SIZE);
+            for made in [px8::message, px8::piece, CLOSING] {
+                refused(made, settings, b"text\x1bP", sizes, px8::STORE_SIZE);
+            }
             let mut stores = sizes.map(guarded);
             let before = stores.clone();
             let [cells, layer, shown, _] = &mut stores;
@@ -60,10 +67,12 @@ fn stores_of_a_wrong_size() {
 }
 
 #[test]
-fn message_too_long() {
-    refused(opening_settings(), &[65; MESSAGE_MOST + 1], SIZES, px8::TOO_LONG);
-    let (_, answer, unaltered) = call(opening_settings(), &[65; MESSAGE_MOST], SIZES);
-    assert_eq!((answer.number, answer.taken, unaltered), (0, 4096, false));
+fn message_or_piece_too_long() {
+    for made in [px8::message, px8::piece] {
+        refused(made, opening_settings(), &[65; MESSAGE_MOST + 1], SIZES, px8::TOO_LONG);
+        let (_, answer, unaltered) = call(made, opening_settings(), &[65; MESSAGE_MOST], SIZES);
+        assert_eq!((answer.number, answer.taken, unaltered), (0, 4096, false));
+    }
 }
 
 /// One field after the other just outside its range.
@@ -100,21 +109,81 @@ fn settings_not_sound() {
     for change in changes {
         let mut settings = opening_settings();
         change(&mut settings);
-        refused(settings, b"text\x1bP", SIZES, px8::UNSOUND);
+        for made in [px8::message, px8::piece, CLOSING] {
+            refused(made, settings, b"text\x1bP", SIZES, px8::UNSOUND);
+        }
     }
     let mut settings = opening_settings();
     settings.keys.shift = 1;
-    refused(settings, b"", SIZES, px8::UNSOUND);
+    refused(px8::message, settings, b"", SIZES, px8::UNSOUND);
 }
 
-/// "Calls are checked in the order 1, 2, 3".
+/// Settings in which these bytes wait.
+fn with_line(bytes: &[u8], held: u8, count: u32) -> Settings {
+    let mut settings = Settings { held, count, ..opening_settings() };
+    settings.waiting[..bytes.len()].copy_from_slice(bytes);
+    settings
+}
+
+/// Waiting bytes that are no unfinished sequence, longer than the count, or
+/// with a tail that is not zero; a count beyond its limit.
+#[test]
+fn lines_not_sound() {
+    let rows: [(&[u8], u8, u32); 12] = [
+        (&[27], 1, 0),
+        (&[27, 61], 2, 1),
+        (&[65], 1, 1),
+        (&[0], 1, 1),
+        (&[27, 27], 2, 2),
+        (&[27, 80], 2, 2),
+        (&[27, 208, 9], 3, 3),
+        (&[27, 208, 3], 3, 3),
+        (&[27, 61, 32, 32], 4, 4),
+        (&[27, 61], 1, 2),
+        (&[27, 198, 1, 1, 1, 1, 1, 1, 1, 1, 1, 1], 13, 13),
+        (&[], 0, COUNT_MOST + 1),
+    ];
+    for (bytes, held, count) in rows {
+        for made in [px8::message, px8::piece, CLOSING] {
+            refused(made, with_line(bytes, held, count), b"text", SIZES, px8::UNSOUND);
+        }
+    }
+    let sound: [(&[u8], u32); 4] = [(&[27], 1), (&[27, 209], 2), (&[27, 208, 2, 99], 4), (&[], COUNT_MOST)];
+    for (bytes, count) in sound {
+        let settings = with_line(bytes, bytes.len() as u8, count);
+        assert_eq!(call(CLOSING, settings, &[], SIZES).1.number, px8::SERVED);
+    }
+}
+
+/// A message 1, 2, 3, 16; a piece 1, 2, 3, 15; a closing 1, 3.
 #[test]
 fn order_of_the_numbers() {
-    let mut settings = opening_settings();
-    settings.step = 0;
-    refused(settings, &[65; 5000], [CELLS, LAYER, SHOWN + 1, 0], px8::STORE_SIZE);
-    refused(settings, &[65; 5000], SIZES, px8::TOO_LONG);
-    refused(settings, &[65; 50], SIZES, px8::UNSOUND);
+    let waits = with_line(&[27], 1, COUNT_MOST);
+    let unsound = Settings { step: 0, ..waits };
+    let short = [CELLS, LAYER, SHOWN + 1, 0];
+    for (made, last) in [(px8::message as Call, px8::BYTES_WAIT), (px8::piece, px8::STREAM_TOO_LONG)] {
+        refused(made, unsound, &[65; 5000], short, px8::STORE_SIZE);
+        refused(made, unsound, &[65; 5000], SIZES, px8::TOO_LONG);
+        refused(made, unsound, &[65; 50], SIZES, px8::UNSOUND);
+        refused(made, waits, &[65; 50], SIZES, last);
+    }
+    refused(CLOSING, unsound, &[], short, px8::STORE_SIZE);
+    refused(CLOSING, unsound, &[], SIZES, px8::UNSOUND);
+}
+
+/// 15 is judged by all bytes of the piece; an empty message is refused by 16 too.
+#[test]
+fn the_counts_limit() {
+    let nearly = with_line(&[], 0, COUNT_MOST - 1);
+    refused(px8::piece, nearly, &[65, 66], SIZES, px8::STREAM_TOO_LONG);
+    let (full, answer, _) = call(px8::piece, nearly, &[27], SIZES);
+    assert_eq!((answer.number, answer.taken, full.waiting(), full.count), (0, 1, &[27][..], COUNT_MOST));
+    refused(px8::piece, full, &[80], SIZES, px8::STREAM_TOO_LONG);
+    assert_eq!(call(px8::piece, full, &[], SIZES).1.number, px8::SERVED);
+    refused(px8::message, full, &[], SIZES, px8::BYTES_WAIT);
+    let (closed, answer, _) = call(CLOSING, full, &[], SIZES);
+    assert_eq!((answer.taken, answer.first, answer.offset), (0, px8::CUT, 999_999_999));
+    assert_eq!(closed, opening_settings());
 }
 
 /// Each number of a refused sequence, its offset, and the bytes taken.
@@ -151,7 +220,7 @@ fn refusals_in_words() {
         (&[27, 208, 0, 7, 255], 2, "refusal 11 at offset 0: parameter 2 is outside its range"),
         (&[27, 208, 0, 255, 8], 3, "refusal 11 at offset 0: parameter 3 is outside its range"),
         (&[65, 66, 27, 210, 8, 81, 0, 27, 27], 2, "refusal 11 at offset 2: parameter 2 is outside its range"),
-        (&[27, 208, 2, 99], 0, "refusal 12 at offset 0: the message ends inside the sequence"),
+        (&[27, 208, 2, 99], 0, "refusal 12 at offset 0: the message or stream ends inside the sequence"),
         (&[27, 80], 0, "refusal 13 at offset 0: a copy needs 656 bytes of printer room, and fewer are left"),
         (&[27, 208, 3], 0, "refusal 14 at offset 0: mode 3 is not served"),
     ];

@@ -1,11 +1,13 @@
-//! The opening call, the message call and the printer call.
+//! The opening call, the message call, the stream's two calls and the printer
+//! call.
 
 use super::apply::Standing;
 use super::picture::paint;
 use super::read::{read, Item};
 use super::settings::{Answer, Settings};
-use super::settings::{BLANK, CELLS, LAYER, LONGEST_MESSAGE, OPENING, SHOWN};
+use super::settings::{BLANK, CELLS, LAYER, LONGEST_MESSAGE, LONGEST_STREAM, OPENING, SHOWN};
 use super::sound::sound;
+use super::stream::{keep_waiting, stream_offset, unfinished, waits};
 
 /// "It blanks (32) all cells and the shown screen, and zeroes the layer." A
 /// refused opening alters no store and returns the opening settings with 1.
@@ -19,8 +21,9 @@ pub fn opening(cells: &mut [u8], layer: &mut [u8], shown: &mut [u8]) -> (Setting
     (OPENING, 0)
 }
 
-/// "Calls are checked in the order 1, 2, 3", and a refused call returns the
-/// settings given, zero counts and its number, with every store unaltered.
+/// "Calls are checked in the order 1, 2, 3", then "16, a whole message while
+/// bytes wait". A refused call returns the settings given, zero counts and
+/// its number, with every store unaltered.
 pub fn message(
     settings: Settings,
     message: &[u8],
@@ -29,20 +32,91 @@ pub fn message(
     shown: &mut [u8],
     printer: &mut [u8],
 ) -> (Settings, Answer) {
-    let refused = |number: u8| (settings, Answer { number, ..Answer::default() });
-    if !sizes_right(cells, layer, shown) {
-        return refused(1);
+    if let Some(number) = refused(&settings, message, cells, layer, shown) {
+        return (settings, Answer { number, ..Answer::default() });
     }
-    if message.len() > LONGEST_MESSAGE {
-        return refused(2);
+    if settings.held > 0 {
+        return (settings, Answer { number: 16, ..Answer::default() });
     }
-    if !sound(&settings) {
-        return refused(3);
-    }
+    uncut(settings, message, cells, layer, shown, printer)
+}
+
+/// One reading of bytes that nothing follows, however many they are; the
+/// stream's count stays.
+pub fn uncut(
+    settings: Settings,
+    bytes: &[u8],
+    cells: &mut [u8],
+    layer: &mut [u8],
+    shown: &mut [u8],
+    printer: &mut [u8],
+) -> (Settings, Answer) {
     let mut standing = Standing { settings, cells, layer, printer, printed: 0 };
-    let answer = serve(&mut standing, message);
+    let mut answer = serve(&mut standing, bytes, 0, End::Last).0;
+    answer.taken = bytes.len() as u32;
     paint(&standing.settings, standing.cells, standing.layer, shown);
     (standing.settings, answer)
+}
+
+/// "a call for a piece (up to 4,096 bytes)": what waits is read before it,
+/// and what is unfinished at its end waits. "A piece takes all its bytes".
+pub fn piece(
+    settings: Settings,
+    piece: &[u8],
+    cells: &mut [u8],
+    layer: &mut [u8],
+    shown: &mut [u8],
+    printer: &mut [u8],
+) -> (Settings, Answer) {
+    if let Some(number) = refused(&settings, piece, cells, layer, shown) {
+        return (settings, Answer { number, ..Answer::default() });
+    }
+    // "15, the piece would take the count past its limit"
+    if settings.count as usize + piece.len() > LONGEST_STREAM {
+        return (settings, Answer { number: 15, ..Answer::default() });
+    }
+    let line = [waits(&settings), piece].concat();
+    let mut standing = Standing { settings, cells, layer, printer, printed: 0 };
+    let (mut answer, read) = serve(&mut standing, &line, stream_offset(&settings), End::MoreComes);
+    answer.taken = piece.len() as u32;
+    keep_waiting(&mut standing.settings, &line[read..]);
+    standing.settings.count += piece.len() as u32;
+    paint(&standing.settings, standing.cells, standing.layer, shown);
+    (standing.settings, answer)
+}
+
+/// "and one to close": 27, 209 then means 0, "Closing on another unfinished
+/// sequence gives 12". It takes no byte, "paints too, then forgets the bytes
+/// and the count".
+pub fn closing(
+    settings: Settings,
+    cells: &mut [u8],
+    layer: &mut [u8],
+    shown: &mut [u8],
+) -> (Settings, Answer) {
+    if let Some(number) = refused(&settings, &[], cells, layer, shown) {
+        return (settings, Answer { number, ..Answer::default() });
+    }
+    let mut standing = Standing { settings, cells, layer, printer: &mut [], printed: 0 };
+    let (answer, _) = serve(&mut standing, waits(&settings), stream_offset(&settings), End::Last);
+    keep_waiting(&mut standing.settings, &[]);
+    standing.settings.count = 0;
+    paint(&standing.settings, standing.cells, standing.layer, shown);
+    (standing.settings, answer)
+}
+
+/// The numbers that all these calls have in common, in the order 1, 2, 3.
+fn refused(settings: &Settings, message: &[u8], cells: &[u8], layer: &[u8], shown: &[u8]) -> Option<u8> {
+    if !sizes_right(cells, layer, shown) {
+        return Some(1);
+    }
+    if message.len() > LONGEST_MESSAGE {
+        return Some(2);
+    }
+    if !sound(settings) {
+        return Some(3);
+    }
+    None
 }
 
 /// "hands back that first part of the buffer itself; a count beyond the
@@ -58,21 +132,34 @@ fn sizes_right(cells: &[u8], layer: &[u8], shown: &[u8]) -> bool {
     cells.len() == CELLS && layer.len() == LAYER && shown.len() == SHOWN
 }
 
-/// Reads the message item by item; each item is read with the settings that
-/// stand when its turn comes.
-fn serve(standing: &mut Standing, message: &[u8]) -> Answer {
+/// What the end of the bytes means.
+#[derive(PartialEq, Eq)]
+enum End {
+    /// nothing follows: a message's end, or the stream's
+    Last,
+    /// more may follow, so an unfinished sequence is no item yet
+    MoreComes,
+}
+
+/// Reads the bytes item by item, the first of them at offset `from`; each
+/// item is read with the settings that stand when its turn comes. Gives the
+/// counts, and how many bytes belong to an item.
+fn serve(standing: &mut Standing, bytes: &[u8], from: usize, end: End) -> (Answer, usize) {
     let mut answer = Answer::default();
     let mut offset = 0;
-    while offset < message.len() {
+    while offset < bytes.len() {
+        let rest = &bytes[offset..];
+        if end == End::MoreComes && unfinished(rest) {
+            break;
+        }
         let room = standing.printer.len() - standing.printed;
-        let (item, length) = read(&message[offset..], &standing.settings, room);
+        let (item, length) = read(rest, &standing.settings, room);
         standing.apply(&item);
-        count(&mut answer, &item, offset);
+        count(&mut answer, &item, from + offset);
         offset += length;
     }
-    answer.taken = offset as u32;
     answer.printed = standing.printed;
-    answer
+    (answer, offset)
 }
 
 fn count(answer: &mut Answer, item: &Item, offset: usize) {

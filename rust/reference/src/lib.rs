@@ -1,13 +1,16 @@
-//! Document 01 in plain Rust, clear before clever: the independent program
-//! that the library's results are compared with.
+//! Document 01, and what document 02 asks for, in plain Rust, clear before
+//! clever: the independent program that the library's results are compared
+//! with.
 //!
 //! - `settings`: the plain types and the screens' measures
 //! - `sound`: which settings are sound
 //! - `read`: a message into items
+//! - `stream`: what waits from piece to piece
 //! - `apply`: what each item does to what stands
 //! - `picture`: the picture, the shown screen, the printed copy
-//! - `calls`: the three calls
+//! - `calls`: the calls
 //! - `text`: the words of the programs `show` and `replay`
+//! - `glass`: the words of the program `glass`
 //! - `lengths`: the words of the program `lengths`
 //! - `differences`: two screens compared, and the words of `compare`
 //! - `repeats`: key repeats from a trace, and the words of `repeats`
@@ -17,15 +20,17 @@
 pub mod apply;
 pub mod calls;
 pub mod differences;
+pub mod glass;
 pub mod lengths;
 pub mod picture;
 pub mod read;
 pub mod repeats;
 pub mod settings;
 pub mod sound;
+pub mod stream;
 pub mod text;
 
-pub use calls::{message, opening, printed};
+pub use calls::{closing, message, opening, piece, printed};
 pub use picture::picture;
 pub use settings::{Answer, Keys, Place, Settings};
 pub use sound::sound;

@@ -7,7 +7,12 @@ pub const LAYER: usize = 1280;
 pub const SHOWN: usize = 640;
 pub const ROWS: usize = 8;
 pub const WIDTH: usize = 80;
+/// of a message, and of a piece
 pub const LONGEST_MESSAGE: usize = 4096;
+/// "the unfinished bytes, at most 12"
+pub const LONGEST_WAIT: usize = 12;
+/// "the stream's byte count, up to 1,000,000,000"
+pub const LONGEST_STREAM: usize = 1_000_000_000;
 /// 8 rows of 80, each followed by 13 and 10.
 pub const COPY: usize = 656;
 pub const BLANK: u8 = 32;
@@ -63,6 +68,11 @@ pub struct Settings {
     pub keys: Keys,
     /// 31 patterns of 8 rows
     pub patterns: [u8; 248],
+    /// the stream's unfinished bytes, `held` of them, and zeros behind
+    pub waiting: [u8; LONGEST_WAIT],
+    pub held: u8,
+    /// the stream's bytes so far, those that wait among them
+    pub count: u32,
 }
 
 #[derive(Clone, Copy, Debug, Default, PartialEq, Eq)]
@@ -119,6 +129,9 @@ pub const OPENING: Settings = Settings {
         arrows: [0; 12],
     },
     patterns: [0; 248],
+    waiting: [0; LONGEST_WAIT],
+    held: 0,
+    count: 0,
 };
 
 /// Screens are numbered 0 and 1 here, as `selected` is.

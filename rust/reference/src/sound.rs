@@ -1,6 +1,7 @@
 //! Which settings are sound.
 
 use super::settings::{Keys, Settings, CHARSETS, SHIFTS};
+use super::stream::stream_sound;
 
 /// "Settings are sound exactly when each lies in the range that the rules
 /// below give, cursors and windows are inside their screens, and step is 1
@@ -12,6 +13,7 @@ pub fn sound(settings: &Settings) -> bool {
         && place_sound(settings, 1)
         && switches_sound(settings)
         && keys_sound(&settings.keys)
+        && stream_sound(settings)
 }
 
 /// The table of modes; the columns stand as the mode gives them.

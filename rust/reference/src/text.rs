@@ -1,16 +1,22 @@
 //! The words of the programs `show` and `replay`.
 
-use super::calls::{message, opening};
+use super::calls::{closing, message, opening, piece};
 use super::picture::place;
 use super::settings::{Answer, Settings, CELLS, COPY, LAYER, OPENING, ROWS, SHOWN, WIDTH};
+use super::stream::waits;
 use std::fmt::Write;
 
 /// A recording holds at most this many bytes in all.
-pub const LONGEST_RECORDING: usize = 60_000;
+pub const LONGEST_RECORDING: usize = 1_000_000;
 /// The printer room of each call of a recording: two copies.
 pub const REPLAY_ROOM: usize = 2 * COPY;
-/// The kind of a record that is a message.
+/// The kinds of records.
 pub const MESSAGE: u16 = 1;
+pub const PIECE: u16 = 2;
+pub const CLOSING: u16 = 3;
+
+/// The message call and the piece call.
+type MessageCall = fn(Settings, &[u8], &mut [u8], &mut [u8], &mut [u8], &mut [u8]) -> (Settings, Answer);
 
 /// The stores with what stands, and the printer bytes of all calls so far.
 pub struct Session {
@@ -36,12 +42,37 @@ impl Session {
     }
 
     pub fn play(&mut self, bytes: &[u8], room: usize) -> Answer {
+        self.with_printer(message, bytes, room)
+    }
+
+    pub fn piece(&mut self, bytes: &[u8], room: usize) -> Answer {
+        self.with_printer(piece, bytes, room)
+    }
+
+    pub fn closing(&mut self) -> Answer {
+        let stores = (&mut self.cells, &mut self.layer, &mut self.shown);
+        let (settings, answer) = closing(self.settings, stores.0, stores.1, stores.2);
+        self.settings = settings;
+        answer
+    }
+
+    fn with_printer(&mut self, call: MessageCall, bytes: &[u8], room: usize) -> Answer {
         let mut printer = vec![0; room];
         let stores = (&mut self.cells, &mut self.layer, &mut self.shown);
-        let (settings, answer) = message(self.settings, bytes, stores.0, stores.1, stores.2, &mut printer);
+        let (settings, answer) = call(self.settings, bytes, stores.0, stores.1, stores.2, &mut printer);
         self.settings = settings;
         self.printed.extend_from_slice(&printer[..answer.printed]);
         answer
+    }
+
+    /// Plays a record; none if its kind or its body is not known.
+    fn record(&mut self, kind: u16, body: &[u8]) -> Option<Answer> {
+        match (kind, body) {
+            (MESSAGE, _) => Some(self.play(body, REPLAY_ROOM)),
+            (PIECE, _) => Some(self.piece(body, REPLAY_ROOM)),
+            (CLOSING, []) => Some(self.closing()),
+            _ => None,
+        }
     }
 
     /// What stands, in the words of `replay`: settings, sums and rows.
@@ -75,17 +106,14 @@ pub fn replay(recording: &[u8]) -> String {
     let mut number = 0;
     while offset < recording.len() {
         number += 1;
-        match record(recording, offset) {
-            Some((MESSAGE, body)) if offset + 4 + body.len() <= LONGEST_RECORDING => {
-                let answer = session.play(body, REPLAY_ROOM);
-                text += &numbered_answer(number, &answer);
-                offset += 4 + body.len();
-            }
-            _ => {
-                writeln!(text, "{number} bad record").unwrap();
-                break;
-            }
-        }
+        let read = record(recording, offset).filter(|(_, body)| offset + 4 + body.len() <= LONGEST_RECORDING);
+        let played = read.and_then(|(kind, body)| session.record(kind, body));
+        let Some(answer) = played else {
+            writeln!(text, "{number} bad record").unwrap();
+            break;
+        };
+        text += &numbered_answer(number, &answer);
+        offset += 4 + read.map_or(0, |(_, body)| body.len());
     }
     text + &session.text()
 }
@@ -148,6 +176,10 @@ pub fn settings_text(s: &Settings) -> String {
     for code in keys.arrows {
         write!(text, " {code}").unwrap();
     }
+    write!(text, "\nstream count {} waiting", s.count).unwrap();
+    for byte in waits(s) {
+        write!(text, " {byte}").unwrap();
+    }
     text + "\n"
 }
 
@@ -164,7 +196,7 @@ pub fn rows(shown: &[u8]) -> String {
     text
 }
 
-fn letter(code: u8) -> char {
+pub fn letter(code: u8) -> char {
     if (32..=126).contains(&code) {
         char::from(code)
     } else {

@@ -442,23 +442,37 @@ fn replay_of_good_records() {
     assert_eq!(lines[5], "tracking 1 step 1 cursor 1 type 0 boundary 32 secret 0 leds 0 0 0 set 85");
     assert_eq!(lines[6], "strings 1 display 1 repeat 1 32 16 shift 0");
     assert_eq!(lines[7], "arrows 0 0 0 0 0 0 0 0 0 0 0 0");
-    assert!(lines[8].starts_with("sums cells "));
-    assert_eq!((lines[9], lines.len()), ("1 AB", 17));
+    assert_eq!(lines[8], "stream count 0 waiting");
+    assert!(lines[9].starts_with("sums cells "));
+    assert_eq!((lines[10], lines.len()), ("1 AB", 18));
 }
 
 #[test]
 fn replay_of_bad_records() {
     let cut = [record(1, b"A"), vec![2, 0, 1, 0, 66]].concat();
     let head = [record(1, b"A"), vec![2, 0]].concat();
-    let unknown = [record(1, b"A"), record(2, b"B"), record(1, b"C")].concat();
-    for recording in [cut, head, unknown] {
+    let unknown = [record(1, b"A"), record(9, b"B"), record(1, b"C")].concat();
+    let closing = [record(1, b"A"), record(3, b"B"), record(1, b"C")].concat();
+    for recording in [cut, head, unknown, closing] {
         let text = replay(&recording);
         assert_eq!(text.lines().nth(1), Some("2 bad record"));
         assert!(text.contains("\n1 A\n2\n"));
     }
-    let full = [record(1, b"A"), record(1, &[66; 59_991])].concat();
-    assert_eq!(full.len(), 60_000);
-    assert!(replay(&full).contains("2 answer 2 taken 0"));
-    let over = [record(1, b"A"), record(1, &[66; 59_992])].concat();
-    assert!(replay(&over).contains("2 bad record"));
+}
+
+/// "The recording may have up to 1,000,000 bytes"
+#[test]
+fn replay_of_a_long_recording() {
+    let long = |last: usize| {
+        let mut recording = record(1, b"A");
+        for _ in 0..16 {
+            recording.extend(record(1, &[66; 60_000]));
+        }
+        recording.extend(record(1, &vec![66; last]));
+        recording
+    };
+    let full = long(39_927);
+    assert_eq!(full.len(), 1_000_000);
+    assert!(replay(&full).contains("18 answer 2 taken 0"));
+    assert!(replay(&long(39_928)).contains("18 bad record"));
 }

@@ -1,5 +1,6 @@
 //! The stores, the selected screen's measures, text, windows and painting.
 
+use crate::sequences::unfinished;
 use reference::{Answer, Place, Settings};
 
 pub struct Stores<'a> {
@@ -25,6 +26,8 @@ pub struct Engine<'a> {
     pub stores: Stores<'a>,
     pub printer: &'a mut [u8],
     pub printed: usize,
+    /// The offset of the first byte that is served.
+    pub from: u32,
     /// The layer is known to hold zeros only.
     empty: bool,
     /// The selected screen: its first cell, its measures, its place.
@@ -44,6 +47,7 @@ impl<'a> Engine<'a> {
             stores,
             printer,
             printed: 0,
+            from: 0,
             empty: false,
             base: 0,
             lines: 0,
@@ -83,10 +87,12 @@ impl<'a> Engine<'a> {
         self.settings
     }
 
-    pub fn serve(&mut self, message: &[u8], answer: &mut Answer) {
-        let mut at = 0;
+    /// Serves the bytes from `at` on and returns where it stopped: at the end,
+    /// or if more comes at a sequence that is not finished.
+    pub fn serve<const MORE: bool>(&mut self, message: &[u8], mut at: usize, answer: &mut Answer) -> usize {
         while at < message.len() {
             match message[at] {
+                27 if MORE && unfinished(&message[at..]) => break,
                 27 => at += self.escape(message, at, answer),
                 32.. => {
                     let end = at + text_length(&message[at..]);
@@ -101,6 +107,7 @@ impl<'a> Engine<'a> {
         }
         answer.taken = message.len() as u32;
         answer.printed = self.printed;
+        at
     }
 
     fn control(&mut self, code: u8) {

@@ -10,9 +10,11 @@ mod engine;
 pub mod repeats;
 pub mod screens;
 mod sequences;
+mod streams;
 
 use engine::{Engine, Stores};
 pub use reference::{Answer, Keys, Place, Settings};
+pub use streams::{closing, piece};
 
 const START: Settings = Settings {
     mode: 0,
@@ -40,6 +42,9 @@ const START: Settings = Settings {
         arrows: [0; 12],
     },
     patterns: [0; 248],
+    waiting: [0; 12],
+    held: 0,
+    count: 0,
 };
 
 pub fn opening(cells: &mut [u8], layer: &mut [u8], shown: &mut [u8]) -> (Settings, u8) {
@@ -60,26 +65,43 @@ pub fn message(
     shown: &mut [u8],
     printer: &mut [u8],
 ) -> (Settings, Answer) {
-    let mut answer = Answer::default();
-    // Arrays of fixed size let the compiler drop most bounds checks.
-    let stores = Stores::new(cells, layer);
-    let picture: Option<&mut [u8; 640]> = shown.try_into().ok();
-    let (Some(stores), Some(picture)) = (stores, picture) else {
-        answer.number = 1;
-        return (settings, answer);
+    let (stores, picture) = match judged(&settings, message, cells, layer, shown) {
+        Ok(good) => good,
+        Err(number) => return refused(settings, number),
     };
-    if message.len() > 4096 {
-        answer.number = 2;
-        return (settings, answer);
+    if settings.held > 0 {
+        return refused(settings, 16);
     }
-    if !sound(&settings) {
-        answer.number = 3;
-        return (settings, answer);
-    }
+    let mut answer = Answer::default();
     let mut engine = Engine::new(settings, stores, printer);
-    engine.serve(message, &mut answer);
+    engine.serve::<false>(message, 0, &mut answer);
     engine.paint(picture);
     (engine.finish(), answer)
+}
+
+fn refused(settings: Settings, number: u8) -> (Settings, Answer) {
+    (settings, Answer { number, ..Answer::default() })
+}
+
+/// The stores if they have their sizes, the message is short enough and the
+/// settings are sound; else 1, 2 or 3. Arrays of fixed size let the compiler
+/// drop most bounds checks.
+fn judged<'a>(
+    settings: &Settings,
+    message: &[u8],
+    cells: &'a mut [u8],
+    layer: &'a mut [u8],
+    shown: &'a mut [u8],
+) -> Result<(Stores<'a>, &'a mut [u8; 640]), u8> {
+    let stores = Stores::new(cells, layer).ok_or(1)?;
+    let picture = shown.try_into().map_err(|_| 1)?;
+    if message.len() > 4096 {
+        return Err(2);
+    }
+    if !sound(settings) {
+        return Err(3);
+    }
+    Ok((stores, picture))
 }
 
 pub fn printed(buffer: &[u8], count: usize) -> &[u8] {
@@ -126,4 +148,5 @@ fn sound(s: &Settings) -> bool {
         && k.interval.wrapping_sub(1) < 127
         && sequences::is_charset(k.charset)
         && sequences::is_shift(k.shift)
+        && streams::sound(s)
 }

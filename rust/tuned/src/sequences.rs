@@ -30,6 +30,20 @@ const fn lengths() -> [u8; 256] {
     table
 }
 
+/// The bytes of the sequence at the start of `rest`, as far as they are known.
+fn length(rest: &[u8], second: u8) -> usize {
+    if second == 208 && rest.len() > 2 {
+        [5, 4, 6, 3][usize::from(rest[2].min(3))]
+    } else {
+        usize::from(LENGTHS[usize::from(second)])
+    }
+}
+
+/// Whether a sequence, from its 27 on, goes on behind these bytes.
+pub fn unfinished(rest: &[u8]) -> bool {
+    rest.get(1).is_none_or(|&second| rest.len() < length(rest, second))
+}
+
 pub fn is_charset(letter: u8) -> bool {
     matches!(letter, b'D'..=b'G' | b'I' | b'N' | b'S' | b'U' | b'W')
 }
@@ -80,7 +94,7 @@ impl Engine<'_> {
         } else {
             if answer.refused == 0 {
                 answer.first = number;
-                answer.offset = at as u32;
+                answer.offset = self.from + at as u32;
                 answer.parameter = parameter;
             }
             answer.refused += 1;
@@ -93,15 +107,12 @@ impl Engine<'_> {
         let Some(&second) = rest.get(1) else {
             return (12, 0, 1);
         };
-        let mut length = usize::from(LENGTHS[usize::from(second)]);
+        let length = length(rest, second);
         if length == 0 {
             return (10, 0, 2);
         }
         if rest.len() == 2 && second == 209 {
             return (0, 0, 2);
-        }
-        if second == 208 && rest.len() > 2 {
-            length = [5, 4, 6, 3][usize::from(rest[2].min(3))];
         }
         if rest.len() < length {
             return (12, 0, rest.len());

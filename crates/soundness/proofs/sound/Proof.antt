@@ -11,7 +11,8 @@ use Rattle.soundness.proofs.sound.Tie as tie
 
 returns : tie.Need-returns
 returns c =
-    let k = c .before .before in
+    let two = c .before .before in
+    let k = two .before .before in
     let shaped = k .before .before in
     let tall = shaped .before .before .before .before in
     let start = tall .before in
@@ -23,7 +24,7 @@ returns c =
     let of = k .keys-in-range .ensures in
     let n = tall .height-of .result in
     let e = tall .height-of .ensures s refl in
-    all s _ _ _ _ _ (arrays s p (of .1 .0) (of .1 .1) r) (shaped .shape .ensures) (k .before .chosen .ensures ∙ step-of s n e) (of .0) (c .before .inside .ensures ∙ first-of s n e) (c .inside2 .ensures ∙ second-of s n e)
+    all s _ _ _ _ _ _ (arrays s p (of .1 .0) (of .1 .1) r (c .line-sound .ensures .1)) (shaped .shape .ensures) (k .before .chosen .ensures ∙ step-of s n e) (of .0) (two .before .inside .ensures ∙ first-of s n e) (two .inside2 .ensures ∙ second-of s n e) (c .line-sound .ensures .0)
 
 pub sound-spec : {M : Type 1} → statement M
 sound-spec =
@@ -33,6 +34,7 @@ sound-spec =
     (λ c. omega (arith, height-low (c .before .args .t1), c .height-of .ensures (c .before .args .t1) refl))
     (λ c. search needs)
     (λ c. search needs)
+    (λ c κs. tt)
     (λ c κs. tt)
     (λ c κs. tt)
     (λ c κs. tt)

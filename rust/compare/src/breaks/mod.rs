@@ -4,12 +4,14 @@
 //!
 //! - `scope`: document 01
 //! - `parameters`: which parameter a refusal names
+//! - `streams`: pieces and closings
 //! - `screens`: the comparison of two screens
 //! - `traces`: key repeats
 
 mod parameters;
 mod scope;
 mod screens;
+mod streams;
 mod traces;
 
 pub struct Break {
@@ -25,7 +27,7 @@ const fn entry(name: &'static str, file: &'static str, old: &'static str, new: &
 }
 
 /// The broken copies of the terminal.
-pub const BREAKS: &[&[Break]] = &[scope::BREAKS, parameters::BREAKS];
+pub const BREAKS: &[&[Break]] = &[scope::BREAKS, parameters::BREAKS, streams::BREAKS];
 
 /// The broken copies of the comparison of two screens.
 pub const SCREENS: &[&[Break]] = &[screens::BREAKS];

@@ -16,7 +16,7 @@ pub const BREAKS: &[Break] = &[
     entry("refused-208-blanks-the-screen", "calls.rs",
         "standing.apply(&item);",
         "standing.apply(&item);
-        if matches!(item, Item::Refusal { .. }) && message.get(offset + 1) == Some(&208) {
+        if matches!(item, Item::Refusal { .. }) && rest.get(1) == Some(&208) {
             standing.cells.fill(BLANK);
         }"),
     entry("escape-in-a-parameter-starts-a-sequence", "read.rs",
@@ -97,8 +97,8 @@ pub const BREAKS: &[Break] = &[
         "(1..=s.greatest_top(screen)).contains",
         "(1..=s.greatest_top(screen) + 1).contains"),
     entry("3-judged-before-2", "calls.rs",
-        "return refused(2);",
-        "return refused(if sound(&settings) { 2 } else { 3 });"),
+        "return Some(2);",
+        "return Some(if sound(settings) { 2 } else { 3 });"),
     entry("message-of-4096-refused", "calls.rs",
         "if message.len() > LONGEST_MESSAGE {",
         "if message.len() >= LONGEST_MESSAGE {"),
@@ -130,8 +130,10 @@ pub const BREAKS: &[Break] = &[
         "line: top(1) + row - 1,",
         "line: top(selected) + row - 1,"),
     entry("empty-message-not-painted", "calls.rs",
-        "paint(&standing.settings, standing.cells, standing.layer, shown);",
-        "if !message.is_empty() {
+        "answer.taken = bytes.len() as u32;
+    paint(&standing.settings, standing.cells, standing.layer, shown);",
+        "answer.taken = bytes.len() as u32;
+        if !bytes.is_empty() {
             paint(&standing.settings, standing.cells, standing.layer, shown);
         }"),
 ];

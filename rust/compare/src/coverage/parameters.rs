@@ -1,7 +1,7 @@
 //! Which parameters were the first bad ones of a sequence refused by 11.
 
 use super::JUDGED;
-use crate::generate::ranges;
+use crate::generate::sequences::ranges;
 use reference::Settings;
 use std::collections::BTreeMap;
 

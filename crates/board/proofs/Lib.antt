@@ -1,0 +1,10 @@
+pub mod Pieces
+pub mod Numbers
+pub mod Refusals
+pub mod Quiet
+pub mod Ends
+pub mod Dividing
+pub mod Piecing
+pub mod Unsound
+pub mod Closing
+pub mod PlainPiece

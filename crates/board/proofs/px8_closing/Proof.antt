@@ -1,0 +1,105 @@
+-- Refused by its own line, or by the message call of what waits; served, that call is all of it.
+use mathlib.Core.Path.{_∙_, _≡_, refl, sym}
+use native.Mathlib.Omega.{arith}
+use lib.ListN.{length}
+use lib.Seq.{length-take-le}
+use borrow.Author.Needs.{needs}
+use Rattle.model.specs.Line.{LineSound}
+use Rattle.model.specs.Calls.{terminal}
+use Rattle.soundness.proofs.Arrays.{unmapped}
+use Rattle.board.specs.Parts.{closingNumber}
+use Rattle.board.proofs.Closing.{closing-by, closing-near, closing-not, closing-served, closing-sound}
+use Rattle.board.proofs.Quiet.{by-quiet}
+use Rattle.board.proofs.px8_closing.Statement.{statement}
+use Rattle.board.proofs.px8_closing.Tie as tie
+
+-- the array is as long as its type says
+size : (c : tie.Start) → length (c .args .settings .waiting) ≡ 12
+size c = let g = c .good .0 .1 .1 .1 .1 .1 .1 .1 .1 .1 in search (unmapped, g .1 .1 .1 .1 .1 .1 .1 .1 .1)
+
+-- number 0: the line is sound
+abbrev first : tie.Else1 → tie.Start
+first c = c .before .before .before .before .before .before .before .before
+
+module _ (c : tie.Else1) where
+  zero : let a = first c .args in closingNumber (terminal (a .settings) (a .cells .now) (a .layer .now) (a .shown .now)) ≡ 0
+  zero = sym (c .before .closing-number .ensures) ∙ c .if1 .left
+
+  line : let s = first c .args .settings in LineSound (s .waiting) (s .held) (s .count)
+  line = let a = first c .args in closing-sound (a .settings) (a .cells .now) (a .layer .now) (a .shown .now) (size (first c)) zero
+
+-- where the message call stands: the place of number 0 before it
+abbrev told : tie.After-px8-message → tie.Else1
+told c = c .before .before .before .before .before .before .before .before .before
+
+returns : tie.Need-returns
+returns c =
+    let a = c .before .before .before .before .before .before .before .before .before .args in
+    closing-not (terminal (a .settings) (a .cells .now) (a .layer .now) (a .shown .now)) _ _ (c .before .before .closing-number .ensures) (c .before .if1 .taken) (c .refusal .ensures)
+
+array-share-prefix-waiting : tie.Need-array-share-prefix-waiting
+array-share-prefix-waiting c = let there = c .before .before .before in omega (arith, line there .fits, size (first there))
+
+slice-aggregate-px8-message : tie.Need-slice-aggregate-px8-message
+slice-aggregate-px8-message c = let there = c .before .before .before .before in sym (length-take-le _ _ (omega (arith, line there .fits, size (first there))))
+
+returns-2 : tie.Need-returns-2
+returns-2 c =
+    let asked = c .before .before .before .before .before .before .before .before .before .before in
+    let start = first (told asked) in
+    let a = start .args in
+    closing-by (a .settings) (a .cells .now) (a .layer .now) (a .shown .now) (size start) (zero (told asked)) _ _ _ _ _ _ (by-quiet (a .settings) (asked .before .before .before .before .before .before .quieted .ensures) (asked .px8-message .ensures)) (c .before .if2 .taken)
+
+cast-start : tie.Need-cast-start
+cast-start c = let asked = c .before .before .before .before .before .before .before .before .before .before in omega (arith, line (told asked) .fits)
+
+sub-start : tie.Need-sub-start
+sub-start c = let asked = c .before .before .before .before .before .before .before .before .before .before .before in line (told asked) .no-longer
+
+counted-from-requires : tie.Need-counted-from-requires
+counted-from-requires c κs =
+    let asked = c .before .before .before .before .before .before .before .before .before .before .before .before .before in
+    let start = first (told asked) in
+    let a = start .args in
+    closing-near (a .settings) (a .cells .now) (a .layer .now) (a .shown .now) (size start) (zero (told asked)) _ _ _ _ _ _ (by-quiet (a .settings) (asked .before .before .before .before .before .before .quieted .ensures) (asked .px8-message .ensures))
+
+same-length-7 : tie.Need-same-length-7
+same-length-7 c = let asked = c .before .before .before .before .before .before .before .before .before .before .before .before .before .before in search (needs, asked .px8-message)
+
+returns-3 : tie.Need-returns-3
+returns-3 c =
+    let asked = c .before .before .before .before .before .before .before .before .before .before .before .before .before .before in
+    let start = first (told asked) in
+    let a = start .args in
+    closing-served (a .settings) (a .cells .now) (a .layer .now) (a .shown .now) (size start) (zero (told asked)) _ _ _ _ _ _ (by-quiet (a .settings) (asked .before .before .before .before .before .before .quieted .ensures) (asked .px8-message .ensures)) (c .before .before .before .before .before .if2 .left) _ _ (c .counted-from .ensures) (c .before .lined .ensures)
+
+pub px8-closing-spec : {M : Type 1} → statement M
+px8-closing-spec =
+    tie.close
+    (tie.spec
+    (λ c κs. tt)
+    (λ c κs. search needs)
+    (λ c. search needs)
+    (λ c. search needs)
+    (λ c. search needs)
+    returns
+    (λ c. search needs)
+    (λ c κs. search needs)
+    array-share-prefix-waiting
+    slice-aggregate-px8-message
+    (λ c. search needs)
+    (λ c κs. search needs)
+    (λ c. search needs)
+    (λ c. search needs)
+    (λ c. search needs)
+    returns-2
+    cast-start
+    sub-start
+    (λ c. omega arith)
+    (λ c. refl)
+    (λ c κs. omega arith)
+    counted-from-requires
+    same-length-7
+    (λ c. search needs)
+    (λ c. search needs)
+    returns-3)

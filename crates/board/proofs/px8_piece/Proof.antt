@@ -1,0 +1,88 @@
+-- None waits and it is small: a message call of its whole items, under the settings as they are, is all of it. Any other piece is `behind`'s.
+use mathlib.Core.Path.{sym}
+use native.Mathlib.Omega.{arith}
+use lib.Seq.{length-take-le}
+use borrow.Author.Needs.{needs}
+use borrow.Author.Tests.{not-false}
+use Rattle.board.proofs.PlainPiece.{Plain, plain-end, plain-near, plain-refused, plain-rest, plain-served}
+use Rattle.board.proofs.px8_piece.Statement.{statement}
+use Rattle.board.proofs.px8_piece.Tie as tie
+
+-- once the end of its whole items is found
+abbrev first : tie.After-whole-end → tie.Start
+first c = c .before .before .before .before .before .before .before .before
+
+plain : (c : tie.After-whole-end) → let a = first c .args in Plain (a .settings) (a .piece .now) (c .whole-end .result)
+plain c = let p = c .before .before .plain .ensures (not-false _ (c .before .if1 .left)) in record { none = p .0; few = p .1 .0; low = p .1 .1; ends = c .whole-end .ensures }
+
+-- where the message call stands: the place of that end
+abbrev found : tie.After-px8-message → tie.After-whole-end
+found c = c .before .before .before .before .before .before
+
+slice-aggregate-px8-message : tie.Need-slice-aggregate-px8-message
+slice-aggregate-px8-message c = sym (length-take-le _ _ (omega (arith, plain-end (plain (c .before)))))
+
+returns-2 : tie.Need-returns-2
+returns-2 c =
+    let asked = c .before .before .before .before .before .before .before .before .before .before in
+    let a = first (found asked) .args in
+    plain-refused (plain (found asked)) (a .cells .now) (a .layer .now) (a .shown .now) (a .printer .now) _ _ _ _ _ _ (asked .px8-message .ensures) (omega (arith, c .if2))
+
+cast-taken : tie.Need-cast-taken
+cast-taken c = let asked = c .before .before .before .before .before .before .before .before .before .before in omega (arith, plain (found asked) .few)
+
+sub-lined : tie.Need-sub-lined
+sub-lined c = let asked = c .before .before .before .before .before .before .before .before .before .before in plain-end (plain (found asked))
+
+part-lined-start : tie.Need-part-lined-start
+part-lined-start c = let asked = c .before .before .before .before .before .before .before .before .before .before in plain-end (plain (found asked))
+
+add-lined : tie.Need-add-lined
+add-lined c = let asked = c .before .before .before .before .before .before .before .before .before .before .before in omega (arith, plain (found asked))
+
+lined-requires : tie.Need-lined-requires
+lined-requires c κs = let asked = c .before .before .before .before .before .before .before .before .before .before .before in plain-rest (plain (found asked))
+
+counted-from-requires : tie.Need-counted-from-requires
+counted-from-requires c κs =
+    let asked = c .before .before .before .before .before .before .before .before .before .before .before .before in
+    let a = first (found asked) .args in
+    omega (arith, plain-near (plain (found asked)) (a .cells .now) (a .layer .now) (a .shown .now) (a .printer .now) _ _ _ _ _ _ (asked .px8-message .ensures))
+
+returns-3 : tie.Need-returns-3
+returns-3 c =
+    let asked = c .before .before .before .before .before .before .before .before .before .before .before .before .before in
+    let a = first (found asked) .args in
+    plain-served (plain (found asked)) (a .cells .now) (a .layer .now) (a .shown .now) (a .printer .now) _ _ _ _ _ _ (asked .px8-message .ensures) (omega (arith, c .before .before .before .if2)) _ _ (c .counted-from .ensures) (c .before .lined .ensures)
+
+pub px8-piece-spec : {M : Type 1} → statement M
+px8-piece-spec =
+    tie.close
+    (tie.spec
+    (λ c κs. search needs)
+    (λ c κs. search needs)
+    (λ c. search needs)
+    (λ c. search needs)
+    (λ c. search needs)
+    (λ c. search needs)
+    (λ c. search needs)
+    (λ c κs. search needs)
+    slice-aggregate-px8-message
+    (λ c κs. search needs)
+    (λ c. search needs)
+    (λ c. search needs)
+    (λ c. search needs)
+    (λ c. search needs)
+    returns-2
+    cast-taken
+    sub-lined
+    part-lined-start
+    (λ c. search needs)
+    add-lined
+    lined-requires
+    counted-from-requires
+    (λ c. search needs)
+    (λ c. search needs)
+    (λ c. search needs)
+    (λ c. search needs)
+    returns-3)

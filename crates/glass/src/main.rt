@@ -1,0 +1,124 @@
+// What a fitter runs at the bay: shows the glass in an ordinary terminal while a stream comes in by standard input (a serial line, a pipe).
+// Each part that a read gives is a piece of the stream, and the input's end closes it. After each call the places that changed are drawn,
+// under the eight rows a line with the stream's counts and its first refusal; the terminal's cursor stands where the settings have the
+// cursor, or behind that line where none is to be seen. It asks of the terminal 10 rows and 80 columns, sets no mode of it, and can be
+// ended at any time.
+mod cursor;
+mod drawing;
+mod totals;
+
+ghost use Rattle.io.specs.Counts.{Counts};
+use libc::STDIN_FILENO;
+use libc::STDOUT_FILENO;
+use model::Answer;
+use model::CELLS;
+use model::COPY;
+use model::LAYER;
+use model::Outcome;
+use model::SHOWN;
+use model::Settings;
+
+// The stream as its last call left it: the settings, and the counts of all its calls.
+struct Stream {
+    settings: Settings,
+    total: Answer,
+}
+
+// One part has at most 256 bytes. With an ESC that waited it asks for at most 128 copies, so that none is refused for want of room.
+fn main() {
+    let mut cells = [0u8; CELLS];
+    let mut layer = [0u8; LAYER];
+    let mut shown = [0u8; SHOWN];
+    let mut printer = [0u8; 128 * COPY];
+    let mut part = [0u8; 256];
+    let mut stream = open(&mut cells, &mut layer, &mut shown);
+    let mut length = next_part(stream.total.number, &mut part);
+    let mut turns = u64::MAX;
+    while turns > 0 && length > 0 {
+        stream = take(
+            stream,
+            &part[..length],
+            &mut cells,
+            &mut layer,
+            &mut shown,
+            &mut printer,
+        );
+        length = next_part(stream.total.number, &mut part);
+        turns -= 1;
+    }
+    close(stream, &mut cells, &mut layer, &mut shown);
+}
+
+// As much as one read gives: nothing at the input's end, where the read fails, and after a call that was refused by a number.
+fn next_part(number: u8, part: &mut [u8]) -> usize
+    ensures { λ r. ⌜ Counts r (now (part .exit)) ⌝ }
+{
+    if number != 0 {
+        return 0;
+    }
+    let got = libc::read(STDIN_FILENO, part);
+    io::count(got, part)
+}
+
+// A blank glass.
+fn open(cells: &mut [u8], layer: &mut [u8], shown: &mut [u8; SHOWN]) -> Stream {
+    let opened = terminal::opening(cells, layer, shown);
+    let settings = opened.settings;
+    let total = totals::none();
+    report::say(b"\x1b[H\x1b[2J");
+    say_under(settings, total);
+    Stream { settings, total }
+}
+
+// A piece. One that would take the count past its limit is refused by 15, which ends the stream.
+fn take(
+    stream: Stream,
+    piece: &[u8],
+    cells: &mut [u8],
+    layer: &mut [u8],
+    shown: &mut [u8; SHOWN],
+    printer: &mut [u8],
+) -> Stream {
+    let before = *shown;
+    let given = stream.settings;
+    let outcome = board::px8_piece(given, piece, cells, layer, shown, printer);
+    redrawn(stream.total, outcome, &before, shown)
+}
+
+// The closing. What the terminal shows next comes under the glass.
+fn close(stream: Stream, cells: &mut [u8], layer: &mut [u8], shown: &mut [u8; SHOWN]) {
+    let before = *shown;
+    let given = stream.settings;
+    let outcome = board::px8_closing(given, cells, layer, shown);
+    redrawn(stream.total, outcome, &before, shown);
+    report::say(b"\x1b[10;01H");
+}
+
+// What a call left is drawn over what stood on the glass.
+fn redrawn(
+    total: Answer,
+    outcome: Outcome,
+    before: &[u8; SHOWN],
+    shown: &[u8; SHOWN],
+) -> Stream {
+    let settings = outcome.settings;
+    let total = totals::added(total, outcome.answer);
+    let drawn = drawing::draw(before, shown);
+    let bytes = drawn.bytes;
+    let length = drawn.length;
+    io::write_all(STDOUT_FILENO, &bytes[..length]);
+    say_under(settings, total);
+    Stream { settings, total }
+}
+
+// The line under the rows, and the cursor.
+fn say_under(settings: Settings, total: Answer) {
+    report::say(b"\x1b[9;01H");
+    report::say_answer(total);
+    report::say_byte(b" parameter ", total.parameter);
+    report::say(b"\x1b[K");
+    let place = cursor::place(settings);
+    if place < 640 {
+        report::say(&drawing::address(place));
+    }
+}

@@ -1,0 +1,4 @@
+pub mod ItemLaws
+pub mod EndLaws
+pub mod TestLaws
+pub mod JoinLaws

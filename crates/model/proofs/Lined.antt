@@ -1,0 +1,168 @@
+-- P1: no item looks at the waiting bytes and the count, or moves them: it does the same under another line, and leaves that line.
+use mathlib.Core.Path.{_∙_, _≡_, ap, refl}
+use Prim.Native.Nat.{_+_, _-_, max, ℕ}
+use mathlib.Core.Bool.{Bool, _&&_, cond, false, true}
+use mathlib.Core.List.{List, [], _++_, _∷_}
+use lib.ListN.{length}
+use lib.Dec.{eqb, ltb}
+use Rattle.model.specs.declared.Item.{Item}
+use Rattle.model.specs.declared.Item.the-variants.{Control, Printed, Refused, Sequence}
+use Rattle.model.specs.declared.Sequence.{Sequence as Seq}
+use Rattle.model.specs.declared.Sequence.the-variants.{Arrows1, Arrows2, Arrows3, CapsOff, CapsOn, Charset, Clear, Copy, CursorKind, CursorOff, CursorOn, Display, DrawDot, DrawLine, EraseLine, EraseRest, InsOff, InsOn, LinesDown, LinesUp, Mark, Mode0, Mode1, Mode2, Nothing, NumOff, NumOn, Pattern, PrintCode, Put, Repeat, RepeatDelay, RepeatInterval, SecretOff, SecretOn, Select, Shift, Step, StringsOff, StringsOn, Tracking, WindowBottom, WindowCursor, WindowDown, WindowTop, WindowUp}
+use Rattle.model.specs.State.{State, putAt, topAt}
+use Rattle.model.specs.Screens.{base, cellAt, columnsHere, columnsOf, height, here, lineAt, linesHere, linesOf, placeOf, textRows}
+use Rattle.model.specs.Picture.{copied, copiedRows, covered, halves, picture, pictureAt, sides, under, windowAt}
+use Rattle.model.specs.Sequences.{codeOf}
+use Rattle.model.specs.Reading.{Read, byteOf}
+use Rattle.model.specs.Judging.{limitsOf}
+use Rattle.model.specs.Rules.{applyItem, blankFrom, centred, cleared, control, down, emptied, flagged, held, missed, modeSet, nearest, obeyed, onLines, placed, printed, right, shownAt, stored, toColumn, topped, tracked, trackedFar, withCells, withKeys, withKindPatterns, withLayer, withSettings}
+use Rattle.model.specs.Items.{applyAll, copies, copyOf, eventsOf, happened, lined, obeyedBy, printerBytes, read, readsOf}
+
+module _ (w : List ℕ) (n : ℕ) where
+  -- a test that does not look at it
+  cond-lined : (b : Bool) (x y : State) → cond b (lined w n x) (lined w n y) ≡ lined w n (cond b x y)
+  cond-lined true x y = refl
+  cond-lined false x y = refl
+
+  topped-lined : (t : ℕ) (st : State) → topped t (lined w n st) ≡ lined w n (topped t st)
+  unfolding lined withSettings topped emptied withLayer placed placeOf
+  topped-lined t st = cond-lined (eqb t (here st .top)) st (emptied (placed (topAt t (here st)) st))
+
+  tracked-lined : (st : State) → tracked (lined w n st) ≡ lined w n (tracked st)
+  unfolding tracked nearest missed lined withSettings height textRows placeOf
+  tracked-lined st =
+      let b : Bool = eqb (st .settings .tracking) 1 && missed st in
+      ap (λ (x : State). cond b x (lined w n st)) (topped-lined (nearest st) st) ∙ cond-lined b (topped (nearest st) st) st
+
+  trackedFar-lined : (st : State) → trackedFar (lined w n st) ≡ lined w n (trackedFar st)
+  unfolding trackedFar centred held missed lined withSettings height textRows placeOf linesOf
+  trackedFar-lined st =
+      let b : Bool = eqb (st .settings .tracking) 1 && missed st in
+      ap (λ (x : State). cond b x (lined w n st)) (topped-lined (centred st) st) ∙ cond-lined b (topped (centred st) st) st
+
+  down-lined : (st : State) → down (lined w n st) ≡ lined w n (down st)
+  unfolding down onLines emptied withLayer withCells placed lined withSettings placeOf linesOf columnsOf base
+  down-lined st = cond-lined (ltb (here st .line) (linesHere st)) _ _
+
+  right-lined : (st : State) → right (lined w n st) ≡ lined w n (right st)
+  unfolding right toColumn placed lined withSettings placeOf columnsOf
+  right-lined st =
+      let b : Bool = ltb (here st .column) (columnsHere st) in
+      let to : State = toColumn (here st .column + 1) st in
+      ap (λ (x : State). cond b (lined w n to) x) (down-lined (toColumn 1 st)) ∙ cond-lined b to (down (toColumn 1 st))
+
+  printed-lined : (c : ℕ) (st : State) → printed c (lined w n st) ≡ lined w n (printed c st)
+  unfolding printed stored shownAt lined withSettings placeOf textRows cellAt lineAt base columnsOf
+  printed-lined c st = ap tracked (right-lined (stored c st)) ∙ tracked-lined (right (stored c st))
+
+  control-lined : (c : ℕ) (st : State) → control c (lined w n st) ≡ lined w n (control c st)
+  unfolding control toColumn cleared onLines emptied withLayer withCells placed lined withSettings placeOf linesOf columnsOf base
+  control-lined c st = go (eqb c 8) (eqb c 10) (eqb c 13) (eqb c 12)
+    where
+      go : (p q r s : Bool) → let l = lined w n st in
+          cond p (tracked (toColumn (max 1 (here l .column - 1)) l)) (cond q (tracked (down l)) (cond r (tracked (toColumn 1 l)) (cond s (cleared l) l)))
+          ≡ lined w n (cond p (tracked (toColumn (max 1 (here st .column - 1)) st)) (cond q (tracked (down st)) (cond r (tracked (toColumn 1 st)) (cond s (cleared st) st))))
+      go true q r s = tracked-lined (toColumn (max 1 (here st .column - 1)) st)
+      go false true r s = ap tracked (down-lined st) ∙ tracked-lined (down st)
+      go false false true s = tracked-lined (toColumn 1 st)
+      go false false false true = refl
+      go false false false false = refl
+
+  -- every sequence: most name the other settings one by one
+  obeyed-lined : (ms : ℕ → ℕ) (q : Seq) (st : State) → obeyed ms q (lined w n st) ≡ lined w n (obeyed ms q st)
+  unfolding obeyed cleared onLines blankFrom modeSet flagged withKeys withKindPatterns emptied withLayer withCells placed held centred lined withSettings placeOf linesOf columnsOf height textRows base cellAt lineAt
+  obeyed-lined ms (PrintCode c) st = printed-lined c st
+  obeyed-lined ms Clear st = refl
+  obeyed-lined ms CursorOff st = refl
+  obeyed-lined ms CursorOn st = refl
+  obeyed-lined ms (Put l c) st = trackedFar-lined (placed (putAt (l - 31) (c - 31) (here st)) st)
+  obeyed-lined ms (Charset n) st = refl
+  obeyed-lined ms Copy st = refl
+  obeyed-lined ms EraseLine st = refl
+  obeyed-lined ms EraseRest st = refl
+  obeyed-lined ms SecretOn st = refl
+  obeyed-lined ms SecretOff st = refl
+  obeyed-lined ms (LinesUp a m) st = refl
+  obeyed-lined ms (LinesDown a m) st = refl
+  obeyed-lined ms (Step n) st = refl
+  obeyed-lined ms (Tracking n) st = refl
+  obeyed-lined ms WindowUp st = topped-lined (held (here st .top - st .settings .step) st) st
+  obeyed-lined ms WindowDown st = topped-lined (held (here st .top + st .settings .step) st) st
+  obeyed-lined ms InsOn st = refl
+  obeyed-lined ms InsOff st = refl
+  obeyed-lined ms CapsOn st = refl
+  obeyed-lined ms CapsOff st = refl
+  obeyed-lined ms NumOn st = refl
+  obeyed-lined ms NumOff st = refl
+  obeyed-lined ms StringsOff st = refl
+  obeyed-lined ms StringsOn st = refl
+  obeyed-lined ms (DrawLine p1 p2 p3 p4 p5 p6 p7 p8 p9 p10 p11) st = refl
+  obeyed-lined ms (DrawDot p1 p2 p3 p4) st = refl
+  obeyed-lined ms (Mode0 a b) st = refl
+  obeyed-lined ms (Mode1 a) st = refl
+  obeyed-lined ms (Mode2 a m p) st = refl
+  obeyed-lined ms (Select n) st = refl
+  obeyed-lined ms (Mark r c p) st = refl
+  obeyed-lined ms (Display n) st = refl
+  obeyed-lined ms WindowTop st = topped-lined 1 st
+  obeyed-lined ms WindowBottom st = topped-lined (linesHere st + 1 - height (st .settings)) st
+  obeyed-lined ms (CursorKind n) st = refl
+  obeyed-lined ms WindowCursor st = topped-lined (centred st) st
+  obeyed-lined ms (Pattern c at) st = refl
+  obeyed-lined ms (Repeat n) st = refl
+  obeyed-lined ms (RepeatDelay n) st = refl
+  obeyed-lined ms (RepeatInterval n) st = refl
+  obeyed-lined ms (Arrows1 c1 c2 c3 c4) st = refl
+  obeyed-lined ms (Arrows2 c1 c2 c3 c4) st = refl
+  obeyed-lined ms (Arrows3 c1 c2 c3 c4) st = refl
+  obeyed-lined ms Nothing st = refl
+  obeyed-lined ms (Shift n) st = refl
+
+  pub item-lined : (ms : ℕ → ℕ) (i : Item) (st : State) → applyItem ms i (lined w n st) ≡ lined w n (applyItem ms i st)
+  unfolding applyItem
+  item-lined ms (Printed c) st = printed-lined c st
+  item-lined ms (Control c) st = control-lined c st
+  item-lined ms (Sequence q) st = obeyed-lined ms q st
+  item-lined ms (Refused k p) st = refl
+
+  -- nor does judging
+  pub limits-lined : (st : State) → limitsOf (lined w n st .settings) ≡ limitsOf (st .settings)
+  unfolding lined withSettings linesOf columnsOf height textRows
+  limits-lined st = refl
+
+  -- so the same is read
+  pub reads-lined : (bss : List (List ℕ)) (at : ℕ) (st : State) (room : ℕ) → readsOf bss at (lined w n st) room ≡ readsOf bss at st room
+  unfolding readsOf lined withSettings linesOf columnsOf height textRows
+  reads-lined [] at st room = refl
+  reads-lined (bs ∷ bss) at st room =
+      let r : Read = read at bs (limitsOf (st .settings)) room in
+      ap (λ (x : State). r ∷ readsOf bss (at + length bs) x (room - printerBytes (r .item))) (item-lined (byteOf r) (r .item) st)
+      ∙ ap (λ (l : List Read). r ∷ l) (reads-lined bss (at + length bs) (obeyedBy r st) (room - printerBytes (r .item)))
+
+  -- the same is made of what stands
+  pub applied-lined : (rs : List Read) (st : State) → applyAll (eventsOf rs) (lined w n st) ≡ lined w n (applyAll (eventsOf rs) st)
+  unfolding applyAll happened
+  applied-lined [] st = refl
+  applied-lined (r ∷ rs) st = ap (applyAll (eventsOf rs)) (item-lined (byteOf r) (r .item) st) ∙ applied-lined rs (obeyedBy r st)
+
+  -- and the same is printed
+  picture-lined : (st : State) (p : ℕ) → picture (lined w n st) p ≡ picture st p
+  unfolding picture pictureAt covered under halves sides windowAt cellAt lineAt base columnsOf placeOf textRows lined withSettings
+  picture-lined st p = refl
+
+  copied-lined : (st : State) → copied (lined w n st) ≡ copied st
+  unfolding copied
+  copied-lined st = λ i. copiedRows (λ p. picture-lined st p i) 0 8
+
+  copy-lined : (i : Item) (st : State) → copyOf i (lined w n st) ≡ copyOf i st
+  copy-lined (Printed c) st = refl
+  copy-lined (Control c) st = refl
+  copy-lined (Sequence q) st = ap (λ (l : List ℕ). cond (eqb (codeOf q) 80) l []) (copied-lined st)
+  copy-lined (Refused k p) st = refl
+
+  pub copies-lined : (rs : List Read) (st : State) → copies (eventsOf rs) (lined w n st) ≡ copies (eventsOf rs) st
+  unfolding copies happened
+  copies-lined [] st = refl
+  copies-lined (r ∷ rs) st =
+      (λ i. copy-lined (r .item) st i ++ copies (eventsOf rs) (item-lined (byteOf r) (r .item) st i))
+      ∙ ap (λ (l : List ℕ). copyOf (r .item) st ++ l) (copies-lined rs (obeyedBy r st))

@@ -1,0 +1,48 @@
+//! What stands, taken down before an item is applied.
+
+use reference::apply::Standing;
+use reference::settings::MARKS;
+use reference::{Place, Settings};
+
+/// What stood before an item.
+pub struct Before {
+    pub settings: Settings,
+    pub place: Place,
+    pub marks: usize,
+    pub codes: usize,
+    pub printed: usize,
+}
+
+impl Before {
+    pub fn of(standing: &Standing) -> Before {
+        Before {
+            settings: standing.settings,
+            place: standing.settings.places[usize::from(standing.settings.selected)],
+            marks: filled(&standing.layer[..MARKS]),
+            codes: filled(&standing.layer[MARKS..]),
+            printed: standing.printed,
+        }
+    }
+
+    pub fn mode(&self) -> usize {
+        self.settings.mode.into()
+    }
+
+    pub fn screen(&self) -> usize {
+        self.settings.selected.into()
+    }
+
+    pub fn in_last_line(&self) -> bool {
+        usize::from(self.place.line) == self.settings.lines(self.screen())
+    }
+
+    pub fn in_last_column(&self) -> bool {
+        usize::from(self.place.column) == self.settings.columns(self.screen())
+    }
+}
+
+/// How many bytes are not 0; block by block, since it is asked at each item.
+pub fn filled(bytes: &[u8]) -> usize {
+    let block = |block: &[u8]| block.iter().map(|&byte| u8::from(byte != 0)).sum::<u8>();
+    bytes.chunks(128).map(|bytes| usize::from(block(bytes))).sum()
+}

@@ -1,0 +1,50 @@
+//! The classes by name.
+
+/// Second bytes with a parameter that is judged.
+pub const JUDGED: [u8; 16] = [61, 67, 144, 145, 148, 149, 208, 209, 210, 211, 214, 224, 240, 241, 242, 247];
+
+/// Every class that a run must reach, besides those of the second bytes.
+#[rustfmt::skip]
+pub const CLASSES: &[&str] = &[
+    "opening 0", "opening 1", "call 0", "call 1", "call 2", "call 3", "call 16",
+    "first refusal 10", "first refusal 11", "first refusal 12", "first refusal 13", "first refusal 14",
+    "refused 14 later", "several refusals in a call",
+    "order: 1 with 2", "order: 1 with 3", "order: 2 with 3",
+    "message empty", "message of 4096", "message of 4097", "message longer",
+    "room 0", "room 655", "room 656", "room 1311", "room 1312", "room larger",
+    "printer call beyond the buffer", "printer call of the whole buffer",
+    "mode 0 screen 1", "mode 0 screen 2", "mode 1 screen 1", "mode 1 screen 2",
+    "mode 2 screen 1", "mode 2 screen 2",
+    "mode 0 to 0", "mode 0 to 1", "mode 0 to 2", "mode 1 to 0", "mode 1 to 1", "mode 1 to 2",
+    "mode 2 to 0", "mode 2 to 1", "mode 2 to 2",
+    "208 with secret on", "208 refused with text standing",
+    "wrap in mode 0", "wrap in mode 1", "wrap in mode 2", "wrap on one column",
+    "lift by printing in mode 0", "lift by printing in mode 1", "lift by printing in mode 2",
+    "lift by 37", "lift by code 10", "lift on screen 2",
+    "place emptied by printing", "place emptied by 37", "place emptied under secret",
+    "place emptied in the right half", "place emptied on screen 2 of mode 2",
+    "code of an unmarked place emptied",
+    "layer emptied by 42", "layer emptied by code 12", "layer emptied by 84", "layer emptied by 89",
+    "layer emptied by 144", "layer emptied by 145", "layer emptied by 208",
+    "layer emptied by 209 to the same screen", "layer emptied by 209 to the other screen",
+    "layer emptied by a lift in printing", "layer emptied by a lift by code 10",
+    "layer emptied by 150", "layer emptied by 151", "layer emptied by 212", "layer emptied by 213",
+    "layer emptied by 215", "layer emptied by tracking by the least amount",
+    "layer emptied by tracking after 61",
+    "layer kept by 150", "layer kept by 151", "layer kept by 212", "layer kept by 213",
+    "layer kept by 215", "layer kept by a line step", "layer kept by 61",
+    "tracking least, up, printing", "tracking least, down, printing",
+    "tracking least, up, 37", "tracking least, down, 37",
+    "tracking least, up, code 8", "tracking least, down, code 8",
+    "tracking least, up, code 10", "tracking least, down, code 10",
+    "tracking least, up, code 13", "tracking least, down, code 13",
+    "tracking after 61, up", "tracking after 61, down",
+    "tracking off and the cursor missed",
+    "150 held at the first line", "151 held at the last line", "150 by a whole step", "151 by a whole step",
+    "215 held at the first line", "215 held at the last line", "215 not held",
+    "code 8 at column 1", "code 8 further on", "code 13", "other code",
+    "scrolled region of one line", "scrolled region inside", "scrolled region of all lines",
+    "copy in mode 0", "copy in mode 1", "copy in mode 2", "copy under secret", "copy with marks",
+    "copy with a code below 32", "second copy in a call",
+    "209 at the very end", "ESC as an accepted parameter", "61 cut after a bad line",
+];
