@@ -1,7 +1,5 @@
 // The calls for a board's firmware, in C or Rust: structures by value, slices as pointer and length. Each promises what the terminal's
 // own call does; c/px8.h says it for C.
-mod parts;
-
 ghost use mathlib.Core.Path.{_≡_};
 ghost use Prim.Native.Nat.{_<_, _≤_};
 ghost use lib.ListN.{length};
@@ -9,21 +7,21 @@ ghost use Rattle.model.specs.Calls.{Promised, called, closed, pieced, terminal}
 ghost use Rattle.model.specs.Opening.{OpeningPromised, firstPart};
 ghost use Rattle.differences.specs.Answers.{ComparePromised, firstOf, valuesOf};
 ghost use Rattle.traces.specs.Call.{RepeatsPromised};
-ghost use Rattle.board.specs.Parts.{lineNumber};
+ghost use Rattle.pieces.specs.Parts.{lineNumber};
 use differences::Compared;
 use differences::Difference;
 use differences::FirstValues;
 use model::Opened;
 use model::Outcome;
 use model::Settings;
-use parts::asking;
-use parts::closing_number;
-use parts::counted_from;
-use parts::line_number;
-use parts::lined;
-use parts::plain;
-use parts::quieted;
-use parts::together;
+use pieces::asking;
+use pieces::closing_number;
+use pieces::counted_from;
+use pieces::line_number;
+use pieces::lined;
+use pieces::plain;
+use pieces::quieted;
+use pieces::together;
 use terminal::numbers::refusal;
 use traces::Repeats;
 
@@ -65,16 +63,23 @@ pub extern "C" fn px8_piece(
         return behind(settings, piece, cells, layer, shown, printer);
     }
     let end = line::whole_end(piece);
-    let out = px8_message(settings, &piece[..end], cells, layer, shown, printer);
+    let mut out = px8_message(settings, &piece[..end], cells, layer, shown, printer);
     if out.answer.number != 0 {
         return out;
     }
     let taken = piece.len() as u32;
-    let count = settings.count;
-    Outcome {
-        settings: lined(out.settings, &piece[end..], count + taken),
-        answer: counted_from(out.answer, count, taken),
+    let reached = settings.count + taken;
+    let answer = counted_from(out.answer, settings.count, taken);
+    if end < piece.len() {
+        return Outcome {
+            settings: lined(out.settings, &piece[end..], reached),
+            answer,
+        };
     }
+    // where all of it is whole only the count is another: no settings are put together anew
+    out.settings.count = reached;
+    out.answer = answer;
+    out
 }
 
 // Any other piece: bytes wait before it, or it may be refused by 2 or 15.

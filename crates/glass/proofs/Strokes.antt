@@ -14,7 +14,7 @@ use Rattle.report.specs.Letters.{letter}
 use Rattle.store.proofs.Laws.{put-front}
 use Rattle.glass.specs.Drawing.{Stroke, Struck, addressOf, apart, bytesOf, changed, move, strokes, strokesAt, strokesFrom, write}
 
-bytes-append : (ss ts : List Stroke) → bytesOf (ss ++ ts) ≡ bytesOf ss ++ bytesOf ts
+pub bytes-append : (ss ts : List Stroke) → bytesOf (ss ++ ts) ≡ bytesOf ss ++ bytesOf ts
 unfolding bytesOf
 bytes-append [] ts = refl
 bytes-append (move p ∷ ss) ts = ap (λ (l : List ℕ). addressOf p ++ l) (bytes-append ss ts) ∙ sym (append-assoc (addressOf p) (bytesOf ss) (bytesOf ts))

@@ -1,6 +1,6 @@
 -- What is drawn of a shown screen in an ordinary terminal: the letters that changed since the one before it, by rows from the left, "only what
--- changed". What is asked of the terminal is a list of strokes; the bytes are those of ECMA-48. That they leave the new screen there is
--- claimed in Seen.
+-- changed". What is asked of the terminal is a list of strokes; the bytes are those of ECMA-48. What a terminal that reads them then shows is
+-- said in Seen, which knows nothing of strokes.
 use mathlib.Core.Path.{_≡_}
 use Prim.Native.Nat.{ℕ, zero, suc, _+_, _-_, _/_, _%_, _≤_}
 use mathlib.Core.Bool.{Bool, cond, not, _||_}
@@ -10,6 +10,7 @@ use lib.Dec.{eqb}
 use Rattle.io.specs.Counts.{Counts}
 use Rattle.report.specs.Letters.{letter}
 use Rattle.glass.specs.declared.drawing.Drawn.{Drawn}
+use Rattle.glass.specs.Seen.{Redraws}
 
 -- another letter is to stand at place p, row r and column c being place 80(r−1)+c−1
 unfoldable pub changed : List ℕ → List ℕ → ℕ → Bool
@@ -47,9 +48,10 @@ bytesOf [] = []
 bytesOf (move p ∷ ss) = addressOf p ++ bytesOf ss
 bytesOf (write c ∷ ss) = c ∷ bytesOf ss
 
--- what is drawn of a new screen over an old one: the first bytes of an array
+-- what is drawn of a new screen over an old one: the first bytes of an array, and a terminal that showed the old one shows the new one by them
 pub record Draws (old new : List ℕ) (r : Drawn) : Type 0 where
   pub bytes-are : take (r .length) (r .bytes) ≡ bytesOf (strokes old new)
+  pub seen : Redraws old new (take (r .length) (r .bytes))
   pub counts : Counts (r .length) (r .bytes)
 
 -- bytes that are put behind the first n of an array: the first r then, at most eight more

@@ -1,3 +1,4 @@
 pub mod Cursor
 pub mod Drawing
+pub mod Seen
 pub mod Totals

@@ -29,13 +29,7 @@ pub(crate) fn draw(old: &[u8; SHOWN], new: &[u8; SHOWN]) -> Drawn
 }
 
 // What a place asks, behind so many bytes: nothing where its letter stays, else the letter, and its address where the cursor is elsewhere.
-fn stroke(
-    old: &[u8; SHOWN],
-    new: &[u8; SHOWN],
-    p: usize,
-    bytes: &mut [u8],
-    at: usize,
-) -> usize
+fn stroke(old: &[u8; SHOWN], new: &[u8; SHOWN], p: usize, bytes: &mut [u8], at: usize) -> usize
     requires { ⌜ (p < 640) × (at + 8 ≤ length (now bytes)) ⌝ }
     ensures { λ r. ⌜ Struck (bytesOf (strokesAt (now (old .entry)) (now (new .entry)) p)) at (now (bytes .entry)) r (now (bytes .exit)) ⌝ }
 {
@@ -79,13 +73,5 @@ pub(crate) fn address(p: usize) -> [u8; 7]
 {
     let row = (p / 80) as u8;
     let column = (p % 80) as u8 + 1;
-    [
-        27,
-        91,
-        49 + row,
-        59,
-        48 + column / 10,
-        48 + column % 10,
-        72,
-    ]
+    [27, 91, 49 + row, 59, 48 + column / 10, 48 + column % 10, 72]
 }

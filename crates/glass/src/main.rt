@@ -95,12 +95,7 @@ fn close(stream: Stream, cells: &mut [u8], layer: &mut [u8], shown: &mut [u8; SH
 }
 
 // What a call left is drawn over what stood on the glass.
-fn redrawn(
-    total: Answer,
-    outcome: Outcome,
-    before: &[u8; SHOWN],
-    shown: &[u8; SHOWN],
-) -> Stream {
+fn redrawn(total: Answer, outcome: Outcome, before: &[u8; SHOWN], shown: &[u8; SHOWN]) -> Stream {
     let settings = outcome.settings;
     let total = totals::added(total, outcome.answer);
     let drawn = drawing::draw(before, shown);

@@ -1,10 +1,11 @@
 // The line of a stream (document 02, P1): which bytes of a piece are whole items, which wait, and whether bytes may wait so.
 ghost use mathlib.Core.Path.{_≡_};
-ghost use mathlib.Core.Bool.{true};
-ghost use Prim.Native.Nat.{_+_, _<_, _≤_, min, ℕ};
+ghost use mathlib.Core.Bool.{true, _&&_};
+ghost use Prim.Native.Nat.{_+_, _*_, _<_, _≤_, min, ℕ};
 ghost use mathlib.Core.List.{_++_};
 ghost use lib.ListN.{drop, getD, length, take};
-ghost use Rattle.model.specs.Line.{padded, unfinishedBy, zeros?};
+ghost use lib.Dec.{eqb};
+ghost use Rattle.model.specs.Line.{line?, padded, unfinishedBy, zeros?};
 ghost use Rattle.line.specs.Whole.{countedRight, wholeEnd, wholeItem};
 
 // The end of the whole items. An unfinished sequence has at most twelve bytes: where none of the last twelve is an ESC, nothing is looked at.
@@ -87,7 +88,7 @@ pub fn padded(rest: &[u8]) -> [u8; 12]
 }
 
 // Whether so many bytes, the first three of them these, are an unfinished sequence.
-pub fn begun(held: u8, first: u8, second: u8, third: u8) -> bool
+fn begun(held: u8, first: u8, second: u8, third: u8) -> bool
     ensures { λ r. ⌜ r ≡ unfinishedBy held first second third ⌝ }
 {
     if held == 0 {
@@ -103,14 +104,14 @@ pub fn begun(held: u8, first: u8, second: u8, third: u8) -> bool
 }
 
 // "at most 12", "no longer than the count", "up to 1,000,000,000".
-pub fn counted(held: u8, count: u32) -> bool
+fn counted(held: u8, count: u32) -> bool
     ensures { λ r. ⌜ r ≡ countedRight held count ⌝ }
 {
     (held <= 12) & (held as u32 <= count) & (count <= 1000000000)
 }
 
 // Whether the bytes that do not wait are 0.
-pub fn clean(waiting: [u8; 12], held: u8) -> bool
+fn clean(waiting: [u8; 12], held: u8) -> bool
     ensures { λ r. ⌜ r ≡ zeros? (drop held waiting) ⌝ }
 {
     let mut all = true;
@@ -120,4 +121,39 @@ pub fn clean(waiting: [u8; 12], held: u8) -> bool
         i += 1;
     }
     all
+}
+
+// "Waiting bytes are sound only as an unfinished sequence no longer than the count".
+pub fn sound(waiting: [u8; 12], held: u8, count: u32) -> bool
+    ensures { λ r. ⌜ r ≡ line? waiting held count ⌝ }
+{
+    let begun = begun(held, waiting[0], waiting[1], waiting[2]);
+    let counted = counted(held, count);
+    let clean = clean(waiting, held);
+    begun & counted & clean
+}
+
+// The same where none waits, which is what a message asks: short enough to be inlined into its call.
+pub fn quiet(waiting: [u8; 12], held: u8, count: u32) -> bool
+    ensures { λ r. ⌜ r ≡ (eqb held 0 && line? waiting held count) ⌝ }
+{
+    let blank = blank(waiting);
+    (held == 0) & (count <= 1000000000) & blank
+}
+
+// Whether all twelve are 0. Four are tested at once: a compiler reads a word as one number.
+fn blank(waiting: [u8; 12]) -> bool
+    ensures { λ r. ⌜ r ≡ zeros? waiting ⌝ }
+{
+    let first = word(waiting[0], waiting[1], waiting[2], waiting[3]);
+    let second = word(waiting[4], waiting[5], waiting[6], waiting[7]);
+    let third = word(waiting[8], waiting[9], waiting[10], waiting[11]);
+    (first == 0) & (second == 0) & (third == 0)
+}
+
+// Four bytes as one number.
+fn word(a: u8, b: u8, c: u8, d: u8) -> u32
+    ensures { λ r. ⌜ r ≡ a + 256 * b + 65536 * c + 16777216 * d ⌝ }
+{
+    a as u32 + 256 * (b as u32) + 65536 * (c as u32) + 16777216 * (d as u32)
 }

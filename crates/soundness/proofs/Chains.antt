@@ -1,8 +1,8 @@
 -- Comparisons joined from the left, as code joins them, are the test of a list of ranges, which joins pairs from the right.
-use mathlib.Core.Path.{_≡_, ap}
+use mathlib.Core.Path.{_∙_, _≡_, ap, refl, sym}
 use Prim.Native.Nat.{ℕ, _+_, _-_}
 use native.Mathlib.Omega.{arith}
-use mathlib.Core.Bool.{Bool, true, _&&_, and-assoc, and-true}
+use mathlib.Core.Bool.{Bool, true, false, _&&_, and-assoc, and-false, and-true}
 use mathlib.Core.List.{[], _∷_}
 use lib.ListN.{getD}
 use lib.Dec.{leb}
@@ -31,10 +31,17 @@ pub keys : (a b c d e f g h s i j k l m n o p t : Bool)
     ≡ ((a && b) && ((c && d) && ((e && f) && ((g && h) && (s && ((i && j) && ((k && l) && ((m && n) && ((o && p) && (t && true))))))))))
 keys a b c d e f g h s i j k l m n o p t = simp (and-assoc, and-true)
 
--- the whole test: two tests, four ranges and a test, three tests
-pub whole : (x y a b c d e f g h k u v l : Bool)
-    → (x && y && a && b && c && d && e && f && g && h && k && u && v && l) ≡ (true && (x && (y && (((a && b) && ((c && d) && ((e && f) && ((g && h) && k)))) && (u && (v && l))))))
-whole x y a b c d e f g h k u v l = simp and-assoc
+-- four ranges, and what is behind them
+plain : (a b c d e f g h k : Bool) → (a && b && c && d && e && f && g && h && k) ≡ ((a && b) && ((c && d) && ((e && f) && ((g && h) && k))))
+plain a b c d e f g h k = simp and-assoc
+
+-- the parts of the whole test, in the order in which they are asked and in that of the rules
+turn : (x y u v k l : Bool) → (x && ((y && (u && v)) && k && l)) ≡ (true && (x && (y && (k && (u && (v && l))))))
+turn false y u v k l = refl
+turn true false u v k l = refl
+turn true true false v k l = sym (and-false k)
+turn true true true false k l = sym (and-false k)
+turn true true true true k l = refl
 
 -- the same of the lists of ranges, over their numbers
 module _ (l1 l2 c1 c2 : ℕ) where
@@ -67,14 +74,38 @@ stored kind k s t e f =
     rw (← e, ← f) (keys (leb 0 kind) (leb kind 3) (leb 0 (getD (k .leds) 0 0)) (leb (getD (k .leds) 0 0) 1) (leb 0 (getD (k .leds) 1 0)) (leb (getD (k .leds) 1 0) 1) (leb 0 (getD (k .leds) 2 0)) (leb (getD (k .leds) 2 0) 1) s
     (leb 0 (k .strings)) (leb (k .strings) 1) (leb 0 (k .repeat)) (leb (k .repeat) 1) (leb 1 (k .delay)) (leb (k .delay) 127) (leb 1 (k .interval)) (leb (k .interval) 127) t)
 
--- the whole test, for settings whose arrays are of their types
-pub all : (s : Settings) (x y k u v l : Bool) → inRanges? (arrayRanges s) ≡ true → x ≡ inRanges? (shapeRanges (s .mode) (s .lines1) (s .lines2) (s .columns1) (s .columns2)) → y ≡ inRanges? (otherRanges (s .selected) (s .step) (height s))
-    → k ≡ inRanges? (keyRanges (s .kind) (s .keys)) → u ≡ inside? s 0 → v ≡ inside? s 1 → l ≡ line? (s .waiting) (s .held) (s .count)
-    → (x && y && leb 0 (s .tracking) && leb (s .tracking) 1 && leb 0 (s .secret) && leb (s .secret) 1 && leb 0 (s .cursor) && leb (s .cursor) 1 && leb 0 (s .display) && leb (s .display) 1 && k && u && v && l) ≡ sound? s
-unfolding sound? plainRanges inRanges? passes
-all s x y k u v l z a b c d e f =
-    rw (z, ← a, ← b, ← c, ← d, ← e, ← f)
-    (whole x y (leb 0 (s .tracking)) (leb (s .tracking) 1) (leb 0 (s .secret)) (leb (s .secret) 1) (leb 0 (s .cursor)) (leb (s .cursor) 1) (leb 0 (s .display)) (leb (s .display) 1) k u v l)
+pub plain-of : (s : Settings) (k : Bool) → k ≡ inRanges? (keyRanges (s .kind) (s .keys))
+    → (leb 0 (s .tracking) && leb (s .tracking) 1 && leb 0 (s .secret) && leb (s .secret) 1 && leb 0 (s .cursor) && leb (s .cursor) 1 && leb 0 (s .display) && leb (s .display) 1 && k) ≡ inRanges? (plainRanges s)
+unfolding plainRanges inRanges? passes
+plain-of s k e =
+    rw (← e) (plain (leb 0 (s .tracking)) (leb (s .tracking) 1) (leb 0 (s .secret)) (leb (s .secret) 1) (leb 0 (s .cursor)) (leb (s .cursor) 1) (leb 0 (s .display)) (leb (s .display) 1) k)
+
+-- the whole test by its parts
+module _ (s : Settings) where
+  abbrev shaped : Bool
+  shaped = inRanges? (shapeRanges (s .mode) (s .lines1) (s .lines2) (s .columns1) (s .columns2))
+
+  abbrev placed : Bool
+  placed = inRanges? (otherRanges (s .selected) (s .step) (height s)) && (inside? s 0 && inside? s 1)
+
+  -- not of its shape, whatever else
+  pub sound-shape : shaped ≡ false → sound? s ≡ false
+  unfolding sound?
+  sound-shape e = rw e (and-false (inRanges? (arrayRanges s)))
+
+  -- settings whose arrays are of their types: shape, places and what is only stored, the line
+  pub sound-of : (x q l : Bool) → inRanges? (arrayRanges s) ≡ true → x ≡ shaped → q ≡ (placed && inRanges? (plainRanges s)) → l ≡ line? (s .waiting) (s .held) (s .count) → (x && (q && l)) ≡ sound? s
+  unfolding sound?
+  sound-of x q l z e f g =
+      rw (z, e, f, g)
+      (turn shaped (inRanges? (otherRanges (s .selected) (s .step) (height s))) (inside? s 0) (inside? s 1) (inRanges? (plainRanges s)) (line? (s .waiting) (s .held) (s .count)))
+
+  -- the places or what is stored fail; both pass, and the line decides
+  pub sound-places : inRanges? (arrayRanges s) ≡ true → (placed && inRanges? (plainRanges s)) ≡ false → sound? s ≡ false
+  sound-places z f = sym (sound-of _ false _ z refl (sym f) refl) ∙ and-false shaped
+
+  pub sound-line : inRanges? (arrayRanges s) ≡ true → shaped ≡ true → (placed && inRanges? (plainRanges s)) ≡ true → sound? s ≡ line? (s .waiting) (s .held) (s .count)
+  sound-line z e f = sym (sound-of true true _ z (sym e) (sym f) refl)
 
 -- of settings whose H is known: H less one is what the code has
 module _ (s : Settings) (h : ℕ) (e : h ≡ height s) where

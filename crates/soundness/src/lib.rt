@@ -1,11 +1,12 @@
 // Number 3: whether settings are sound, "each in its range" (model's specs/Sound). One test for each list of ranges there, its
-// comparisons in the same order; the arrays' lengths are those of their types.
+// comparisons in the same order; the arrays' lengths are those of their types. A message call asks the parts one by one, every other caller the whole.
 ghost use mathlib.Core.Path.{_≡_};
+ghost use mathlib.Core.Bool.{true, _&&_};
 ghost use lib.ListN.{length};
 ghost use Prim.Native.Nat.{_+_, _-_};
 ghost use Rattle.model.specs.Checks.{inRanges?};
-ghost use Rattle.model.specs.Line.{line?};
-ghost use Rattle.model.specs.Sound.{shapeRanges, insideRanges, otherRanges, keyRanges, sound?};
+ghost use Rattle.model.specs.Screens.{height};
+ghost use Rattle.model.specs.Sound.{arrayRanges, inside?, insideRanges, keyRanges, otherRanges, plainRanges, shapeRanges, sound?};
 use model::Keys;
 use model::Place;
 use model::Settings;
@@ -104,41 +105,40 @@ fn keys_in_range(kind: u8, keys: Keys) -> bool
         & shifted
 }
 
-// P1: "Waiting bytes are sound only as an unfinished sequence no longer than the count"; the length is that of the type
-fn line_sound(waiting: [u8; 12], held: u8, count: u32) -> bool
-    ensures { λ r. ⌜ (r ≡ line? waiting held count) × (length waiting ≡ 12) ⌝ }
+// the modes' table, asked of settings
+pub fn shaped(settings: Settings) -> bool
+    ensures { λ r. ⌜ r ≡ inRanges? (shapeRanges (settings .mode) (settings .lines1) (settings .lines2) (settings .columns1) (settings .columns2)) ⌝ }
 {
-    let begun = line::begun(held, waiting[0], waiting[1], waiting[2]);
-    let counted = line::counted(held, count);
-    let clean = line::clean(waiting, held);
-    begun & counted & clean
-}
-
-// "Settings are sound exactly when each lies in the range that the rules give"
-pub fn sound(settings: Settings) -> bool
-    ensures { λ r. ⌜ r ≡ sound? settings ⌝ }
-{
-    let height = tables::height_of(settings.mode);
-    let less = height - 1;
-    let first = settings.places[0];
-    let second = settings.places[1];
-    let keys = settings.keys;
-    let shaped = shape(
+    shape(
         settings.mode,
         settings.lines1,
         settings.lines2,
         settings.columns1,
         settings.columns2,
-    );
+    )
+}
+
+// "cursors and windows are inside their screens, and step is 1 to H"; and the selection
+pub fn placed(settings: Settings) -> bool
+    ensures { λ r. ⌜ r ≡ (inRanges? (otherRanges (settings .selected) (settings .step) (height settings)) && (inside? settings 0 && inside? settings 1)) ⌝ }
+{
+    let height = tables::height_of(settings.mode);
+    let less = height - 1;
+    let first = settings.places[0];
+    let second = settings.places[1];
     let other = chosen(settings.selected, settings.step, height);
-    let stored = keys_in_range(settings.kind, keys);
     let one = inside(settings.lines1, settings.columns1, less, first);
     let two = inside(settings.lines2, settings.columns2, less, second);
-    let waiting = settings.waiting;
-    let lined = line_sound(waiting, settings.held, settings.count);
-    shaped
-        & other
-        & (0 <= settings.tracking)
+    other & (one & two)
+}
+
+// every setting whose range depends on no other; the arrays' lengths are those of their types
+pub fn stored(settings: Settings) -> bool
+    ensures { λ r. ⌜ (r ≡ inRanges? (plainRanges settings)) × (inRanges? (arrayRanges settings) ≡ true) ⌝ }
+{
+    let keys = settings.keys;
+    let ranged = keys_in_range(settings.kind, keys);
+    (0 <= settings.tracking)
         & (settings.tracking <= 1)
         & (0 <= settings.secret)
         & (settings.secret <= 1)
@@ -146,8 +146,17 @@ pub fn sound(settings: Settings) -> bool
         & (settings.cursor <= 1)
         & (0 <= settings.display)
         & (settings.display <= 1)
-        & stored
-        & one
-        & two
-        & lined
+        & ranged
+}
+
+// "Settings are sound exactly when each lies in the range that the rules give"
+pub fn sound(settings: Settings) -> bool
+    ensures { λ r. ⌜ r ≡ sound? settings ⌝ }
+{
+    let shaped = shaped(settings);
+    let placed = placed(settings);
+    let stored = stored(settings);
+    let waiting = settings.waiting;
+    let lined = line::sound(waiting, settings.held, settings.count);
+    shaped & (placed & stored & lined)
 }

@@ -17,7 +17,8 @@ pub fn stores_sized(cells: &[u8], layer: &[u8], shown: &[u8]) -> bool
     (cells.len() == CELLS) & ((layer.len() == LAYER) & (shown.len() == SHOWN))
 }
 
-// "Calls are checked in the order 1, 2, 3"; 16, "a whole message while bytes wait", is after 3: the number of a message call
+// "Calls are checked in the order 1, 2, 3"; 16, "a whole message while bytes wait", is after 3: the number of a message call.
+// 3 is asked part by part, and of a line on which none waits by its own short test: so the way of a message that is served is inlined.
 pub(crate) fn call_number(
     settings: Settings,
     message: &[u8],
@@ -29,8 +30,21 @@ pub(crate) fn call_number(
 {
     if stores_sized(cells, layer, shown) {
         if message.len() <= MESSAGE {
-            if soundness::sound(settings) {
-                if settings.held == 0 { 0 } else { 16 }
+            if soundness::shaped(settings) {
+                let placed = soundness::placed(settings);
+                let stored = soundness::stored(settings);
+                if placed & stored {
+                    let waiting = settings.waiting;
+                    if line::quiet(waiting, settings.held, settings.count) {
+                        0
+                    } else if line::sound(waiting, settings.held, settings.count) {
+                        16
+                    } else {
+                        3
+                    }
+                } else {
+                    3
+                }
             } else {
                 3
             }

@@ -23,11 +23,12 @@
 //!   digits fill the message; one of 1 byte is a single digit.
 //! - `pieces`: a weight drawn in short runs, 1 to 7 digits at a time, each
 //!   behind a carriage return.
-//! - Traces of keys: see `traces`.
 //! - Messages have just the length in the name. There are 64 of them for each
 //!   line (16 of 4,096 bytes), sent in turn.
 //!
-//! The lines of two screens side by side say their input in `screens`.
+//! The lines of two screens side by side say their input in `screens`, those
+//! of a stream's pieces and closings in `streams`, those of traces of keys in
+//! `traces`.
 //!
 //! A run sends them often enough to last some milliseconds. Each run starts
 //! from the same settings and stores; within a run nothing is cleared. The
@@ -44,6 +45,7 @@
 mod input;
 mod screens;
 mod side;
+mod streams;
 mod traces;
 #[cfg_attr(not(vterm), path = "no_vterm.rs")]
 mod vterm;
@@ -73,6 +75,7 @@ fn main() -> ExitCode {
     for (name, [ours, plain]) in screens::lines(&word) {
         println!("bench {name} ours {ours:.1} plain {plain:.1} ratio {:.2}", ours / plain);
     }
+    streams::bench(&word);
     traces::bench(&word);
     ExitCode::SUCCESS
 }
@@ -124,7 +127,7 @@ fn measure(case: &Case) -> Times {
         assert!(left.1.same_as(&right.1), "{}: the two sides differ", case.name());
         best = [best[0].min(left.0), best[1].min(right.0), best[2]];
         if let (Some(rounds), Some(vterm)) = (beside, vterm_at(case)) {
-            best[2] = best[2].min(timed(vterm, &messages, rounds).0);
+            best[2] = best[2].min(time(vterm, &messages, rounds));
         }
     }
     let each = |time: Duration, rounds: usize| time.as_nanos() as f64 / (rounds * messages.len()) as f64;
@@ -158,10 +161,14 @@ fn same_picture(case: &Case) -> bool {
 /// Doubles the rounds until a run is long enough to be measured.
 fn enough_rounds<T: Takes>(start: impl Fn() -> T, messages: &[Vec<u8>]) -> usize {
     let mut rounds = 1;
-    while timed(start(), messages, rounds).0 < SHORTEST_RUN {
+    while time(start(), messages, rounds) < SHORTEST_RUN {
         rounds *= 2;
     }
     rounds
+}
+
+fn time<T: Takes>(side: T, messages: &[Vec<u8>], rounds: usize) -> Duration {
+    timed(side, messages, rounds).0
 }
 
 fn timed<T: Takes>(mut side: T, messages: &[Vec<u8>], rounds: usize) -> (Duration, T) {

@@ -25,6 +25,23 @@ pub trait Calls: Clone {
         layer: &mut [u8],
         shown: &mut [u8],
     ) -> (Self::Settings, bool);
+
+    /// A piece, as a message.
+    fn piece(
+        settings: Self::Settings,
+        piece: &[u8],
+        cells: &mut [u8],
+        layer: &mut [u8],
+        shown: &mut [u8],
+    ) -> (Self::Settings, bool);
+
+    /// A closing, as an empty message.
+    fn closing(
+        settings: Self::Settings,
+        cells: &mut [u8],
+        layer: &mut [u8],
+        shown: &mut [u8],
+    ) -> (Self::Settings, bool);
 }
 
 /// The proved library.
@@ -46,6 +63,27 @@ impl Calls for Board {
         shown: &mut [u8],
     ) -> (px8::Settings, bool) {
         let (after, answer) = px8::message(settings, message, cells, layer, shown, &mut []);
+        (after, answer.number == 0 && answer.refused == 0)
+    }
+
+    fn piece(
+        settings: px8::Settings,
+        piece: &[u8],
+        cells: &mut [u8],
+        layer: &mut [u8],
+        shown: &mut [u8],
+    ) -> (px8::Settings, bool) {
+        let (after, answer) = px8::piece(settings, piece, cells, layer, shown, &mut []);
+        (after, answer.number == 0 && answer.refused == 0)
+    }
+
+    fn closing(
+        settings: px8::Settings,
+        cells: &mut [u8],
+        layer: &mut [u8],
+        shown: &mut [u8],
+    ) -> (px8::Settings, bool) {
+        let (after, answer) = px8::closing(settings, cells, layer, shown);
         (after, answer.number == 0 && answer.refused == 0)
     }
 }
@@ -71,11 +109,32 @@ impl Calls for Plain {
         let (after, answer) = tuned::message(settings, message, cells, layer, shown, &mut []);
         (after, answer.number == 0 && answer.refused == 0)
     }
+
+    fn piece(
+        settings: tuned::Settings,
+        piece: &[u8],
+        cells: &mut [u8],
+        layer: &mut [u8],
+        shown: &mut [u8],
+    ) -> (tuned::Settings, bool) {
+        let (after, answer) = tuned::piece(settings, piece, cells, layer, shown, &mut []);
+        (after, answer.number == 0 && answer.refused == 0)
+    }
+
+    fn closing(
+        settings: tuned::Settings,
+        cells: &mut [u8],
+        layer: &mut [u8],
+        shown: &mut [u8],
+    ) -> (tuned::Settings, bool) {
+        let (after, answer) = tuned::closing(settings, cells, layer, shown);
+        (after, answer.number == 0 && answer.refused == 0)
+    }
 }
 
 #[derive(Clone)]
 pub struct Side<C: Calls> {
-    settings: C::Settings,
+    pub settings: C::Settings,
     cells: [u8; 3840],
     layer: [u8; 1280],
     shown: [u8; 640],
@@ -95,15 +154,34 @@ impl<C: Calls> Side<C> {
         side
     }
 
+    pub fn piece(&mut self, piece: &[u8]) {
+        let Side { settings, cells, layer, shown, .. } = self;
+        let (after, clean) = C::piece(*settings, piece, cells, layer, shown);
+        self.settings = after;
+        self.clean &= clean;
+    }
+
+    /// Closes the stream that these settings hold.
+    pub fn closing(&mut self, settings: &C::Settings) {
+        let Side { cells, layer, shown, .. } = self;
+        let (after, clean) = C::closing(*settings, cells, layer, shown);
+        self.settings = after;
+        self.clean &= clean;
+    }
+
     /// Whether both did the same work: the input is meant to be accepted
     /// whole. Settings are compared by their text, field by field.
     pub fn same_as<D: Calls>(&self, other: &Side<D>) -> bool {
+        self.same_stores(other) && format!("{:?}", self.settings) == format!("{:?}", other.settings)
+    }
+
+    /// The same but for the settings.
+    pub fn same_stores<D: Calls>(&self, other: &Side<D>) -> bool {
         self.clean
             && other.clean
             && self.cells == other.cells
             && self.layer == other.layer
             && self.shown == other.shown
-            && format!("{:?}", self.settings) == format!("{:?}", other.settings)
     }
 }
 

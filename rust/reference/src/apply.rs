@@ -21,6 +21,11 @@ enum Tracking {
 }
 
 impl Standing<'_> {
+    /// The printer room left in this call.
+    pub fn room(&self) -> usize {
+        self.printer.len() - self.printed
+    }
+
     pub fn apply(&mut self, item: &Item) {
         match *item {
             Item::Printed(byte) => {

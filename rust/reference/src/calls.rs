@@ -7,7 +7,7 @@ use super::read::{read, Item};
 use super::settings::{Answer, Settings};
 use super::settings::{BLANK, CELLS, LAYER, LONGEST_MESSAGE, LONGEST_STREAM, OPENING, SHOWN};
 use super::sound::sound;
-use super::stream::{keep_waiting, stream_offset, unfinished, waits};
+use super::stream::Line;
 
 /// "It blanks (32) all cells and the shown screen, and zeroes the layer." A
 /// refused opening alters no store and returns the opening settings with 1.
@@ -52,14 +52,14 @@ pub fn uncut(
     printer: &mut [u8],
 ) -> (Settings, Answer) {
     let mut standing = Standing { settings, cells, layer, printer, printed: 0 };
-    let mut answer = serve(&mut standing, bytes, 0, End::Last).0;
+    let mut answer = serve(&mut standing, bytes);
     answer.taken = bytes.len() as u32;
     paint(&standing.settings, standing.cells, standing.layer, shown);
     (standing.settings, answer)
 }
 
-/// "a call for a piece (up to 4,096 bytes)": what waits is read before it,
-/// and what is unfinished at its end waits. "A piece takes all its bytes".
+/// "a call for a piece (up to 4,096 bytes)": byte after byte, from the
+/// sequence that waits on. "A piece takes all its bytes".
 pub fn piece(
     settings: Settings,
     piece: &[u8],
@@ -75,12 +75,16 @@ pub fn piece(
     if settings.count as usize + piece.len() > LONGEST_STREAM {
         return (settings, Answer { number: 15, ..Answer::default() });
     }
-    let line = [waits(&settings), piece].concat();
     let mut standing = Standing { settings, cells, layer, printer, printed: 0 };
-    let (mut answer, read) = serve(&mut standing, &line, stream_offset(&settings), End::MoreComes);
-    answer.taken = piece.len() as u32;
-    keep_waiting(&mut standing.settings, &line[read..]);
-    standing.settings.count += piece.len() as u32;
+    let mut answer = Answer { taken: piece.len() as u32, ..Answer::default() };
+    let mut line = Line::of(&settings);
+    for &byte in piece {
+        let room = standing.room();
+        if let Some((item, offset)) = line.take(byte, &standing.settings, room) {
+            obey(&mut standing, &mut answer, &item, offset);
+        }
+    }
+    line.leave(&mut standing.settings);
     paint(&standing.settings, standing.cells, standing.layer, shown);
     (standing.settings, answer)
 }
@@ -98,9 +102,11 @@ pub fn closing(
         return (settings, Answer { number, ..Answer::default() });
     }
     let mut standing = Standing { settings, cells, layer, printer: &mut [], printed: 0 };
-    let (answer, _) = serve(&mut standing, waits(&settings), stream_offset(&settings), End::Last);
-    keep_waiting(&mut standing.settings, &[]);
-    standing.settings.count = 0;
+    let mut answer = Answer::default();
+    if let Some((item, offset)) = Line::of(&settings).close() {
+        obey(&mut standing, &mut answer, &item, offset);
+    }
+    Line::of(&OPENING).leave(&mut standing.settings);
     paint(&standing.settings, standing.cells, standing.layer, shown);
     (standing.settings, answer)
 }
@@ -132,34 +138,25 @@ fn sizes_right(cells: &[u8], layer: &[u8], shown: &[u8]) -> bool {
     cells.len() == CELLS && layer.len() == LAYER && shown.len() == SHOWN
 }
 
-/// What the end of the bytes means.
-#[derive(PartialEq, Eq)]
-enum End {
-    /// nothing follows: a message's end, or the stream's
-    Last,
-    /// more may follow, so an unfinished sequence is no item yet
-    MoreComes,
-}
-
-/// Reads the bytes item by item, the first of them at offset `from`; each
-/// item is read with the settings that stand when its turn comes. Gives the
-/// counts, and how many bytes belong to an item.
-fn serve(standing: &mut Standing, bytes: &[u8], from: usize, end: End) -> (Answer, usize) {
+/// Reads the bytes item by item; each item is read with the settings that
+/// stand when its turn comes.
+fn serve(standing: &mut Standing, bytes: &[u8]) -> Answer {
     let mut answer = Answer::default();
     let mut offset = 0;
     while offset < bytes.len() {
         let rest = &bytes[offset..];
-        if end == End::MoreComes && unfinished(rest) {
-            break;
-        }
-        let room = standing.printer.len() - standing.printed;
-        let (item, length) = read(rest, &standing.settings, room);
-        standing.apply(&item);
-        count(&mut answer, &item, from + offset);
+        let (item, length) = read(rest, &standing.settings, standing.room());
+        obey(standing, &mut answer, &item, offset);
         offset += length;
     }
+    answer
+}
+
+/// Lets an item act, and adds it to the answer.
+fn obey(standing: &mut Standing, answer: &mut Answer, item: &Item, offset: usize) {
+    standing.apply(item);
     answer.printed = standing.printed;
-    (answer, offset)
+    count(answer, item, offset);
 }
 
 fn count(answer: &mut Answer, item: &Item, offset: usize) {

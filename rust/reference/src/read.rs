@@ -23,7 +23,7 @@ pub enum Item<'a> {
 }
 
 /// A refusal that names no parameter.
-fn refusal<'a>(number: u8) -> Item<'a> {
+pub fn refusal<'a>(number: u8) -> Item<'a> {
     Item::Refusal { number, parameter: 0 }
 }
 
@@ -32,8 +32,15 @@ fn refusal<'a>(number: u8) -> Item<'a> {
 pub fn read<'a>(rest: &'a [u8], settings: &Settings, room: usize) -> (Item<'a>, usize) {
     match rest[0] {
         ESC => read_sequence(rest, settings, room),
-        byte if byte >= 32 => (Item::Printed(byte), 1),
-        code => (Item::Code(code), 1),
+        byte => (alone(byte), 1),
+    }
+}
+
+/// A byte that is an item by itself: all but ESC.
+pub fn alone<'a>(byte: u8) -> Item<'a> {
+    match byte {
+        32..=255 => Item::Printed(byte),
+        code => Item::Code(code),
     }
 }
 
@@ -43,9 +50,8 @@ fn read_sequence<'a>(rest: &'a [u8], settings: &Settings, room: usize) -> (Item<
         return (refusal(12), 1);
     }
     let second = rest[1];
-    let Some(length) = length(second, rest.get(2).copied()) else {
-        return (refusal(10), 2);
-    };
+    // no byte behind one that is not in the list belongs to it
+    let length = length(second, rest.get(2).copied()).unwrap_or(2);
     // "At the very end of a message, 27, 209 means n = 0."
     if second == 209 && rest.len() == 2 {
         return (Item::Sequence { second, parameters: &[0] }, 2);
@@ -54,16 +60,24 @@ fn read_sequence<'a>(rest: &'a [u8], settings: &Settings, room: usize) -> (Item<
         return (refusal(12), rest.len());
     }
     let parameters = &rest[2..length];
+    (judged(second, parameters, settings, room), length)
+}
+
+/// What a sequence is whose bytes are all there, so that 12 is settled.
+pub fn judged<'a>(second: u8, parameters: &'a [u8], settings: &Settings, room: usize) -> Item<'a> {
+    if length(second, None).is_none() {
+        return refusal(10);
+    }
     if second == 208 && parameters[0] == 3 {
-        return (refusal(14), length);
+        return refusal(14);
     }
     if let Some(parameter) = first_bad(second, parameters, settings) {
-        return (Item::Refusal { number: 11, parameter }, length);
+        return Item::Refusal { number: 11, parameter };
     }
     if second == 80 && room < COPY {
-        return (refusal(13), length);
+        return refusal(13);
     }
-    (Item::Sequence { second, parameters }, length)
+    Item::Sequence { second, parameters }
 }
 
 /// "Lengths with ESC, by second byte"; none if the byte is not in the list.

@@ -2,8 +2,8 @@
 use mathlib.Core.Path.{_∙_, sym}
 use borrow.Author.Needs.{needs}
 use Rattle.model.specs.Calls.{piece, terminal}
-use Rattle.board.proofs.Pieces.{promised-not}
-use Rattle.board.proofs.Unsound.{line-refused}
+use Rattle.pieces.proofs.Pieces.{promised-not}
+use Rattle.pieces.proofs.Unsound.{line-refused}
 use Rattle.board.proofs.behind.Statement.{statement}
 use Rattle.board.proofs.behind.Tie as tie
 

@@ -8,11 +8,11 @@ use lib.Seq.{length-take-le}
 use borrow.Author.Needs.{needs}
 use Rattle.model.specs.Calls.{terminal}
 use Rattle.model.proofs.Printing.{buffer-length}
-use Rattle.soundness.proofs.Arrays.{unmapped}
-use Rattle.board.proofs.Ends.{Ended, Rest, array-long, ended, rest-ended}
-use Rattle.board.proofs.Piecing.{addable, behind-few, both-near, both-served, first-fits, first-refused}
-use Rattle.board.proofs.Quiet.{by-quiet}
-use Rattle.board.proofs.Refusals.{Told, told, told-few, told-line}
+use Rattle.line.proofs.Arrays.{unmapped}
+use Rattle.pieces.proofs.Ends.{Ended, Rest, array-long, ended, rest-ended}
+use Rattle.pieces.proofs.Piecing.{addable, behind-few, both-near, both-served, first-fits, first-refused}
+use Rattle.pieces.proofs.Quiet.{by-quiet}
+use Rattle.pieces.proofs.Refusals.{Told, told, told-few, told-line}
 use Rattle.board.proofs.divided.Statement.{statement}
 use Rattle.board.proofs.divided.Tie as tie
 

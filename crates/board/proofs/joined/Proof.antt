@@ -7,11 +7,11 @@ use lib.ListN.{length}
 use lib.Seq.{length-take-le}
 use borrow.Author.Needs.{needs}
 use Rattle.model.specs.Calls.{terminal}
-use Rattle.soundness.proofs.Arrays.{unmapped}
-use Rattle.board.proofs.Ends.{Ended, array-long, ended}
-use Rattle.board.proofs.Piecing.{first-near, first-refused, one-served, rest-few}
-use Rattle.board.proofs.Quiet.{by-quiet}
-use Rattle.board.proofs.Refusals.{Told, told, told-line}
+use Rattle.line.proofs.Arrays.{unmapped}
+use Rattle.pieces.proofs.Ends.{Ended, array-long, ended}
+use Rattle.pieces.proofs.Piecing.{first-near, first-refused, one-served, rest-few}
+use Rattle.pieces.proofs.Quiet.{by-quiet}
+use Rattle.pieces.proofs.Refusals.{Told, told, told-line}
 use Rattle.board.proofs.joined.Statement.{statement}
 use Rattle.board.proofs.joined.Tie as tie
 

@@ -4,8 +4,8 @@ use mathlib.Core.Bool.{false}
 use lib.ListN.{length}
 use borrow.Author.Needs.{needs}
 use Rattle.model.specs.Calls.{terminal}
-use Rattle.soundness.proofs.Arrays.{unmapped}
-use Rattle.board.proofs.Refusals.{over-limit, over-unsound, told}
+use Rattle.line.proofs.Arrays.{unmapped}
+use Rattle.pieces.proofs.Refusals.{over-limit, over-unsound, told}
 use Rattle.board.proofs.over.Statement.{statement}
 use Rattle.board.proofs.over.Tie as tie
 

@@ -6,10 +6,10 @@ use lib.Seq.{length-take-le}
 use borrow.Author.Needs.{needs}
 use Rattle.model.specs.Line.{LineSound}
 use Rattle.model.specs.Calls.{terminal}
-use Rattle.soundness.proofs.Arrays.{unmapped}
-use Rattle.board.specs.Parts.{closingNumber}
-use Rattle.board.proofs.Closing.{closing-by, closing-near, closing-not, closing-served, closing-sound}
-use Rattle.board.proofs.Quiet.{by-quiet}
+use Rattle.line.proofs.Arrays.{unmapped}
+use Rattle.pieces.specs.Parts.{closingNumber}
+use Rattle.pieces.proofs.Closing.{closing-by, closing-near, closing-not, closing-served, closing-sound}
+use Rattle.pieces.proofs.Quiet.{by-quiet}
 use Rattle.board.proofs.px8_closing.Statement.{statement}
 use Rattle.board.proofs.px8_closing.Tie as tie
 

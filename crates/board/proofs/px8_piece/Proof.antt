@@ -4,7 +4,7 @@ use native.Mathlib.Omega.{arith}
 use lib.Seq.{length-take-le}
 use borrow.Author.Needs.{needs}
 use borrow.Author.Tests.{not-false}
-use Rattle.board.proofs.PlainPiece.{Plain, plain-end, plain-near, plain-refused, plain-rest, plain-served}
+use Rattle.pieces.proofs.PlainPiece.{Plain, plain-end, plain-near, plain-refused, plain-rest, plain-served, plain-whole}
 use Rattle.board.proofs.px8_piece.Statement.{statement}
 use Rattle.board.proofs.px8_piece.Tie as tie
 
@@ -31,29 +31,40 @@ returns-2 c =
 cast-taken : tie.Need-cast-taken
 cast-taken c = let asked = c .before .before .before .before .before .before .before .before .before .before in omega (arith, plain (found asked) .few)
 
-sub-lined : tie.Need-sub-lined
-sub-lined c = let asked = c .before .before .before .before .before .before .before .before .before .before in plain-end (plain (found asked))
-
-part-lined-start : tie.Need-part-lined-start
-part-lined-start c = let asked = c .before .before .before .before .before .before .before .before .before .before in plain-end (plain (found asked))
-
-add-lined : tie.Need-add-lined
-add-lined c = let asked = c .before .before .before .before .before .before .before .before .before .before .before in omega (arith, plain (found asked))
-
-lined-requires : tie.Need-lined-requires
-lined-requires c κs = let asked = c .before .before .before .before .before .before .before .before .before .before .before in plain-rest (plain (found asked))
+add-reached : tie.Need-add-reached
+add-reached c = let asked = c .before .before .before .before .before .before .before .before .before .before .before in omega (arith, plain (found asked))
 
 counted-from-requires : tie.Need-counted-from-requires
 counted-from-requires c κs =
-    let asked = c .before .before .before .before .before .before .before .before .before .before .before .before in
+    let asked = c .before .before .before .before .before .before .before .before .before .before .before in
     let a = first (found asked) .args in
     omega (arith, plain-near (plain (found asked)) (a .cells .now) (a .layer .now) (a .shown .now) (a .printer .now) _ _ _ _ _ _ (asked .px8-message .ensures))
 
+lined-requires : tie.Need-lined-requires
+lined-requires c κs =
+    let asked = c .before .before .before .before .before .before .before .before .before .before .before .before .before .before in
+    plain-rest (plain (found asked))
+
+same-length-9 : tie.Need-same-length-9
+same-length-9 c =
+    let asked = c .before .before .before .before .before .before .before .before .before .before .before .before .before .before .before in
+    omega (arith, asked .px8-message .kept)
+
 returns-3 : tie.Need-returns-3
 returns-3 c =
-    let asked = c .before .before .before .before .before .before .before .before .before .before .before .before .before in
+    let counted = c .before .before .before in
+    let answered = counted .before .before in
+    let asked = answered .before .before .before .before .before .before .before .before .before .before in
     let a = first (found asked) .args in
-    plain-served (plain (found asked)) (a .cells .now) (a .layer .now) (a .shown .now) (a .printer .now) _ _ _ _ _ _ (asked .px8-message .ensures) (omega (arith, c .before .before .before .if2)) _ _ (c .counted-from .ensures) (c .before .lined .ensures)
+    plain-served (plain (found asked)) (a .cells .now) (a .layer .now) (a .shown .now) (a .printer .now) _ _ _ _ _ _ (asked .px8-message .ensures) (omega (arith, answered .if2)) _ _ (counted .counted-from .ensures) (c .lined .ensures)
+
+returns-4 : tie.Need-returns-4
+returns-4 c =
+    let counted = c .before .before in
+    let answered = counted .before .before in
+    let asked = answered .before .before .before .before .before .before .before .before .before .before in
+    let a = first (found asked) .args in
+    plain-whole (plain (found asked)) (a .cells .now) (a .layer .now) (a .shown .now) (a .printer .now) _ _ _ _ _ _ (asked .px8-message .ensures) (omega (arith, answered .if2)) (omega (arith, c .before .if3)) _ (counted .counted-from .ensures)
 
 pub px8-piece-spec : {M : Type 1} → statement M
 px8-piece-spec =
@@ -75,14 +86,19 @@ px8-piece-spec =
     (λ c. search needs)
     returns-2
     cast-taken
-    sub-lined
-    part-lined-start
-    (λ c. search needs)
-    add-lined
-    lined-requires
+    add-reached
     counted-from-requires
     (λ c. search needs)
     (λ c. search needs)
     (λ c. search needs)
+    lined-requires
+    same-length-9
     (λ c. search needs)
-    returns-3)
+    (λ c. search needs)
+    (λ c. search needs)
+    returns-3
+    (λ c. search needs)
+    (λ c. search needs)
+    (λ c. search needs)
+    (λ c. search needs)
+    returns-4)

@@ -14,8 +14,8 @@ pub const BREAKS: &[Break] = &[
         "if settings.secret == 1 {",
         "if settings.secret == 1 && layer[at] == 0 {"),
     entry("refused-208-blanks-the-screen", "calls.rs",
-        "standing.apply(&item);",
-        "standing.apply(&item);
+        "let (item, length) = read(rest, &standing.settings, standing.room());",
+        "let (item, length) = read(rest, &standing.settings, standing.room());
         if matches!(item, Item::Refusal { .. }) && rest.get(1) == Some(&208) {
             standing.cells.fill(BLANK);
         }"),
@@ -48,8 +48,8 @@ pub const BREAKS: &[Break] = &[
             room[at] ^= 1;
         }"),
     entry("13-judged-before-11", "read.rs",
-        "return (Item::Refusal { number: 11, parameter }, length);",
-        "return (if room < COPY { refusal(13) } else { Item::Refusal { number: 11, parameter } }, length);"),
+        "return Item::Refusal { number: 11, parameter };",
+        "return if room < COPY { refusal(13) } else { Item::Refusal { number: 11, parameter } };"),
     entry("offset-of-the-last-refusal", "calls.rs",
         "if answer.first == 0 {",
         "answer.offset = offset as u32;
@@ -110,9 +110,9 @@ pub const BREAKS: &[Break] = &[
     entry("copy-keeps-codes-below-32", "picture.rs",
         "picture(settings, cells, layer, row, column).max(BLANK);",
         "picture(settings, cells, layer, row, column);"),
-    entry("second-copy-judged-by-the-whole-buffer", "calls.rs",
-        "let room = standing.printer.len() - standing.printed;",
-        "let room = standing.printer.len();"),
+    entry("second-copy-judged-by-the-whole-buffer", "apply.rs",
+        "self.printer.len() - self.printed",
+        "self.printer.len()"),
     entry("shift-arrows-in-the-place-of-ctrl-arrows", "apply.rs",
         "244 => keys.arrows[4..8]",
         "244 => keys.arrows[8..12]"),

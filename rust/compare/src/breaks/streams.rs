@@ -6,35 +6,79 @@ use super::{entry, Break};
 pub const BREAKS: &[Break] = &[
     // what waits
     entry("209-at-a-pieces-end-selects-0", "calls.rs",
-        "if end == End::MoreComes && unfinished(rest) {",
-        "if end == End::MoreComes && unfinished(rest) && rest != [27, 209] {"),
+        "line.leave(&mut standing.settings);",
+        "line.leave(&mut standing.settings);
+    if line.open() == [27, 209] {
+        obey(&mut standing, &mut answer, &Item::Sequence { second: 209, parameters: &[0] }, 0);
+        standing.settings.waiting = [0; 12];
+        standing.settings.held = 0;
+    }"),
     entry("only-a-lone-escape-waits", "calls.rs",
-        "if end == End::MoreComes && unfinished(rest) {",
-        "if end == End::MoreComes && rest == [27] {"),
+        "line.leave(&mut standing.settings);",
+        "line.leave(&mut standing.settings);
+    if let Some((item, offset)) = line.close().filter(|_| line.open().len() > 1) {
+        obey(&mut standing, &mut answer, &item, offset);
+        standing.settings.waiting = [0; 12];
+        standing.settings.held = 0;
+    }"),
     entry("208-with-mode-3-waits", "stream.rs",
-        "is_some_and(|whole| bytes.len() < whole)",
-        "is_some_and(|whole| bytes.len() < whole || *bytes == [ESC, 208, 3])"),
-    entry("escape-escape-waits", "stream.rs", "[ESC] => true,", "[ESC] | [ESC, ESC] => true,"),
-    entry("dirty-tail-left", "stream.rs", "s.waiting = [0; LONGEST_WAIT];", ""),
+        "Next::Mode => Next::parameters(",
+        "Next::Mode if byte == 3 => Next::parameters(1),
+            Next::Mode => Next::parameters("),
+    entry("escape-escape-waits", "stream.rs",
+        "Next::Second if byte == 208 => Next::Mode,",
+        "Next::Second if byte == 208 => Next::Mode,
+            Next::Second if byte == ESC => Next::Second,"),
+    entry("escape-in-a-parameter-opens-a-sequence", "stream.rs",
+        "Next::Parameter { behind } => Next::parameters(behind),",
+        "Next::Parameter { .. } if byte == ESC => Next::Second,
+            Next::Parameter { behind } => Next::parameters(behind),"),
+    entry("parameters-of-a-waiting-208-by-mode-1", "stream.rs",
+        "bytes.iter().try_fold(Next::First, |next, &byte| {",
+        "bytes.iter().try_fold(Next::First, |next, &byte| {
+            let byte = if next == Next::Mode && byte < 3 { 1 } else { byte };"),
+    entry("dirty-tail-left", "stream.rs", "settings.waiting = [0; LONGEST_WAIT];", ""),
     entry("waiting-bytes-lost-by-an-empty-piece", "calls.rs",
-        "let line = [waits(&settings), piece].concat();",
-        "let line = if piece.is_empty() { Vec::new() } else { [waits(&settings), piece].concat() };"),
+        "line.leave(&mut standing.settings);",
+        "line.leave(&mut standing.settings);
+    if piece.is_empty() {
+        standing.settings.waiting = [0; 12];
+        standing.settings.held = 0;
+    }"),
     // offsets and counts
     entry("offset-within-the-piece", "calls.rs",
-        "serve(&mut standing, &line, stream_offset(&settings), End::MoreComes);",
-        "serve(&mut standing, &line, 0, End::MoreComes);"),
-    entry("offset-from-the-count", "stream.rs", "s.count as usize - usize::from(s.held)", "s.count as usize"),
+        "if let Some((item, offset)) = line.take(byte, &standing.settings, room) {",
+        "if let Some((item, offset)) = line.take(byte, &standing.settings, room) {
+            let offset = offset + usize::from(settings.held) - settings.count as usize;"),
+    entry("offset-of-an-items-last-byte", "stream.rs",
+        "Some((item, self.count - self.bytes.len()))
+    }
+
+    /// The open sequence's bytes.",
+        "Some((item, self.count - 1))
+    }
+
+    /// The open sequence's bytes."),
+    entry("offset-from-the-count", "calls.rs",
+        "if let Some((item, offset)) = line.take(byte, &standing.settings, room) {",
+        "if let Some((item, offset)) = line.take(byte, &standing.settings, room) {
+            let offset = offset.max(settings.count as usize);"),
     entry("offset-of-closing-from-0", "calls.rs",
-        "serve(&mut standing, waits(&settings), stream_offset(&settings), End::Last);",
-        "serve(&mut standing, waits(&settings), 0, End::Last);"),
-    entry("taken-from-items", "calls.rs", "answer.taken = piece.len() as u32;", "answer.taken = read as u32;"),
+        "if let Some((item, offset)) = Line::of(&settings).close() {",
+        "if let Some((item, offset)) = Line::of(&settings).close() {
+        let offset = 0;"),
+    entry("taken-from-items", "calls.rs",
+        "line.leave(&mut standing.settings);",
+        "line.leave(&mut standing.settings);
+    answer.taken += u32::from(settings.held);
+    answer.taken -= line.open().len() as u32;"),
     entry("closing-takes-what-waits", "calls.rs",
-        "let (answer, _) = serve(&mut standing, waits(&settings), stream_offset(&settings), End::Last);",
-        "let (mut answer, taken) = serve(&mut standing, waits(&settings), stream_offset(&settings), End::Last);
-    answer.taken = taken as u32;"),
-    entry("count-without-what-waits", "calls.rs",
-        "standing.settings.count += piece.len() as u32;",
-        "standing.settings.count = (stream_offset(&settings) + read) as u32;"),
+        "Line::of(&OPENING).leave(&mut standing.settings);",
+        "Line::of(&OPENING).leave(&mut standing.settings);
+    answer.taken = u32::from(settings.held);"),
+    entry("count-without-what-waits", "stream.rs",
+        "settings.count = self.count as u32;",
+        "settings.count = (self.count - self.open().len()) as u32;"),
     entry("message-resets-the-count", "calls.rs",
         "answer.taken = bytes.len() as u32;",
         "answer.taken = bytes.len() as u32;
@@ -46,22 +90,25 @@ pub const BREAKS: &[Break] = &[
     entry("208-resets-the-count", "apply.rs", "settings.step = 1;", "settings.step = 1;
         settings.count = 0;"),
     // closing
-    entry("closing-keeps-the-bytes", "calls.rs", "keep_waiting(&mut standing.settings, &[]);", ""),
-    entry("closing-keeps-the-count", "calls.rs", "standing.settings.count = 0;", ""),
-    entry("closing-refuses-209-by-12", "calls.rs",
-        "serve(&mut standing, waits(&settings), stream_offset(&settings), End::Last);",
-        "serve(&mut standing, &waits(&settings)[..usize::from(settings.held).min(1)], stream_offset(&settings), End::Last);"),
-    entry("closing-forgets-without-12", "calls.rs",
-        "serve(&mut standing, waits(&settings), stream_offset(&settings), End::Last);",
-        "serve(&mut standing, if waits(&settings) == [27, 209] { &[27, 209] } else { &[] }, stream_offset(&settings), End::Last);"),
-    entry("closing-not-painted", "calls.rs",
-        "standing.settings.count = 0;
-    paint(&standing.settings, standing.cells, standing.layer, shown);",
+    entry("closing-keeps-the-bytes", "calls.rs",
+        "Line::of(&OPENING).leave(&mut standing.settings);",
         "standing.settings.count = 0;"),
-    entry("empty-piece-not-painted", "calls.rs",
-        "standing.settings.count += piece.len() as u32;
+    entry("closing-keeps-the-count", "calls.rs",
+        "Line::of(&OPENING).leave(&mut standing.settings);",
+        "Line::of(&OPENING).leave(&mut standing.settings);
+    standing.settings.count = settings.count;"),
+    entry("closing-refuses-209-by-12", "stream.rs",
+        "[_, 209] => Item::Sequence { second: 209, parameters: &[0] },",
+        ""),
+    entry("closing-forgets-without-12", "stream.rs", "_ => refusal(12),", "_ => return None,"),
+    entry("closing-not-painted", "calls.rs",
+        "Line::of(&OPENING).leave(&mut standing.settings);
     paint(&standing.settings, standing.cells, standing.layer, shown);",
-        "standing.settings.count += piece.len() as u32;
+        "Line::of(&OPENING).leave(&mut standing.settings);"),
+    entry("empty-piece-not-painted", "calls.rs",
+        "line.leave(&mut standing.settings);
+    paint(&standing.settings, standing.cells, standing.layer, shown);",
+        "line.leave(&mut standing.settings);
     if !piece.is_empty() {
         paint(&standing.settings, standing.cells, standing.layer, shown);
     }"),
@@ -89,5 +136,5 @@ pub const BREAKS: &[Break] = &[
     entry("dirty-tail-taken", "stream.rs", "&& behind.iter().all(|&byte| byte == 0)", ""),
     entry("waiting-past-the-count-taken", "stream.rs", "|| held > count", ""),
     entry("count-past-its-limit-taken", "stream.rs", "|| count > LONGEST_STREAM", ""),
-    entry("any-bytes-wait", "stream.rs", "(waiting.is_empty() || unfinished(waiting)) &&", ""),
+    entry("any-bytes-wait", "stream.rs", "Next::after_open(waiting).is_some() &&", ""),
 ];

@@ -1,6 +1,4 @@
 -- `apart` meets its contract by its tests.
-use mathlib.Core.Path.{ap}
-use mathlib.Core.Bool.{not}
 use borrow.Author.Needs.{needs}
 use borrow.Author.Tests.{eq-eqb, ne-eqb}
 use Rattle.glass.specs.Drawing.{apart}
@@ -15,4 +13,4 @@ apart-spec =
     (λ c. rw (eq-eqb _ _ (c .if1 .taken)))
     (λ c. search needs)
     (λ c κs. search needs)
-    (λ c. rw (ne-eqb _ _ (c .before .if1 .left)) (ap not (c .changed .ensures))))
+    (λ c. rw (ne-eqb _ _ (c .before .if1 .left), c .changed .ensures)))

@@ -1,5 +1,6 @@
--- `draw` meets its contract: in each turn, what is drawn, with what is left to be drawn behind it, is the whole.
-use mathlib.Core.Path.{_≡_, refl, sym}
+-- `draw` meets its contract: in each turn, what is drawn, with what is left to be drawn behind it, is the whole; what a terminal shows then is
+-- Seen's law.
+use mathlib.Core.Path.{_≡_, refl, subst, sym}
 use Prim.Native.Nat.{_*_, _-_, _≤_, ℕ}
 use native.Mathlib.Omega.{arith}
 use mathlib.Core.List.{_++_}
@@ -7,6 +8,8 @@ use lib.ListN.{length, length-replicate, take}
 use lib.Seq.{length-take-le}
 use borrow.Author.Needs.{needs}
 use Rattle.glass.specs.Drawing.{bytesOf, strokes, strokesFrom}
+use Rattle.glass.specs.Seen.{Redraws}
+use Rattle.glass.proofs.Seen.{redraws}
 use Rattle.glass.proofs.Strokes.{ended, turn}
 use Rattle.glass.proofs.drawing.draw.Statement.{statement}
 use Rattle.glass.proofs.drawing.draw.Tie as tie
@@ -34,8 +37,10 @@ returns : tie.Need-returns Inv-loop μ-loop
 returns c =
     let l = c .before .loop in
     let a = c .before .before .args in
+    let all = ended (a .old .now) (a .new .now) (l .p) (l .length) (l .bytes) (l .inv .3) (omega arith) in
     record {
-      bytes-are = ended (a .old .now) (a .new .now) (l .p) (l .length) (l .bytes) (l .inv .3) (omega arith);
+      bytes-are = all;
+      seen = subst (Redraws (a .old .now) (a .new .now)) (sym all) (redraws (a .old .now) (a .new .now));
       counts = (omega arith, sym (length-take-le (l .length) (l .bytes) (omega arith)));
     }
 

@@ -1,0 +1,58 @@
+-- The numbers that a line and a length tell before the settings are judged whole: one that is neither 0 nor 15 is the call's own, since a line that is
+-- not sound makes the settings unsound.
+use mathlib.Core.Path.{_∙_, _≡_, ap, refl, sym}
+use Prim.Native.Nat.{ℕ}
+use native.Mathlib.Omega.{arith}
+use mathlib.Core.Bool.{Bool, _&&_, and-false, false, true}
+use mathlib.Core.List.{List, [], _∷_}
+use Rattle.model.specs.declared.Settings.{Settings}
+use Rattle.model.specs.Checks.{inRanges?}
+use Rattle.model.specs.Line.{line?}
+use Rattle.model.specs.Screens.{height}
+use Rattle.model.specs.Sound.{arrayRanges, inside?, otherRanges, plainRanges, shapeRanges, sound?}
+use Rattle.model.specs.Calls.{Terminal, closing, countable, firstOf, piece, reason, reasons, short, sized, soundIn}
+use Rattle.pieces.specs.Parts.{closingNumber, lineNumber}
+use Rattle.pieces.proofs.Refusals.{closing-numbered, line-numbered}
+
+module _ (t : Terminal) where
+  abbrev s : Settings
+  s = t .state .settings
+
+  abbrev line : Bool
+  line = line? (s .waiting) (s .held) (s .count)
+
+  unsound : line ≡ false → soundIn t ≡ false
+  unfolding soundIn sound?
+  unsound e =
+      ap (λ (b : Bool). inRanges? (arrayRanges s) && (inRanges? (shapeRanges (s .mode) (s .lines1) (s .lines2) (s .columns1) (s .columns2))
+      && (inRanges? (otherRanges (s .selected) (s .step) (height s)) && (inRanges? (plainRanges s) && (inside? s 0 && (inside? s 1 && b)))))) e ∙ simp and-false
+
+  -- a piece
+  pub line-refused : (m : List ℕ) → (lineNumber t m ≡ 0 → ⊥) → (lineNumber t m ≡ 15 → ⊥) → lineNumber t m ≡ firstOf (reasons t (piece m))
+  unfolding reasons firstOf
+  line-refused m z y = go (sized t) (short m) line (countable s m) refl refl refl refl
+    where
+      go : (a b c d : Bool) → sized t ≡ a → short m ≡ b → line ≡ c → countable s m ≡ d → lineNumber t m ≡ firstOf (reasons t (piece m))
+      go true true true true p q r v = absurd (z (line-numbered t m true true true true p q r v))
+      go true true true false p q r v = absurd (y (line-numbered t m true true true false p q r v))
+      go true true false d p q r v = line-numbered t m true true false d p q r v ∙ (λ i. firstOf (reason 1 (sym p i) ∷ reason 2 (sym q i) ∷ reason 3 (sym (unsound r) i) ∷ reason 15 (countable s m) ∷ []))
+      go true false c d p q r v = line-numbered t m true false c d p q r v ∙ (λ i. firstOf (reason 1 (sym p i) ∷ reason 2 (sym q i) ∷ reason 3 (soundIn t) ∷ reason 15 (countable s m) ∷ []))
+      go false b c d p q r v = line-numbered t m false b c d p q r v ∙ (λ i. firstOf (reason 1 (sym p i) ∷ reason 2 (short m) ∷ reason 3 (soundIn t) ∷ reason 15 (countable s m) ∷ []))
+
+  -- the closing, and its number 0
+  pub closing-refused : (closingNumber t ≡ 0 → ⊥) → closingNumber t ≡ firstOf (reasons t closing)
+  unfolding reasons firstOf
+  closing-refused z = go (sized t) line refl refl
+    where
+      go : (a b : Bool) → sized t ≡ a → line ≡ b → closingNumber t ≡ firstOf (reasons t closing)
+      go true true p q = absurd (z (closing-numbered t true true p q))
+      go true false p q = closing-numbered t true false p q ∙ (λ i. firstOf (reason 1 (sym p i) ∷ reason 3 (sym (unsound q) i) ∷ []))
+      go false b p q = closing-numbered t false b p q ∙ (λ i. firstOf (reason 1 (sym p i) ∷ reason 3 (soundIn t) ∷ []))
+
+  pub closing-line : closingNumber t ≡ 0 → line ≡ true
+  closing-line e = go (sized t) line refl refl
+    where
+      go : (a b : Bool) → sized t ≡ a → line ≡ b → line ≡ true
+      go true true p q = q
+      go true false p q = absurd (omega (arith, closing-numbered t true false p q))
+      go false b p q = absurd (omega (arith, closing-numbered t false b p q))
