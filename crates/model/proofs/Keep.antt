@@ -39,14 +39,23 @@ shaped-height (mode0 m p q a b c) = rw m (omega arith)
 shaped-height (mode1 n p q a b c) = rw n (omega arith)
 shaped-height (mode2 n p q e a b c) = rw n (omega arith)
 
--- H is 8, or twice that in mode 1
+-- the rows that show text are seven or eight; only these two proofs know the rule
+pub rows-low : (s : Settings) → 7 ≤ textRows s
+unfolding textRows
+rows-low s = omega arith
+
+pub rows-high : (s : Settings) → textRows s ≤ 8
+unfolding textRows
+rows-high s = omega arith
+
+-- H is these rows, or twice them in mode 1
 pub height-low : (s : Settings) → 7 ≤ height s
-unfolding height textRows
-height-low s = cond-at (λ (n : ℕ). 7 ≤ n) (eqb (s .mode) 1) _ _ (λ e. omega arith) (λ e. omega arith)
+unfolding height
+height-low s = cond-at (λ (n : ℕ). 7 ≤ n) (eqb (s .mode) 1) (2 * textRows s) (textRows s) (λ e. omega (arith, rows-low s)) (λ e. rows-low s)
 
 pub height-high : (s : Settings) → height s ≤ cond (eqb (s .mode) 1) 16 8
-unfolding height textRows
-height-high s = cond₂ _≤_ (eqb (s .mode) 1) (eqb (s .mode) 1) (2 * textRows s) (textRows s) 16 8 refl (λ e. omega arith) (λ e. omega arith)
+unfolding height
+height-high s = cond₂ _≤_ (eqb (s .mode) 1) (eqb (s .mode) 1) (2 * textRows s) (textRows s) 16 8 refl (λ e. omega (arith, rows-high s)) (λ e. rows-high s)
 
 pub data Apart (b n b′ n′ : ℕ) : Type 0 where
   earlier : b + n ≤ b′ → Apart b n b′ n′

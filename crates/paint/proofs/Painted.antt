@@ -8,7 +8,7 @@ use lib.ListN.{getD, getD-replicate, length, replicate, set}
 use lib.Seq.{ext-getD}
 use Rattle.model.specs.Bytes.{listFrom, put}
 use Rattle.model.proofs.ByteLaws.{getD-listFrom, length-listFrom, same-listFrom}
-use Rattle.store.proofs.Laws.{put-inside, put-more, put-none, put-over, put-then}
+use Rattle.store.proofs.Laws.{put-all, put-inside, put-more, put-none, put-over, put-then}
 use Rattle.paint.specs.Painted.{laid, marked, painted}
 
 -- n bytes and m behind them
@@ -45,6 +45,13 @@ module _ (a : ℕ) (f : ℕ → ℕ) (xs : List ℕ) where
   painted-next n m k {b} {l} e e′ g h w =
       let size : length (listFrom f a n) ≡ n = length-listFrom f a n in
       e′ ∙ put-then a (listFrom f a n) xs (omega arith) b (listFrom f b m) e (omega arith) ∙ rw (g, ← w, listFrom-then f a n m)
+
+-- all places with what stands there
+pub painted-same : (n : ℕ) (xs : List ℕ) → length xs ≡ n → xs ≡ painted 0 n (λ p. getD xs p 0) xs
+unfolding painted
+painted-same n xs e =
+    let f : ℕ → ℕ = λ (p : ℕ). getD xs p 0 in
+    listed f 0 n xs e (λ k l. ap f (sym (zero-add k))) ∙ sym (put-all (listFrom f 0 n) xs (length-listFrom f 0 n ∙ sym e))
 
 -- the layer laid over places that are painted
 module _ (a n : ℕ) (f : ℕ → ℕ) (layer xs : List ℕ) (fits : a + n ≤ length xs) where

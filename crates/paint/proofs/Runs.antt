@@ -8,7 +8,9 @@ use lib.ListN.{drop, getD, getD-replicate, length, length-drop, length-replicate
 use borrow.Author.Tests.{le-ltb, lt-ltb}
 use Rattle.model.specs.Bytes.{put}
 use Rattle.model.proofs.ByteLaws.{getD-part}
+use Rattle.model.proofs.Keep.{lines-inside}
 use Rattle.store.proofs.Laws.{lent-filled}
+use Rattle.paint.specs.declared.view.Pane.{Pane}
 use Rattle.paint.specs.declared.view.View.{View}
 use Rattle.paint.specs.Panes.{Framed, Line, across, cellIn, seen}
 use Rattle.paint.specs.Painted.{painted}
@@ -38,9 +40,15 @@ unfolding across
 at-left v cells p row column e h l = at-column v cells p row column e h ∙ rw (lt-ltb column (v .left .width) l)
 
 -- a left pane as wide as the screen
-pub whole-made : (v : View) → Framed v → (cells xs : List ℕ) {l : List ℕ} → length cells ≡ 3840 → v .left .width ≡ 80 → l ≡ put 0 (take 640 (drop (v .left .at) cells)) xs → l ≡ painted 0 640 (seen v cells) xs
-whole-made v framed cells xs size wide e = e ∙ part-run (seen v cells) 0 640 (v .left .at) cells xs (omega arith)
+pub whole-made : (v : View) → Framed v → (cells xs : List ℕ) {l : List ℕ} → length cells ≡ 3840 → v .left .width ≡ 80 → l ≡ put 0 (take (v .rows * 80) (drop (v .left .at) cells)) xs → l ≡ painted 0 (v .rows * 80) (seen v cells) xs
+whole-made v framed cells xs size wide e =
+    let inside : v .left .at + v .rows * 80 ≤ 3840 = rw wide at (framed .left-inside) in
+    e ∙ part-run (seen v cells) 0 (v .rows * 80) (v .left .at) cells xs (omega arith)
     (λ k h. at-left v cells (0 + k) (k / 80) (k % 80) (omega arith) (omega arith) (omega arith) ∙ ap (λ (n : ℕ). getD cells n 0) (rw wide (omega arith)))
+
+-- a row of a pane lies among the cells, since all rows do
+pub row-inside : (pane : Pane) (row rows : ℕ) → row < rows → pane .at + rows * pane .width ≤ 3840 → pane .at + row * pane .width + pane .width ≤ 3840
+row-inside pane row rows h k = omega (arith, lines-inside (pane .width) row 1 rows (omega arith), k)
 
 module _ (v : View) (framed : Framed v) (cells : List ℕ) (size : length cells ≡ 3840) (row : ℕ) where
   -- where the gap of the row begins, and where it ends

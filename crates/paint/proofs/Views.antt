@@ -13,6 +13,7 @@ use Rattle.model.specs.State.{State, state}
 use Rattle.model.specs.Screens.{columnsOf, height, textRows}
 use Rattle.model.specs.Sound.{Shaped, Sound, mode0, mode1, mode2}
 use Rattle.model.specs.Picture.{halves, sides, under}
+use Rattle.model.proofs.Keep.{rows-high}
 use Rattle.model.proofs.Tests.{cond-at, differ, elim-at}
 use Rattle.model.proofs.Places.{all, left-half, left-side, picture-shows, right-half, right-side}
 use Rattle.paint.specs.declared.view.Pane.{Pane}
@@ -74,69 +75,75 @@ module _ (s : Settings) (sound : Sound s) where
   columns-both n k e f = cond-at (λ (w : ℕ). w ≡ n) (eqb k 0) _ _ (λ t. e) (λ t. f)
 
   -- the window's height, by the mode
-  low : (s .mode ≡ 1 → ⊥) → height s ≡ 8
-  unfolding height textRows
-  low n = ap (λ (b : Bool). cond b 16 8) (ne-eqb (s .mode) 1 n)
+  low : (s .mode ≡ 1 → ⊥) → height s ≡ textRows s
+  unfolding height
+  low n = ap (λ (b : Bool). cond b (2 * textRows s) (textRows s)) (ne-eqb (s .mode) 1 n)
 
-  high : s .mode ≡ 1 → height s ≡ 16
-  unfolding height textRows
-  high e = ap (λ (b : Bool). cond b 16 8) (eq-eqb (s .mode) 1 e)
+  high : s .mode ≡ 1 → height s ≡ 2 * textRows s
+  unfolding height
+  high e = ap (λ (b : Bool). cond b (2 * textRows s) (textRows s)) (eq-eqb (s .mode) 1 e)
+
+  -- all rows of a window that is as tall as they are lie among the cells
+  rows-inside : {k rows : ℕ} {pane : Pane} → rows ≡ height s → Window s k pane → pane .at + rows * pane .width ≤ 3840
+  rows-inside {k} {rows} {pane} e w = rw e (w .inside)
 
   -- mode 0
-  pub shows-whole : s .mode ≡ 0 → {left : Pane} → Window s (s .selected) left → ViewOf s (record { left = left; gap = 0; code = 32; right = record { at = 0; width = 0 } })
-  shows-whole m {left} w =
+  pub shows-whole : s .mode ≡ 0 → {rows : ℕ} → rows ≡ textRows s → {left : Pane} → Window s (s .selected) left → ViewOf s (record { rows = rows; left = left; gap = 0; code = 32; right = record { at = 0; width = 0 } })
+  shows-whole m {rows} rs {left} w =
       let c = columns-0 (sound .shaped) m in
       let wide : left .width ≡ 80 = w .wide ∙ columns-both 80 (s .selected) (c .0) (c .1) in
-      let h : height s ≡ 8 = low (λ e. omega arith) in
+      let h : rows ≡ height s = rs ∙ sym (low (λ e. omega arith)) in
       record {
-        framed = record { whole = omega arith; left-inside = rw h at (w .inside); right-inside = omega arith; halves = λ e. absurd (omega arith); single = λ n e. absurd (n wide) };
+        framed = record { whole = omega arith; rows-high = omega (arith, rows-high s); left-inside = rows-inside h w; right-inside = omega arith; halves = λ e. absurd (omega arith); single = λ n e. absurd (n wide) };
+        rows-are = rs;
         same = λ cells layer row column r k.
             by-parts _ cells row column _
-            (λ l. sym (picture-shows (state s cells layer) (row + 1) (column + 1) _ (all m (in-window s sound (s .selected) (sound .selected) w row column (row + 1) (column + 1) refl refl))))
+            (λ l. sym (picture-shows (state s cells layer) (row + 1) (column + 1) _ (all m (omega arith) (in-window s sound (s .selected) (sound .selected) w row column (row + 1) (column + 1) refl refl))))
             (λ l g. absurd (omega arith))
             (λ g. absurd (omega arith));
       }
 
   -- mode 1
-  pub shows-halves : (s .mode ≡ 0 → ⊥) → (s .mode ≡ 2 → ⊥) → {left : Pane} → Window s (s .selected) left
-      → ViewOf s (record { left = left; gap = 2; code = 32; right = record { at = left .at + 8 * left .width; width = left .width } })
-  unfolding textRows
-  shows-halves z t {left} w =
+  pub shows-halves : (s .mode ≡ 0 → ⊥) → (s .mode ≡ 2 → ⊥) → {rows : ℕ} → rows ≡ textRows s → {left : Pane} → Window s (s .selected) left
+      → ViewOf s (record { rows = rows; left = left; gap = 2; code = 32; right = record { at = left .at + rows * left .width; width = left .width } })
+  shows-halves z t {rows} rs {left} w =
       let c = columns-1 (sound .shaped) z t in
       let m : s .mode ≡ 1 = c .0 in
       let wide : left .width ≡ 39 = w .wide ∙ columns-both 39 (s .selected) (c .1 .0) (c .1 .1) in
-      let h : height s ≡ 16 = high m in
-      let inside : left .at + 16 * left .width ≤ 3840 = rw h at (w .inside) in
+      let h : rows + rows ≡ height s = omega (arith, high m) in
+      let both : left .at + (rows * left .width + rows * left .width) ≤ 3840 = rw (← add-mul rows rows (left .width), h) (w .inside) in
       record {
-        framed = record { whole = omega arith; left-inside = omega arith; right-inside = omega arith; halves = λ e. (wide, wide); single = λ n e. absurd (e refl) };
+        framed = record { whole = omega arith; rows-high = omega (arith, rows-high s); left-inside = omega arith; right-inside = omega arith; halves = λ e. (wide, wide); single = λ n e. absurd (e refl) };
+        rows-are = rs;
         same = λ cells layer row column r k.
             by-parts _ cells row column _
             (λ l. sym (picture-shows (state s cells layer) (row + 1) (column + 1) _
-            (left-half m (omega arith) (in-window s sound (s .selected) (sound .selected) w row column (row + 1) (column + 1) refl refl))))
+            (left-half m (omega arith) (omega arith) (in-window s sound (s .selected) (sound .selected) w row column (row + 1) (column + 1) refl refl))))
             (λ l g. sym (gap-blank (state s cells layer) (row + 1) (column + 1) m (omega arith) (omega arith)))
             (λ g. sym (picture-shows (state s cells layer) (row + 1) (column + 1) _
-            (right-half m (omega arith)
-            (below left row (column - (left .width + 2)) ∙ in-window s sound (s .selected) (sound .selected) w (8 + row) (column - (left .width + 2)) (8 + (row + 1)) (column + 1 - 41) (omega arith) (omega arith)))));
+            (right-half m (omega arith) (omega arith)
+            (below left rows row (column - (left .width + 2)) ∙ in-window s sound (s .selected) (sound .selected) w (rows + row) (column - (left .width + 2)) (textRows s + (row + 1)) (column + 1 - 41) (omega arith) (omega arith)))));
       }
     where
-      below : (pane : Pane) (row column : ℕ) → pane .at + 8 * pane .width + row * pane .width + column ≡ cellIn pane (8 + row) column
-      below pane row column = rw (add-mul 8 row (pane .width)) (omega arith)
+      below : (pane : Pane) (rows row column : ℕ) → pane .at + rows * pane .width + row * pane .width + column ≡ cellIn pane (rows + row) column
+      below pane rows row column = rw (add-mul rows row (pane .width)) (omega arith)
 
   -- mode 2
-  pub shows-sides : s .mode ≡ 2 → {left right : Pane} → Window s 0 left → Window s 1 right → ViewOf s (record { left = left; gap = 1; code = s .boundary; right = right })
+  pub shows-sides : s .mode ≡ 2 → {rows : ℕ} → rows ≡ textRows s → {left right : Pane} → Window s 0 left → Window s 1 right → ViewOf s (record { rows = rows; left = left; gap = 1; code = s .boundary; right = right })
   unfolding columnsOf
-  shows-sides m {left} {right} w w′ =
+  shows-sides m {rows} rs {left} {right} w w′ =
       let c = columns-2 (sound .shaped) m in
       let wide : left .width ≡ s .columns1 = w .wide in
       let wide′ : right .width ≡ s .columns2 = w′ .wide in
-      let h : height s ≡ 8 = low (λ e. omega arith) in
+      let h : rows ≡ height s = rs ∙ sym (low (λ e. omega arith)) in
       record {
-        framed = record { whole = omega arith; left-inside = rw h at (w .inside); right-inside = rw h at (w′ .inside); halves = λ e. absurd (omega arith); single = λ n e. refl };
+        framed = record { whole = omega arith; rows-high = omega (arith, rows-high s); left-inside = rows-inside h w; right-inside = rows-inside h w′; halves = λ e. absurd (omega arith); single = λ n e. refl };
+        rows-are = rs;
         same = λ cells layer row column r k.
             by-parts _ cells row column _
             (λ l. sym (picture-shows (state s cells layer) (row + 1) (column + 1) _
-            (left-side m (omega arith) (in-window s sound 0 (omega arith) w row column (row + 1) (column + 1) refl refl))))
+            (left-side m (omega arith) (omega arith) (in-window s sound 0 (omega arith) w row column (row + 1) (column + 1) refl refl))))
             (λ l g. sym (gap-boundary (state s cells layer) (row + 1) (column + 1) m (omega arith)))
             (λ g. sym (picture-shows (state s cells layer) (row + 1) (column + 1) _
-            (right-side m (omega arith) (in-window s sound 1 (omega arith) w′ row (column - (left .width + 1)) (row + 1) (column + 1 - s .columns1 - 1) refl (omega arith)))));
+            (right-side m (omega arith) (omega arith) (in-window s sound 1 (omega arith) w′ row (column - (left .width + 1)) (row + 1) (column + 1 - s .columns1 - 1) refl (omega arith)))));
       }

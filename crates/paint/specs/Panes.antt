@@ -8,7 +8,7 @@ use lib.ListN.{getD}
 use lib.Dec.{ltb}
 use Rattle.model.specs.declared.Settings.{Settings}
 use Rattle.model.specs.State.{state}
-use Rattle.model.specs.Screens.{placeOf, columnsOf, lineAt, height}
+use Rattle.model.specs.Screens.{placeOf, columnsOf, lineAt, textRows, height}
 use Rattle.model.specs.Picture.{under}
 use Rattle.paint.specs.declared.view.Pane.{Pane}
 use Rattle.paint.specs.declared.view.View.{View}
@@ -27,12 +27,13 @@ across v cells row column =
 unfoldable pub seen : View → List ℕ → ℕ → ℕ
 seen v cells p = across v cells (p / 80) (p % 80)
 
--- a row is 80 wide, and 8 rows of each pane lie among the cells; beside a pane that is not 80 wide there is a gap of 1, or the panes
--- are mode 1's halves
+-- a row is 80 wide, the rows are no more than those of the shown screen, and all rows of each pane lie among the cells; beside a pane that is
+-- not 80 wide there is a gap of 1, or the panes are mode 1's halves
 pub record Framed (v : View) : Type 0 where
   pub whole : v .left .width + v .gap + v .right .width ≡ 80
-  pub left-inside : v .left .at + 8 * v .left .width ≤ 3840
-  pub right-inside : v .right .at + 8 * v .right .width ≤ 3840
+  pub rows-high : v .rows ≤ 8
+  pub left-inside : v .left .at + v .rows * v .left .width ≤ 3840
+  pub right-inside : v .right .at + v .rows * v .right .width ≤ 3840
   pub halves : v .gap ≡ 2 → (v .left .width ≡ 39) × (v .right .width ≡ 39)
   pub single : (v .left .width ≡ 80 → ⊥) → (v .gap ≡ 2 → ⊥) → v .gap ≡ 1
 
@@ -47,7 +48,8 @@ pub record Window (s : Settings) (k : ℕ) (pane : Pane) : Type 0 where
   pub wide : pane .width ≡ columnsOf s k
   pub inside : pane .at + height s * pane .width ≤ 3840
 
--- a view shows "the picture without secret and layer"
+-- a view shows "the picture without secret and layer" in the rows that show text
 pub record ViewOf (s : Settings) (v : View) : Type 0 where
   pub framed : Framed v
-  pub same : (cells layer : List ℕ) (row column : ℕ) → row < 8 → column < 80 → across v cells row column ≡ under (state s cells layer) (row + 1) (column + 1)
+  pub rows-are : v .rows ≡ textRows s
+  pub same : (cells layer : List ℕ) (row column : ℕ) → row < v .rows → column < 80 → across v cells row column ≡ under (state s cells layer) (row + 1) (column + 1)

@@ -3,8 +3,8 @@ mod rows;
 mod view;
 
 ghost use mathlib.Core.Path.{_≡_};
-ghost use Prim.Native.Nat.{_+_, _≤_};
-ghost use lib.ListN.{length, replicate};
+ghost use Prim.Native.Nat.{_+_, _*_, _≤_};
+ghost use lib.ListN.{getD, length, replicate};
 ghost use lib.Dec.{eqb};
 ghost use mathlib.Core.Bool.{cond, true};
 ghost use Rattle.model.specs.Bytes.{put};
@@ -17,27 +17,27 @@ use model::Settings;
 use rows::COPY_ROW;
 use rows::PLACES;
 use rows::ROW;
+use rows::ROWS;
 use view::Pane;
-use view::TEXT_ROWS;
 use view::View;
 
-// "It always ends by painting all 640 places." A layer that is known to be empty is not laid.
+// "It always ends by painting all 640 places": the panes, then the layer over them. What paints is handed the view and single numbers, so
+// that no settings are copied for it.
 pub fn paint(settings: Settings, bare: bool, cells: &[u8], layer: &[u8], shown: &mut [u8])
     requires { ⌜ (Good (state settings (now cells) (now layer))) × ((bare ≡ true → now layer ≡ replicate 1280 0) × (length (now shown) ≡ 640)) ⌝ }
     ensures { λ _. ⌜ now (shown .exit) ≡ painting (state settings (now (cells .entry)) (now (layer .entry))) ⌝ }
 {
     let panes = view::view_of(settings);
-    paint_panes(settings.secret, bare, panes, cells, layer, shown);
+    paint_under(settings.secret, panes, cells, shown);
+    lay_over(settings.secret, bare, layer, shown);
 }
 
-// Blank in secret mode, else the panes and the layer over them. It is handed the view alone, so that no settings are copied for it.
-fn paint_panes(secret: u8, bare: bool, panes: View, cells: &[u8], layer: &[u8], shown: &mut [u8])
-    requires { ⌜ Framed panes ⌝ }
-    requires { ⌜ (length (now cells) ≡ 3840) × ((length (now layer) ≡ 1280) × (length (now shown) ≡ 640)) ⌝ }
+// The layer over what is painted, which secret mode leaves out. A layer that is known to be empty is not laid.
+fn lay_over(secret: u8, bare: bool, layer: &[u8], shown: &mut [u8])
+    requires { ⌜ (length (now layer) ≡ 1280) × (length (now shown) ≡ 640) ⌝ }
     requires { ⌜ (bare ≡ true → now layer ≡ replicate 1280 0) ⌝ }
-    ensures { λ _. ⌜ now (shown .exit) ≡ cond (eqb secret 1) (replicate 640 32) (painted 0 640 (laid (now (layer .entry)) (seen panes (now (cells .entry)))) (now (shown .entry))) ⌝ }
+    ensures { λ _. ⌜ now (shown .exit) ≡ cond (eqb secret 1) (now (shown .entry)) (painted 0 640 (laid (now (layer .entry)) (λ p. getD (now (shown .entry)) p 0)) (now (shown .entry))) ⌝ }
 {
-    paint_under(secret, panes, cells, shown);
     if secret == 1 {
         return;
     }
@@ -51,7 +51,7 @@ fn paint_panes(secret: u8, bare: bool, panes: View, cells: &[u8], layer: &[u8], 
 fn paint_under(secret: u8, panes: View, cells: &[u8], shown: &mut [u8])
     requires { ⌜ Framed panes ⌝ }
     requires { ⌜ (length (now cells) ≡ 3840) × (length (now shown) ≡ 640) ⌝ }
-    ensures { λ _. ⌜ now (shown .exit) ≡ cond (eqb secret 1) (replicate 640 32) (painted 0 640 (seen panes (now (cells .entry))) (now (shown .entry))) ⌝ }
+    ensures { λ _. ⌜ now (shown .exit) ≡ cond (eqb secret 1) (replicate 640 32) (painted 0 (panes .rows * 80) (seen panes (now (cells .entry))) (now (shown .entry))) ⌝ }
 {
     if secret != 1 {
         paint_view(panes, cells, shown);
@@ -65,12 +65,12 @@ fn paint_under(secret: u8, panes: View, cells: &[u8], shown: &mut [u8])
 fn paint_view(panes: View, cells: &[u8], shown: &mut [u8])
     requires { ⌜ Framed panes ⌝ }
     requires { ⌜ (length (now cells) ≡ 3840) × (length (now shown) ≡ 640) ⌝ }
-    ensures { λ _. ⌜ now (shown .exit) ≡ painted 0 640 (seen panes (now (cells .entry))) (now (shown .entry)) ⌝ }
+    ensures { λ _. ⌜ now (shown .exit) ≡ painted 0 (panes .rows * 80) (seen panes (now (cells .entry))) (now (shown .entry)) ⌝ }
 {
     let left = panes.left;
     let right = panes.right;
     if left.width == ROW {
-        store::copy_many(shown, 0, cells, left.at, PLACES);
+        store::copy_many(shown, 0, cells, left.at, panes.rows * ROW);
         return;
     }
     if panes.gap == 2 {
@@ -85,11 +85,12 @@ fn paint_rows(panes: View, one: usize, gap: usize, two: usize, cells: &[u8], sho
     requires { ⌜ Framed panes ⌝ }
     requires { ⌜ (one ≡ panes .left .width) × ((gap ≡ panes .gap) × (two ≡ panes .right .width)) ⌝ }
     requires { ⌜ (length (now cells) ≡ 3840) × (length (now shown) ≡ 640) ⌝ }
-    ensures { λ _. ⌜ now (shown .exit) ≡ painted 0 640 (seen panes (now (cells .entry))) (now (shown .entry)) ⌝ }
+    ensures { λ _. ⌜ now (shown .exit) ≡ painted 0 (panes .rows * 80) (seen panes (now (cells .entry))) (now (shown .entry)) ⌝ }
 {
     let left = panes.left;
     let right = panes.right;
     let view = View {
+        rows: panes.rows,
         left: Pane {
             at: left.at,
             width: one,
@@ -101,9 +102,8 @@ fn paint_rows(panes: View, one: usize, gap: usize, two: usize, cells: &[u8], sho
             width: two,
         },
     };
-    // Counted by the screen's length: a count of eight would be written out eight times by the compiler.
     let mut row = 0;
-    while row * ROW < shown.len() {
+    while row < view.rows {
         rows::paint_row(view, cells, shown, row);
         row += 1;
     }
@@ -116,9 +116,10 @@ pub fn copy(settings: Settings, cells: &[u8], layer: &[u8], printer: &mut [u8], 
 {
     let mut picture = [0u8; PLACES];
     let panes = view::view_of(settings);
-    paint_panes(settings.secret, false, panes, cells, layer, &mut picture);
+    paint_under(settings.secret, panes, cells, &mut picture);
+    lay_over(settings.secret, false, layer, &mut picture);
     let mut row = 0;
-    while row < TEXT_ROWS {
+    while row < ROWS {
         rows::copy_row(&picture, row * ROW, printer, from + row * COPY_ROW);
         row += 1;
     }

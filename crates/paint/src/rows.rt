@@ -9,7 +9,9 @@ ghost use Rattle.paint.specs.Copy.{rowCopied};
 use crate::view::View;
 use crate::view::start;
 
-// A row of the shown screen, all its places, and a row of a printed copy with the two codes behind it.
+// The rows of the shown screen, a row, all places, and a row of a printed copy with the two codes behind it.
+pub(crate) const ROWS: usize = 8;
+
 pub(crate) const ROW: usize = 80;
 
 pub(crate) const PLACES: usize = 640;
@@ -18,7 +20,7 @@ pub(crate) const COPY_ROW: usize = 82;
 
 // Row `row`, from 0, of the picture without secret and layer: the left pane, the gap, the right pane.
 pub(crate) fn paint_row(view: View, cells: &[u8], shown: &mut [u8], row: usize)
-    requires { ⌜ (Framed view) × (row < 8) ⌝ }
+    requires { ⌜ (Framed view) × (row < view .rows) ⌝ }
     requires { ⌜ (length (now cells) ≡ 3840) × (length (now shown) ≡ 640) ⌝ }
     ensures { λ _. ⌜ now (shown .exit) ≡ painted (row * 80) 80 (seen view (now (cells .entry))) (now (shown .entry)) ⌝ }
 {

@@ -10,8 +10,9 @@ pub struct Pane {
     pub width: usize,
 }
 
-// `gap` places of `code` stand between the panes.
+// In `rows` rows of the shown screen, those that show text; `gap` places of `code` stand between the panes.
 pub struct View {
+    pub rows: usize,
     pub left: Pane,
     pub gap: usize,
     pub code: u8,
@@ -20,14 +21,11 @@ pub struct View {
 
 // The first cell of a pane in row `row`, from 0.
 pub(crate) fn start(pane: Pane, row: usize) -> usize
-    requires { ⌜ (pane .at + 8 * pane .width ≤ 3840) × (row < 8) ⌝ }
+    requires { ⌜ pane .at + row * pane .width + pane .width ≤ 3840 ⌝ }
     ensures { λ r. ⌜ Line pane row r ⌝ }
 {
     pane.at + row * pane.width
 }
-
-// The rows of the shown screen that show text: mode 1's right half starts so many lines after the left.
-pub(crate) const TEXT_ROWS: usize = 8;
 
 // The window of a screen, by its number: the place is picked from a copy of the two, since an index into the settings themselves that
 // is not a literal would keep a compiler from taking them apart. Screen 2's cells stand behind those of screen 1.
@@ -54,14 +52,17 @@ fn window(settings: Settings, screen: u8) -> Pane
     }
 }
 
-// Mode 0: the selected screen. Mode 1: its left half, "40 and 41 blank", and its right half. Mode 2: screen 1, the boundary, screen 2.
+// Mode 0: the selected screen. Mode 1: its left half, "40 and 41 blank", and its right half, which starts as many lines after the left as
+// there are rows. Mode 2: screen 1, the boundary, screen 2.
 pub(crate) fn view_of(settings: Settings) -> View
     requires { ⌜ Sound settings ⌝ }
     ensures { λ r. ⌜ ViewOf settings r ⌝ }
 {
     let mode = settings.mode;
+    let rows = tables::text_rows() as usize;
     if mode == 2 {
         return View {
+            rows,
             left: window(settings, 0),
             gap: 1,
             code: settings.boundary,
@@ -72,14 +73,16 @@ pub(crate) fn view_of(settings: Settings) -> View
     let width = left.width;
     if mode == 0 {
         return View {
+            rows,
             left,
             gap: 0,
             code: 32,
             right: Pane { at: 0, width: 0 },
         };
     }
-    let at = left.at + TEXT_ROWS * width;
+    let at = left.at + rows * width;
     View {
+        rows,
         left,
         gap: 2,
         code: 32,

@@ -42,8 +42,8 @@ module _ {s : Settings} (h : Sound s) where
 
   pub frame : {f : Frame} → f .lines ≡ linesOf s (s .selected) → f .columns ≡ columnsOf s (s .selected) → f .base ≡ base s (s .selected)
       → f .height ≡ height s → f .shift ≡ cond (eqb (s .mode) 2 && eqb (s .selected) 1) (s .columns1 + 1) 0
-      → f .rows ≡ 8 → f .step ≡ s .step → f .tracking ≡ s .tracking → FrameOf s f
-  unfolding arrayRanges textRows
+      → f .rows ≡ textRows s → f .step ≡ s .step → f .tracking ≡ s .tracking → FrameOf s f
+  unfolding arrayRanges
   frame {f} a b c d e g i j =
       let k : Framed s f = record { two-places = omega (arith, h .arrays .0); selected-low = h .selected; lines-are = a; columns-are = b; base-is = c; rows-are = g; height-is = d; shift-is = e; step-is = i; tracking-is = j } in
       record { framed = k; stands = stands-of k }

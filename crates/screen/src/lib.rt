@@ -25,11 +25,8 @@ ghost use Rattle.screen.specs.Acts.{Acts, ActsAbove};
 ghost use Rattle.model.specs.OnScreen.{onScreen?};
 ghost use Rattle.screen.specs.Obeys.{Obeys};
 
-// The rows of the shown screen, all of which show text.
-const ROWS: u8 = 8;
-
-// Of the selected screen: its first cell, its lines and columns; the rows of the shown screen and the window's height H; by how
-// many columns the picture shows it further right (mode 2, screen 2); the step of the window, and whether it tracks the cursor.
+// Of the selected screen: its first cell, its lines and columns; the rows of the shown screen that show text and the window's height H; by
+// how many columns the picture shows it further right (mode 2, screen 2); the step of the window, and whether it tracks the cursor.
 // `bare` is no setting: it says that the layer is known to be empty, so that it need not be emptied again.
 pub struct Frame {
     pub base: usize,
@@ -53,7 +50,7 @@ pub fn frame_of(settings: Settings, bare: bool) -> Frame
             base: 0,
             lines: settings.lines1,
             columns: settings.columns1,
-            rows: ROWS,
+            rows: tables::text_rows(),
             height: tables::height_of(settings.mode),
             shift: 0,
             step: settings.step,
@@ -65,7 +62,7 @@ pub fn frame_of(settings: Settings, bare: bool) -> Frame
             base: times(settings.lines1, settings.columns1),
             lines: settings.lines2,
             columns: settings.columns2,
-            rows: ROWS,
+            rows: tables::text_rows(),
             height: tables::height_of(settings.mode),
             shift: shift_of(settings.mode, settings.columns1),
             step: settings.step,

@@ -1,9 +1,10 @@
-// The tables of document 01 that more than one crate asks, each written once: which numbers 67 and 247 take, H by the mode, and
-// the length of a sequence by its second byte.
+// The tables of document 01 that more than one crate asks, each written once: which numbers 67 and 247 take, the rows that show text and H
+// by the mode, and the length of a sequence by its second byte.
 ghost use mathlib.Core.Path.{_≡_};
+ghost use Prim.Native.Nat.{_≤_};
 ghost use Rattle.model.specs.declared.Settings.{Settings};
 ghost use Rattle.model.specs.Checks.{member};
-ghost use Rattle.model.specs.Screens.{height};
+ghost use Rattle.model.specs.Screens.{height, textRows};
 ghost use Rattle.model.specs.Sequences.{find, modeRowOf, refusal, rows};
 ghost use Rattle.model.specs.Sound.{charsets, shifts};
 ghost use Rattle.tables.specs.Lengths.{lengthOf};
@@ -28,11 +29,19 @@ pub fn shift(n: u8) -> bool
     }
 }
 
+// The rows of the shown screen that show text, of all settings.
+pub fn text_rows() -> u8
+    ensures { λ r. ⌜ ((s : Settings) → r ≡ textRows s) × (r ≤ 8) ⌝ }
+{
+    8
+}
+
 // The column "H" of the table of modes, of all settings in that mode.
 pub fn height_of(mode: u8) -> u8
     ensures { λ r. ⌜ ((s : Settings) → s .mode ≡ mode → r ≡ height s) ⌝ }
 {
-    if mode == 1 { 16 } else { 8 }
+    let rows = text_rows();
+    if mode == 1 { 2 * rows } else { rows }
 }
 
 // "Lengths with ESC, by second byte": the bytes of a sequence, ESC with them, of 208 by its mode byte, the third; 0 where the list has none.

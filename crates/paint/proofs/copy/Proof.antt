@@ -22,11 +22,11 @@ Inv-loop cells layer printer₀ from picture row₀ printer row =
 abbrev μ-loop : tie.MeasureT-loop
 μ-loop cells layer printer₀ from picture row₀ printer row = 8 - row
 
-paint-panes-requires : tie.Need-paint-panes-requires Inv-loop μ-loop
-paint-panes-requires c κs =
-    let v = c .before in
-    let pre = v .before .before .before .before .pre .0 in
-    (v .view-of .ensures .framed, ((pre .cells-are, (pre .layer-are, length-replicate {A = ℕ} 640 0)), λ e. absurd (differ (sym e))))
+paint-under-requires : tie.Need-paint-under-requires Inv-loop μ-loop
+paint-under-requires c κs = let v = c .before in (v .view-of .ensures .framed, (v .before .before .before .before .pre .0 .cells-are, length-replicate {A = ℕ} 640 0))
+
+lay-over-requires : tie.Need-lay-over-requires Inv-loop μ-loop
+lay-over-requires c κs = ((c .before .before .before .before .before .before .before .before .pre .0 .layer-are, search needs), λ e. absurd (differ (sym e)))
 
 loop-holds : tie.Need-loop-holds Inv-loop μ-loop
 unfolding copiedRows
@@ -36,16 +36,18 @@ loop-again : tie.Need-loop-again Inv-loop μ-loop
 loop-again c =
     let at = c .before .before in
     let head = at .before .before .before .before in
-    let a = head .before .before .before .before .before .before .before .before .args in
-    (search needs, (search needs, copied-more (a .from) (head .loop .row) _ (a .printer .now) (head .loop .inv .1 .1) (at .copy-row .ensures) refl (omega arith)))
+    let entry = head .before .before .before .before .before .before .before .before .before .before .before in
+    let a = entry .args in
+    (search needs, (search needs, copied-more (a .from) (head .loop .row) _ (a .printer .now) (head .loop .inv .1 .1) (at .copy-row .ensures) refl (omega (arith, entry .pre .1))))
 
 returns : tie.Need-returns Inv-loop μ-loop
 returns c =
     let loop = c .before .loop in
-    let at = c .before .before .before in
-    let v = at .before .before in
+    let lay = c .before .before .before in
+    let under = lay .before .before .before in
+    let v = under .before .before in
     let a = v .before .before .before .before .args in
-    let picture = whole-picture (a .settings) (v .view-of .result) (v .view-of .ensures) (a .cells .now) (a .layer .now) _ (length-replicate {A = ℕ} 640 0) (at .paint-panes .ensures) in
+    let picture = whole-picture (a .settings) (a .cells .now) (a .layer .now) (v .view-of .result) (v .view-of .ensures) _ (length-replicate {A = ℕ} 640 0) (under .paint-under .ensures) (lay .lay-over .ensures) in
     loop .inv .1 .1 ∙ ap (λ (ys : List ℕ). put (a .from) ys (a .printer .now)) (copied-all (state (a .settings) (a .cells .now) (a .layer .now)) _ (loop .row) picture (omega arith))
 
 pub copy-spec : {M : Type 1} → statement M
@@ -56,7 +58,9 @@ copy-spec =
     μ-loop
     (λ c κs. search needs)
     (λ c. search needs)
-    paint-panes-requires
+    paint-under-requires
+    (λ c. search needs)
+    lay-over-requires
     loop-holds
     (λ c. search needs)
     (λ c. search needs)

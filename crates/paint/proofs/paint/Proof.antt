@@ -7,10 +7,11 @@ use Rattle.paint.proofs.paint.Tie as tie
 
 returns : tie.Need-returns
 returns c =
-    let at = c .before .before in
-    let v = at .before .before in
+    let lay = c .before .before in
+    let under = lay .before .before .before .before in
+    let v = under .before .before in
     let a = v .before .before .before .before .args in
-    whole-picture (a .settings) (v .view-of .result) (v .view-of .ensures) (a .cells .now) (a .layer .now) (a .shown .now) (omega arith) (at .paint-panes .ensures)
+    whole-picture (a .settings) (a .cells .now) (a .layer .now) (v .view-of .result) (v .view-of .ensures) (a .shown .now) (omega arith) (under .paint-under .ensures) (lay .lay-over .ensures)
 
 pub paint-spec : {M : Type 1} → statement M
-paint-spec = tie.close (tie.spec (λ c κs. search needs) (λ c κs. search needs) (λ c. search needs) returns)
+paint-spec = tie.close (tie.spec (λ c κs. search needs) (λ c κs. search needs) (λ c κs. search needs) (λ c. search needs) returns)

@@ -1,9 +1,19 @@
 -- `paint_row`: the left pane, the gap's code and the right pane, one behind the other, are what the view shows.
 use native.Mathlib.Omega.{arith}
 use borrow.Author.Needs.{needs}
-use Rattle.paint.proofs.Runs.{row-made}
+use Rattle.paint.proofs.Runs.{row-inside, row-made}
 use Rattle.paint.proofs.rows.paint_row.Statement.{statement}
 use Rattle.paint.proofs.rows.paint_row.Tie as tie
+
+start-requires : tie.Need-start-requires
+start-requires c κs =
+    let entry = c .before .before .before .before .before .before .before in
+    row-inside (entry .args .view .left) (entry .args .row) (entry .args .view .rows) (omega arith) (entry .pre .0 .0 .left-inside)
+
+start-requires-2 : tie.Need-start-requires-2
+start-requires-2 c κs =
+    let entry = c .before .before .before .before .before .before .before .before .before .before .before .before .before .before .before .before in
+    row-inside (entry .args .view .right) (entry .args .row) (entry .args .view .rows) (omega arith) (entry .pre .0 .0 .right-inside)
 
 returns : tie.Need-returns
 returns c =
@@ -22,13 +32,13 @@ paint-row-spec =
     (λ c. search needs)
     (λ c. search needs)
     (λ c. search needs)
-    (λ c κs. search needs)
+    start-requires
     (λ c κs. search needs)
     (λ c. search needs)
     (λ c. search needs)
     (λ c. search needs)
     (λ c κs. search needs)
-    (λ c κs. search needs)
+    start-requires-2
     (λ c κs. search needs)
     (λ c. search needs)
     returns)

@@ -7,33 +7,40 @@ use Rattle.paint.proofs.view.view_of.Tie as tie
 
 returns : tie.Need-returns
 returns c =
-    let entry = c .before .before .before in
-    shows-sides (entry .args .settings) (entry .pre) (c .before .before .if1 .taken) (c .before .window .ensures) (c .window2 .ensures)
+    let entry = c .before .before .before .before in
+    let s = entry .args .settings in
+    shows-sides s (entry .pre) (c .before .before .if1 .taken) (c .before .before .before .text-rows .ensures .0 s) (c .before .window .ensures) (c .window2 .ensures)
 
 returns-2 : tie.Need-returns-2
 returns-2 c =
-    let entry = c .before .before .before in
-    shows-whole (entry .args .settings) (entry .pre) (c .if2 .taken) (c .before .window3 .ensures)
+    let entry = c .before .before .before .before in
+    let s = entry .args .settings in
+    shows-whole s (entry .pre) (c .if2 .taken) (c .before .before .before .text-rows .ensures .0 s) (c .before .window3 .ensures)
 
 mul-at : tie.Need-mul-at
 mul-at c =
-    let entry = c .before .before .before in
-    omega (arith, shows-halves (entry .args .settings) (entry .pre) (c .if2 .left) (c .before .before .if1 .left) (c .before .window3 .ensures) .framed)
+    let entry = c .before .before .before .before in
+    let s = entry .args .settings in
+    omega (arith, shows-halves s (entry .pre) (c .if2 .left) (c .before .before .if1 .left) (c .before .before .before .text-rows .ensures .0 s) (c .before .window3 .ensures) .framed)
 
 add-at : tie.Need-add-at
 add-at c =
-    let entry = c .before .before .before .before in
-    omega (arith, shows-halves (entry .args .settings) (entry .pre) (c .before .if2 .left) (c .before .before .before .if1 .left) (c .before .before .window3 .ensures) .framed)
+    let entry = c .before .before .before .before .before in
+    let s = entry .args .settings in
+    omega (arith, shows-halves s (entry .pre) (c .before .if2 .left) (c .before .before .before .if1 .left) (c .before .before .before .before .text-rows .ensures .0 s) (c .before .before .window3 .ensures) .framed)
 
 returns-3 : tie.Need-returns-3
 returns-3 c =
-    let entry = c .before .before .before .before in
-    shows-halves (entry .args .settings) (entry .pre) (c .before .if2 .left) (c .before .before .before .if1 .left) (c .before .before .window3 .ensures)
+    let entry = c .before .before .before .before .before in
+    let s = entry .args .settings in
+    shows-halves s (entry .pre) (c .before .if2 .left) (c .before .before .before .if1 .left) (c .before .before .before .before .text-rows .ensures .0 s) (c .before .before .window3 .ensures)
 
 pub view-of-spec : {M : Type 1} → statement M
 view-of-spec =
     tie.close
     (tie.spec
+    (λ c κs. search needs)
+    (λ c. search needs)
     (λ c κs. search needs)
     (λ c κs. search needs)
     returns
