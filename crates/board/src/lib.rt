@@ -14,7 +14,6 @@ use differences::FirstValues;
 use model::Opened;
 use model::Outcome;
 use model::Settings;
-use pieces::asking;
 use pieces::closing_number;
 use pieces::counted_from;
 use pieces::line_number;
@@ -94,9 +93,6 @@ fn behind(
     ensures { λ r. ⌜ Promised (pieced (now (piece .entry)) (terminal settings (now (cells .entry)) (now (layer .entry)) (now (shown .entry))) (now (printer .entry)) (r .answer) (terminal (r .settings) (now (cells .exit)) (now (layer .exit)) (now (shown .exit))) (now (printer .exit))) ⌝ }
 {
     let number = line_number(settings, piece, cells, layer, shown);
-    if number == 15 {
-        return over(settings, piece, cells, layer, shown, printer);
-    }
     if number != 0 {
         let answer = refusal(number);
         return Outcome { settings, answer };
@@ -105,27 +101,6 @@ fn behind(
         return joined(settings, piece, cells, layer, shown, printer);
     }
     divided(settings, piece, cells, layer, shown, printer)
-}
-
-// 15, unless the settings are not sound: a message call tells, which does nothing while a byte waits.
-fn over(
-    settings: Settings,
-    piece: &[u8],
-    cells: &mut [u8],
-    layer: &mut [u8],
-    shown: &mut [u8],
-    printer: &mut [u8],
-) -> Outcome
-    requires { ⌜ lineNumber (terminal settings (now cells) (now layer) (now shown)) (now piece) ≡ 15 ⌝ }
-    ensures { λ r. ⌜ Promised (pieced (now (piece .entry)) (terminal settings (now (cells .entry)) (now (layer .entry)) (now (shown .entry))) (now (printer .entry)) (r .answer) (terminal (r .settings) (now (cells .exit)) (now (layer .exit)) (now (shown .exit))) (now (printer .exit))) ⌝ }
-{
-    let asked = px8_message(asking(settings), &piece[..0], cells, layer, shown, printer);
-    if asked.answer.number == 3 {
-        let answer = refusal(3);
-        return Outcome { settings, answer };
-    }
-    let answer = refusal(15);
-    Outcome { settings, answer }
 }
 
 // A short piece: one message call of the bytes that waited and its own.

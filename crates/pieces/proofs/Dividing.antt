@@ -65,7 +65,7 @@ both-from start n k a b =
         let f : eqb (suc r + u) 0 ≡ false = ne-eqb (suc r + u) 0 (omega arith) in
         rw (e, f)
 
-module _ (s : Settings) (m cells layer shown buffer : List ℕ) (size : length (s .waiting) ≡ 12) (h : Told (terminal s cells layer shown) m true) where
+module _ (s : Settings) (m cells layer shown buffer : List ℕ) (size : length (s .waiting) ≡ 12) (h : Told (terminal s cells layer shown) m) where
   abbrev t : Terminal
   t = terminal s cells layer shown
 

@@ -35,7 +35,7 @@ pub record Ended (s : Settings) (m bytes : List ℕ) (k n end : ℕ) : Type 0 wh
   pub front : take end bytes ≡ take (wholeEnd (heldIn s ++ take k m)) (heldIn s ++ take k m)
   pub rest : take (n - end) (drop end bytes) ≡ drop (wholeEnd (heldIn s ++ take k m)) (heldIn s ++ take k m)
 
-module _ (s : Settings) (m cells layer shown : List ℕ) (size : length (s .waiting) ≡ 12) (h : Told (terminal s cells layer shown) m true) (k : ℕ) (l : k ≤ length m)
+module _ (s : Settings) (m cells layer shown : List ℕ) (size : length (s .waiting) ≡ 12) (h : Told (terminal s cells layer shown) m) (k : ℕ) (l : k ≤ length m)
     (bytes : List ℕ) (is : take (s .held + k) bytes ≡ heldIn s ++ take k m) where
   abbrev n : ℕ
   n = s .held + k

@@ -27,7 +27,7 @@ use Rattle.pieces.proofs.Ends.{Ended, Rest}
 use Rattle.pieces.proofs.Dividing.{two-served}
 
 -- the first call
-module _ (s : Settings) (m cells layer shown buffer : List ℕ) (size : length (s .waiting) ≡ 12) (h : Told (terminal s cells layer shown) m true)
+module _ (s : Settings) (m cells layer shown buffer : List ℕ) (size : length (s .waiting) ≡ 12) (h : Told (terminal s cells layer shown) m)
     (bytes : List ℕ) (k n end : ℕ) (x : Ended s m bytes k n end) (small : n ≤ 64)
     (b : Answer) (s′ : Settings) (cells′ layer′ shown′ p : List ℕ) (w : Promised (called (take end bytes) (quiet s cells layer shown) buffer b (terminal s′ cells′ layer′ shown′) p)) where
   abbrev t : Terminal
@@ -55,7 +55,7 @@ module _ (s : Settings) (m cells layer shown buffer : List ℕ) (size : length (
   first-fits = omega (arith, bounds .fits, buffer-length (called xs (quiet s cells layer shown) buffer b (terminal s′ cells′ layer′ shown′) p) w)
 
 -- a short piece: all of it is in the array
-module _ (s : Settings) (m cells layer shown buffer : List ℕ) (size : length (s .waiting) ≡ 12) (h : Told (terminal s cells layer shown) m true)
+module _ (s : Settings) (m cells layer shown buffer : List ℕ) (size : length (s .waiting) ≡ 12) (h : Told (terminal s cells layer shown) m)
     (bytes : List ℕ) (n end : ℕ) (x : Ended s m bytes (length m) n end) where
   abbrev rest : List ℕ
   rest = take (n - end) (drop end bytes)
@@ -81,7 +81,7 @@ module _ (s : Settings) (m cells layer shown buffer : List ℕ) (size : length (
       (e ∙ ap (λ (j : ℕ). countedFrom (s .count - j) (length m) b) (sym (x .held))) rest (s .count + length m) rest-is refl f
 
 -- a long piece: 52 bytes of it are in the array, and it goes on from where their whole items end
-module _ (s : Settings) (m cells layer shown buffer : List ℕ) (size : length (s .waiting) ≡ 12) (h : Told (terminal s cells layer shown) m true)
+module _ (s : Settings) (m cells layer shown buffer : List ℕ) (size : length (s .waiting) ≡ 12) (h : Told (terminal s cells layer shown) m)
     (bytes : List ℕ) (end : ℕ) (x : Ended s m bytes 52 (s .held + 52) end) (big : 52 < length m) (to : ℕ) (y : Rest m (end - s .held) to) where
   abbrev from : ℕ
   from = end - s .held

@@ -1,5 +1,5 @@
--- The numbers that a line and a length tell before the settings are judged whole: one that is neither 0 nor 15 is the call's own, since a line that is
--- not sound makes the settings unsound.
+-- The numbers that are told before a message call judges the settings whole: one that is not 0 is the call's own, since a line that is not sound
+-- makes the settings unsound.
 use mathlib.Core.Path.{_∙_, _≡_, ap, refl, sym}
 use Prim.Native.Nat.{ℕ}
 use native.Mathlib.Omega.{arith}
@@ -28,16 +28,17 @@ module _ (t : Terminal) where
       && (inRanges? (otherRanges (s .selected) (s .step) (height s)) && (inRanges? (plainRanges s) && (inside? s 0 && (inside? s 1 && b)))))) e ∙ simp and-false
 
   -- a piece
-  pub line-refused : (m : List ℕ) → (lineNumber t m ≡ 0 → ⊥) → (lineNumber t m ≡ 15 → ⊥) → lineNumber t m ≡ firstOf (reasons t (piece m))
+  pub line-refused : (m : List ℕ) → (lineNumber t m ≡ 0 → ⊥) → lineNumber t m ≡ firstOf (reasons t (piece m))
   unfolding reasons firstOf
-  line-refused m z y = go (sized t) (short m) line (countable s m) refl refl refl refl
+  line-refused m z = go (sized t) (short m) line (countable s m) (soundIn t) refl refl refl refl refl
     where
-      go : (a b c d : Bool) → sized t ≡ a → short m ≡ b → line ≡ c → countable s m ≡ d → lineNumber t m ≡ firstOf (reasons t (piece m))
-      go true true true true p q r v = absurd (z (line-numbered t m true true true true p q r v))
-      go true true true false p q r v = absurd (y (line-numbered t m true true true false p q r v))
-      go true true false d p q r v = line-numbered t m true true false d p q r v ∙ (λ i. firstOf (reason 1 (sym p i) ∷ reason 2 (sym q i) ∷ reason 3 (sym (unsound r) i) ∷ reason 15 (countable s m) ∷ []))
-      go true false c d p q r v = line-numbered t m true false c d p q r v ∙ (λ i. firstOf (reason 1 (sym p i) ∷ reason 2 (sym q i) ∷ reason 3 (soundIn t) ∷ reason 15 (countable s m) ∷ []))
-      go false b c d p q r v = line-numbered t m false b c d p q r v ∙ (λ i. firstOf (reason 1 (sym p i) ∷ reason 2 (short m) ∷ reason 3 (soundIn t) ∷ reason 15 (countable s m) ∷ []))
+      go : (a b c d e : Bool) → sized t ≡ a → short m ≡ b → line ≡ c → countable s m ≡ d → soundIn t ≡ e → lineNumber t m ≡ firstOf (reasons t (piece m))
+      go true true true true e p q r v w = absurd (z (line-numbered t m true true true true e p q r v w))
+      go true true true false true p q r v w = line-numbered t m true true true false true p q r v w ∙ (λ i. firstOf (reason 1 (sym p i) ∷ reason 2 (sym q i) ∷ reason 3 (sym w i) ∷ reason 15 (sym v i) ∷ []))
+      go true true true false false p q r v w = line-numbered t m true true true false false p q r v w ∙ (λ i. firstOf (reason 1 (sym p i) ∷ reason 2 (sym q i) ∷ reason 3 (sym w i) ∷ reason 15 (countable s m) ∷ []))
+      go true true false d e p q r v w = line-numbered t m true true false d e p q r v w ∙ (λ i. firstOf (reason 1 (sym p i) ∷ reason 2 (sym q i) ∷ reason 3 (sym (unsound r) i) ∷ reason 15 (countable s m) ∷ []))
+      go true false c d e p q r v w = line-numbered t m true false c d e p q r v w ∙ (λ i. firstOf (reason 1 (sym p i) ∷ reason 2 (sym q i) ∷ reason 3 (soundIn t) ∷ reason 15 (countable s m) ∷ []))
+      go false b c d e p q r v w = line-numbered t m false b c d e p q r v w ∙ (λ i. firstOf (reason 1 (sym p i) ∷ reason 2 (short m) ∷ reason 3 (soundIn t) ∷ reason 15 (countable s m) ∷ []))
 
   -- the closing, and its number 0
   pub closing-refused : (closingNumber t ≡ 0 → ⊥) → closingNumber t ≡ firstOf (reasons t closing)

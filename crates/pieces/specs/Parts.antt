@@ -6,7 +6,7 @@ use mathlib.Core.List.{List}
 use lib.Dec.{eqb}
 use Rattle.model.specs.declared.Answer.{Answer}
 use Rattle.model.specs.declared.Settings.{Settings}
-use Rattle.model.specs.Calls.{Terminal, countable, short, sized}
+use Rattle.model.specs.Calls.{Terminal, countable, short, sized, soundIn}
 use Rattle.model.specs.Line.{line?}
 use Rattle.model.specs.Stream.{together}
 
@@ -15,11 +15,11 @@ abbrev pub countedFrom : ℕ → ℕ → Answer → Answer
 countedFrom start n a =
     record { number = a .number; taken = n; accepted = a .accepted; refused = a .refused; first = a .first; parameter = a .parameter; offset = cond (eqb (a .refused) 0) (a .offset) (start + a .offset); printed = a .printed }
 
--- 1, 2, 3 where the line is not sound, 15; or 0 where none of these is told yet
+-- 1, 2, 3 where the line is not sound, 15 after 3; or 0 where the limit is kept, and whether the rest of the settings is sound is not told yet
 unfoldable pub lineNumber : Terminal → List ℕ → ℕ
 lineNumber t m =
     let s : Settings = t .state .settings in
-    cond (sized t) (cond (short m) (cond (line? (s .waiting) (s .held) (s .count)) (cond (countable s m) 0 15) 3) 2) 1
+    cond (sized t) (cond (short m) (cond (line? (s .waiting) (s .held) (s .count)) (cond (countable s m) 0 (cond (soundIn t) 15 3)) 3) 2) 1
 
 -- the same of the closing
 unfoldable pub closingNumber : Terminal → ℕ

@@ -1,7 +1,6 @@
 // What a piece and the closing are made of, beside message calls: settings with another line, answers counted from the stream's start.
 ghost use mathlib.Core.Path.{_≡_};
 ghost use mathlib.Core.Bool.{true};
-ghost use mathlib.Core.List.{_∷_};
 ghost use Prim.Native.Nat.{_+_, _^_, _<_, _≤_};
 ghost use lib.ListN.{length, replicate};
 ghost use Rattle.model.specs.Calls.{terminal};
@@ -19,7 +18,7 @@ pub fn plain(held: u8, length: usize, count: u32) -> bool
     (held == 0) & (length <= 4096) & (count <= 999995904)
 }
 
-// What a piece is refused by, as far as its own line and length tell.
+// What a piece is refused by; 0 where only the rest of its settings can still be at fault, which a message call judges.
 pub fn line_number(settings: Settings, piece: &[u8], cells: &[u8], layer: &[u8], shown: &[u8]) -> u8
     ensures { λ r. ⌜ r ≡ lineNumber (terminal settings (now (cells .entry)) (now (layer .entry)) (now (shown .entry))) (now (piece .entry)) ⌝ }
 {
@@ -34,10 +33,9 @@ pub fn line_number(settings: Settings, piece: &[u8], cells: &[u8], layer: &[u8],
         return 3;
     }
     if (settings.count as usize) + piece.len() <= 1000000000 {
-        0
-    } else {
-        15
+        return 0;
     }
+    if soundness::sound(settings) { 15 } else { 3 }
 }
 
 // And the closing.
@@ -63,18 +61,6 @@ pub fn quieted(settings: Settings) -> Settings
     let none = [0u8; 12];
     s.waiting = none;
     s.held = 0;
-    s
-}
-
-// The same settings while an ESC waits: a message call judges them, and does nothing.
-pub fn asking(settings: Settings) -> Settings
-    ensures { λ r. ⌜ r ≡ withLine settings (27 ∷ replicate 11 0) 1 1 ⌝ }
-{
-    let mut s = settings;
-    let escape = [27u8, 0, 0, 0, 0, 0, 0, 0, 0, 0, 0, 0];
-    s.waiting = escape;
-    s.held = 1;
-    s.count = 1;
     s
 }
 

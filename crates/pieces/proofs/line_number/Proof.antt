@@ -1,9 +1,9 @@
--- By the four tests, in their order.
+-- By the five tests, in their order.
 use mathlib.Core.Path.{_∙_, refl, sym}
 use mathlib.Core.Bool.{false, true}
 use borrow.Author.Needs.{needs}
 use borrow.Author.Tests.{le-leb, lt-leb, not-false, not-true}
-use Rattle.model.specs.Calls.{countable, sized, terminal}
+use Rattle.model.specs.Calls.{countable, sized, soundIn, terminal}
 use Rattle.pieces.proofs.Refusals.{line-numbered}
 use Rattle.pieces.proofs.line_number.Statement.{statement}
 use Rattle.pieces.proofs.line_number.Tie as tie
@@ -12,14 +12,14 @@ returns : tie.Need-returns
 unfolding sized
 returns c =
     let a = c .before .before .before .before .before .before .args in
-    sym (line-numbered (terminal (a .settings) (a .cells .now) (a .layer .now) (a .shown .now)) (a .piece .now) false _ _ _ (sym (c .before .stores-sized .ensures) ∙ not-true _ (c .if1 .taken)) refl refl refl)
+    sym (line-numbered (terminal (a .settings) (a .cells .now) (a .layer .now) (a .shown .now)) (a .piece .now) false _ _ _ _ (sym (c .before .stores-sized .ensures) ∙ not-true _ (c .if1 .taken)) refl refl refl refl)
 
 returns-2 : tie.Need-returns-2
 unfolding sized
 returns-2 c =
     let sized = c .before in
     let a = sized .before .before .before .before .before .before .args in
-    sym (line-numbered (terminal (a .settings) (a .cells .now) (a .layer .now) (a .shown .now)) (a .piece .now) true false _ _ (sym (sized .before .stores-sized .ensures) ∙ not-false _ (sized .if1 .left)) (lt-leb _ _ (c .if2 .taken)) refl refl)
+    sym (line-numbered (terminal (a .settings) (a .cells .now) (a .layer .now) (a .shown .now)) (a .piece .now) true false _ _ _ (sym (sized .before .stores-sized .ensures) ∙ not-false _ (sized .if1 .left)) (lt-leb _ _ (c .if2 .taken)) refl refl refl)
 
 returns-3 : tie.Need-returns-3
 unfolding sized
@@ -27,7 +27,7 @@ returns-3 c =
     let few = c .before .before .before in
     let sized = few .before in
     let a = sized .before .before .before .before .before .before .args in
-    sym (line-numbered (terminal (a .settings) (a .cells .now) (a .layer .now) (a .shown .now)) (a .piece .now) true true false _ (sym (sized .before .stores-sized .ensures) ∙ not-false _ (sized .if1 .left)) (le-leb _ _ (few .if2 .left)) (sym (c .before .sound .ensures) ∙ not-true _ (c .if3 .taken)) refl)
+    sym (line-numbered (terminal (a .settings) (a .cells .now) (a .layer .now) (a .shown .now)) (a .piece .now) true true false _ _ (sym (sized .before .stores-sized .ensures) ∙ not-false _ (sized .if1 .left)) (le-leb _ _ (few .if2 .left)) (sym (c .before .sound .ensures) ∙ not-true _ (c .if3 .taken)) refl refl)
 
 returns-4 : tie.Need-returns-4
 unfolding sized countable
@@ -36,16 +36,27 @@ returns-4 c =
     let few = line .before .before .before in
     let sized = few .before in
     let a = sized .before .before .before .before .before .before .args in
-    sym (line-numbered (terminal (a .settings) (a .cells .now) (a .layer .now) (a .shown .now)) (a .piece .now) true true true true (sym (sized .before .stores-sized .ensures) ∙ not-false _ (sized .if1 .left)) (le-leb _ _ (few .if2 .left)) (sym (line .before .sound .ensures) ∙ not-false _ (line .if3 .left)) (le-leb _ _ (c .if4 .taken)))
+    sym (line-numbered (terminal (a .settings) (a .cells .now) (a .layer .now) (a .shown .now)) (a .piece .now) true true true true _ (sym (sized .before .stores-sized .ensures) ∙ not-false _ (sized .if1 .left)) (le-leb _ _ (few .if2 .left)) (sym (line .before .sound .ensures) ∙ not-false _ (line .if3 .left)) (le-leb _ _ (c .if4 .taken)) refl)
 
 returns-5 : tie.Need-returns-5
-unfolding sized countable
+unfolding sized countable soundIn
 returns-5 c =
-    let line = c .before .before in
+    let over = c .before .before in
+    let line = over .before .before in
     let few = line .before .before .before in
     let sized = few .before in
     let a = sized .before .before .before .before .before .before .args in
-    sym (line-numbered (terminal (a .settings) (a .cells .now) (a .layer .now) (a .shown .now)) (a .piece .now) true true true false (sym (sized .before .stores-sized .ensures) ∙ not-false _ (sized .if1 .left)) (le-leb _ _ (few .if2 .left)) (sym (line .before .sound .ensures) ∙ not-false _ (line .if3 .left)) (lt-leb _ _ (c .if4 .left)))
+    sym (line-numbered (terminal (a .settings) (a .cells .now) (a .layer .now) (a .shown .now)) (a .piece .now) true true true false true (sym (sized .before .stores-sized .ensures) ∙ not-false _ (sized .if1 .left)) (le-leb _ _ (few .if2 .left)) (sym (line .before .sound .ensures) ∙ not-false _ (line .if3 .left)) (lt-leb _ _ (over .if4 .left)) (sym (c .before .sound2 .ensures) ∙ c .if5 .taken))
+
+returns-6 : tie.Need-returns-6
+unfolding sized countable soundIn
+returns-6 c =
+    let over = c .before .before in
+    let line = over .before .before in
+    let few = line .before .before .before in
+    let sized = few .before in
+    let a = sized .before .before .before .before .before .before .args in
+    sym (line-numbered (terminal (a .settings) (a .cells .now) (a .layer .now) (a .shown .now)) (a .piece .now) true true true false false (sym (sized .before .stores-sized .ensures) ∙ not-false _ (sized .if1 .left)) (le-leb _ _ (few .if2 .left)) (sym (line .before .sound .ensures) ∙ not-false _ (line .if3 .left)) (lt-leb _ _ (over .if4 .left)) (sym (c .before .sound2 .ensures) ∙ c .if5 .left))
 
 pub line-number-spec : {M : Type 1} → statement M
 line-number-spec =
@@ -59,4 +70,6 @@ line-number-spec =
     (λ c. search needs)
     (λ c. search needs)
     returns-4
-    returns-5)
+    (λ c κs. search needs)
+    returns-5
+    returns-6)
