@@ -1,0 +1,11 @@
+pub mod Examples
+pub mod Outcomes
+pub mod Weights
+pub mod Changing
+pub mod Dots
+pub mod Offsets
+pub mod Places
+pub mod Walking
+pub mod Drawing
+pub mod Masks
+pub mod Claimed

@@ -1,0 +1,4 @@
+pub mod Dot
+pub mod Line
+pub mod Claims
+pub mod Walk
