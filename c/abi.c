@@ -1,8 +1,8 @@
 /*
  * Holds the header and the archive together: every field of the settings is
- * set by a sequence or a piece of its own and read back through the header's
- * structures, as are the answer's fields; streams give what document 02 says of
- * them, and refused calls leave every byte alone.
+ * set by a sequence, a piece or a key text of its own and read back through the
+ * header's structures, as are the answer's fields; streams and the key line give
+ * what document 02 says of them, and refused calls leave every byte alone.
  *
  *   gcc -std=c99 -o abi abi.c libboard.a && ./abi
  *
@@ -112,6 +112,7 @@ static void opening_settings(px8_settings s)
     check(s.keys.shift == 0 && all(s.keys.arrows, 12, 0), "opening: shift and arrows");
     check(all(s.patterns, PX8_PATTERNS, 0), "opening: patterns");
     check(all(s.waiting, PX8_WAITING_MOST, 0) && s.held == 0 && s.count == 0, "opening: stream");
+    check(all(s.texts, PX8_TEXTS, PX8_BLANK), "opening: texts");
 }
 
 static void opening(void)
@@ -130,10 +131,11 @@ static void opening(void)
 
 /* ---- every field of the settings ---- */
 
-/* Before the padding all bytes count; behind it there is the count alone. */
+/* Before the padding all bytes count; behind it there are the count and the texts. */
 static int same_settings(px8_settings one, px8_settings other)
 {
-    return memcmp(&one, &other, offsetof(px8_settings, held) + 1) == 0 && one.count == other.count;
+    return memcmp(&one, &other, offsetof(px8_settings, held) + 1) == 0 && one.count == other.count &&
+           memcmp(one.texts, other.texts, PX8_TEXTS) == 0;
 }
 
 /* Sends the bytes to a terminal just opened: the settings afterwards must be
@@ -246,6 +248,28 @@ static void waiting(void)
     s = open_desk().settings;
     s.count = 0x30000000;
     check(send_piece(s, bytes, 1).settings.count == 0x30000001, "count");
+}
+
+/* The texts, a key at a time; the call has no store. */
+static void texts(void)
+{
+    uint8_t text[PX8_KEY_TEXT];
+    size_t key, n;
+    px8_settings s = open_desk().settings;
+    px8_outcome outcome;
+    fill_desk();
+    for (key = 1; key <= PX8_KEYS; key++) {
+        for (n = 0; n < PX8_KEY_TEXT; n++)
+            text[n] = (uint8_t)(250 - 9 * key + n);
+        outcome = px8_key_text(s, key, text, PX8_KEY_TEXT);
+        memcpy(s.texts + PX8_KEY_TEXT * (key - 1), text, PX8_KEY_TEXT);
+        check(outcome.answer.number == PX8_SERVED && outcome.answer.taken == 0 &&
+                  outcome.answer.accepted == 0 && outcome.answer.refused == 0 &&
+                  outcome.answer.first == 0 && outcome.answer.printed == 0 &&
+                  same_settings(outcome.settings, s) && memcmp(&at, &copy, sizeof at) == 0,
+              "texts");
+        s = outcome.settings;
+    }
 }
 
 /* ---- the answer and the stores ---- */
@@ -417,6 +441,78 @@ static void stream_paints(void)
     check(memcmp(at.shown, "net ", 4) == 0 && at.shown[PX8_SHOWN - 1] == PX8_BLANK, "stream: closing paints");
 }
 
+/* ---- the key line ---- */
+
+static px8_settings with_text(px8_settings settings, size_t key, const char *text)
+{
+    return px8_key_text(settings, key, (const uint8_t *)text, strlen(text)).settings;
+}
+
+/* A text is seen from the next message on, in row 8 and in a copy. */
+static void key_line(void)
+{
+    static const uint8_t show[] = {27, 211, 0}, copies[] = {27, 80};
+    const uint8_t *row_8 = at.shown + PX8_AT(8, 1);
+    px8_settings settings;
+    px8_outcome out;
+    fill_desk();
+    settings = send_message(open_desk().settings, show, sizeof show).settings;
+    settings = with_text(settings, 10, "AAAAAAAA");
+    check(all(at.shown, PX8_SHOWN, PX8_BLANK), "key line: a text paints nothing");
+    out = send_message(settings, copies, sizeof copies);
+    check(answers(out.answer, 2, 1, 0, 0, 0) && all(row_8, 72, PX8_BLANK) && all(row_8 + 72, 8, 'A'),
+          "key line: shown");
+    check(memcmp(at.printer + 7 * PX8_COPY_ROW, row_8, PX8_WIDTH) == 0, "key line: copied");
+}
+
+/* In every mode it takes all of row 8; marks and secret are over it. */
+static void key_line_in_modes(void)
+{
+    static const uint8_t modes[][9] = {{27, 211, 0, 27, 208, 0, 24, 24, 0},
+                                       {27, 211, 0, 27, 208, 1, 16, 0, 0},
+                                       {27, 211, 0, 27, 208, 2, 8, 39, '|'}};
+    static const uint8_t marks[] = {27, 210, 8, 40, '*', 27, 210, 8, 80, '+'}, secret[] = {27, 123};
+    const uint8_t *row_8 = at.shown + PX8_AT(8, 1);
+    px8_settings settings;
+    size_t mode, key;
+    for (mode = 0; mode < 3; mode++) {
+        fill_desk();
+        settings = send_message(open_desk().settings, modes[mode], 9).settings;
+        for (key = 1; key <= PX8_KEYS; key++)
+            settings = with_text(settings, key, "kg tare ");
+        settings = send_message(settings, NULL, 0).settings;
+        check(memcmp(row_8, "kg tare kg tare ", 16) == 0 && memcmp(row_8 + 36, "are kg t", 8) == 0 &&
+                  memcmp(row_8 + 64, "kg tare kg tare ", 16) == 0 && guards_stay(),
+              "key line: in a mode");
+        settings = send_message(settings, marks, sizeof marks).settings;
+        check(row_8[38] == 'e' && row_8[39] == '*' && row_8[79] == '+', "key line: under marks");
+        send_message(settings, secret, sizeof secret);
+        check(all(at.shown, PX8_SHOWN, PX8_BLANK), "key line: under secret");
+    }
+}
+
+/* A window is a line lower, and the other screen's top is held too. */
+static void key_line_windows(void)
+{
+    static const uint8_t steps[] = {27, 148, 8, 27, 211, 0, 10, 10, 10, 10, 10, 10, 10, 10, 10, 10};
+    static const uint8_t ends[] = {27, 211, 0, 27, 209, 1, 27, 213, 27, 209, 0, 27, 210, 1, 1, '*'};
+    static const uint8_t back[] = {27, 211, 1}, step[] = {27, 148, 8};
+    static const uint8_t half[] = {27, 211, 0, 27, 208, 1, 16, 27, 61, 39, 32, 'A'};
+    px8_outcome out;
+    fill_desk();
+    out = send_message(open_desk().settings, steps, sizeof steps);
+    check(out.settings.step == 7 && out.settings.places[0].top == 5, "key line: step and top");
+    out = send_message(out.settings, step, sizeof step);
+    check(out.answer.first == PX8_OUT_OF_RANGE && out.answer.parameter == 1, "key line: a step of 8");
+    out = send_message(open_desk().settings, ends, sizeof ends);
+    check(out.settings.places[1].top == 18 && at.shown[0] == '*', "key line: the last top");
+    out = send_message(out.settings, back, sizeof back);
+    check(out.settings.places[1].top == 17 && out.settings.places[0].top == 1, "key line: both tops held");
+    check(all(at.layer, PX8_LAYER, 0) && guards_stay(), "key line: marks go");
+    send_message(open_desk().settings, half, sizeof half);
+    check(at.shown[PX8_AT(1, 42)] == 'A', "key line: the right half");
+}
+
 static void layer(void)
 {
     static const uint8_t bytes[] = {27, 210, 8, 80, '*'};
@@ -572,6 +668,45 @@ static void refused_streams(void)
     check_refused(send_message(full, NULL, 0), full, PX8_BYTES_WAIT, "refused: an empty message by 16");
 }
 
+/* 3, then 17: a number as wide as size_t is judged whole. */
+static void refused_key_texts(void)
+{
+    static const uint8_t text[] = "AAAAAAAAA";
+    const size_t wrong[] = {0, 11, 256, 257, (size_t)1 << 32 | 1, (size_t)-1};
+    const px8_settings settings = open_desk().settings;
+    px8_settings unsound = settings;
+    size_t n;
+    unsound.step = 0;
+    fill_desk();
+    for (n = 0; n < sizeof wrong / sizeof wrong[0]; n++)
+        check_refused(px8_key_text(settings, wrong[n], text, 8), settings, PX8_BAD_KEY_TEXT,
+                      "refused: key number");
+    check_refused(px8_key_text(settings, 1, text, 7), settings, PX8_BAD_KEY_TEXT, "refused: text of 7");
+    check_refused(px8_key_text(settings, 10, text, 9), settings, PX8_BAD_KEY_TEXT, "refused: text of 9");
+    check_refused(px8_key_text(settings, 5, NULL, 0), settings, PX8_BAD_KEY_TEXT, "refused: no text");
+    check_refused(px8_key_text(unsound, 0, text, 9), unsound, PX8_UNSOUND, "refused: 3 before 17");
+    check_refused(px8_key_text(unsound, 1, text, 8), unsound, PX8_UNSOUND, "refused: a text, not sound");
+}
+
+/* The key line's own limits of soundness; the least numbers of lines stay. */
+static void unsound_key_lines(void)
+{
+    px8_settings settings = open_desk().settings;
+    settings.display = 0;
+    settings.places[1].top = 18;
+    settings.step = 7;
+    fill_desk();
+    check(close_stream(settings).answer.number == PX8_SERVED, "sound: top 18 and step 7 of 24 lines");
+    settings.step = 8;
+    check_unsound(settings, "unsound: step 8 with the key line");
+    settings.step = 1;
+    settings.places[1].top = 19;
+    check_unsound(settings, "unsound: top 19 with the key line");
+    settings.places[1].top = 1;
+    settings.lines1 = 7;
+    check_unsound(settings, "unsound: 7 lines with the key line");
+}
+
 /* Lengths of 0 with null pointers are served where any length is. */
 static void empty_buffers(void)
 {
@@ -688,6 +823,7 @@ int main(void)
     keys();
     patterns();
     waiting();
+    texts();
     answer();
     parameters();
     stream_escapes();
@@ -696,6 +832,9 @@ int main(void)
     stream_copies();
     stream_messages();
     stream_paints();
+    key_line();
+    key_line_in_modes();
+    key_line_windows();
     layer();
     printed();
     refused_openings();
@@ -703,6 +842,8 @@ int main(void)
     unsound_lines();
     limit();
     refused_streams();
+    refused_key_texts();
+    unsound_key_lines();
     empty_buffers();
     compared();
     repeats();

@@ -72,6 +72,12 @@ static void add_copy(message *to)
     add(to, sequence, sizeof sequence);
 }
 
+static void add_key_line(message *to)
+{
+    static const uint8_t sequence[3] = {ESC, 211, 0};
+    add(to, sequence, sizeof sequence);
+}
+
 /* ---- showing what stands ---- */
 
 static int letter(uint8_t code)
@@ -132,6 +138,16 @@ static int open_bay(bay *at)
     return opened.number == PX8_SERVED;
 }
 
+/* The text of a key, PX8_KEY_TEXT letters; it is seen from the next message on. */
+static void name_key(bay *at, size_t key, const char *text)
+{
+    const px8_outcome outcome =
+        px8_key_text(at->settings, key, (const uint8_t *)text, strlen(text));
+    at->settings = outcome.settings;
+    if (outcome.answer.number != PX8_SERVED)
+        printf("key %lu refused by %u\n", (unsigned long)key, (unsigned)outcome.answer.number);
+}
+
 static void draw_tally(bay *at, message *next, const char *loads, const char *sum)
 {
     add_select(next, SCREEN_2);
@@ -183,5 +199,10 @@ int main(void)
     add_text(&next, "stable");
     add_place(&next, 25, 1);
     send_message(&here, "a line that is not there", &next);
+    name_key(&here, 1, "TARE    ");
+    name_key(&here, 2, "PRINT   ");
+    name_key(&here, 10, "   TALLY");
+    add_key_line(&next);
+    send_message(&here, "the key line", &next);
     return 0;
 }

@@ -9,6 +9,7 @@
  *   px8_message   reads one message and brings everything up to date
  *   px8_piece     the same for a piece of a stream, cut at any byte
  *   px8_closing   ends the stream
+ *   px8_key_text  sets the text of a key for the key line
  *   px8_printed   how many bytes of a printer buffer to send on
  *   px8_key_repeats  the codes that a trace of key presses sends
  *
@@ -26,11 +27,12 @@
  * has its own settings and stores.
  *
  * A list of calls. Open once; then hand each message, piece and closing the
- * settings and the three stores just as the call before left them. Nobody else
+ * settings and the three stores just as the call before left them; a key text,
+ * which has no store, the settings. Nobody else
  * should write them meanwhile. Settings, cells and layer can be saved and taken
  * up again later without an opening, in the middle of a stream too: they are
- * all that stands, and the next call that is served paints the shown screen
- * from them.
+ * all that stands, and the next message, piece or closing that is served paints
+ * the shown screen from them.
  *
  * Messages or a stream. A message is read by itself: it must not end inside a
  * sequence. A line whose bytes come in whatever parts the port hands over is a
@@ -75,6 +77,9 @@ extern "C" {
 #define PX8_BLANK 32          /* what a blank cell holds */
 #define PX8_WAITING_MOST 12   /* bytes of a stream that can wait */
 #define PX8_COUNT_MOST 1000000000 /* the most bytes of a stream */
+#define PX8_KEYS 10           /* keys with a text in the key line */
+#define PX8_KEY_TEXT 8        /* codes of a key's text */
+#define PX8_TEXTS 80          /* bytes of the key texts, PX8_KEYS * PX8_KEY_TEXT */
 #define PX8_TRACE_MOST 60000  /* the longest trace that is taken */
 #define PX8_STROKE 9          /* bytes of a record of a trace */
 #define PX8_CODE 5            /* bytes of a code that a trace sends */
@@ -86,13 +91,15 @@ extern "C" {
 
 /* The number of a call: 0, or why the whole call was refused. They are tried
  * in this order: 1, 2, 3, 16 by px8_message, 1, 2, 3, 15 by px8_piece, 1, 3 by
- * px8_closing; px8_opening knows only 0 and 1. */
+ * px8_closing, 3, 17 by px8_key_text; px8_opening knows only 0 and 1. */
 #define PX8_SERVED 0     /* the call was served */
 #define PX8_STORE_SIZE 1 /* cells, layer or shown screen are not of their size */
 #define PX8_TOO_LONG 2   /* the message or piece is longer than PX8_MESSAGE_MOST */
 #define PX8_UNSOUND 3    /* a setting is outside its range (see px8_settings) */
 #define PX8_STREAM_TOO_LONG 15 /* the piece would take the count past PX8_COUNT_MOST */
 #define PX8_BYTES_WAIT 16 /* a message, even an empty one, while bytes of a stream wait */
+#define PX8_BAD_KEY_TEXT 17 /* the key is not 1 to PX8_KEYS, or the text not of
+                             * PX8_KEY_TEXT bytes */
 
 /* px8_compare and px8_first_difference know 0 and 1 (a screen is not of its
  * size), and px8_compare, after 1: */
@@ -143,21 +150,22 @@ typedef struct px8_keys {
                          * with SHIFT (244), four with CTRL (245), as sent */
 } px8_keys;
 
-/* The settings. H is the window's height: 16 in mode 1, else 8. The measures
- * hang on the mode; m is mode 2's own number, 1 to 78:
+/* The settings. The measures hang on the mode; m is mode 2's own number, 1 to
+ * 78. H is the window's height, which hangs on the key display too:
  *
- *   mode  lines1 and lines2                      columns1  columns2
- *   0     each at least 8, together at most 48   80        80
- *   1     equal, 16 to 48                        39        39
- *   2     equal, 8 to 48                         m         79 - m
+ *   mode  lines1 and lines2                      columns1  columns2  H: display 1, 0
+ *   0     each at least 8, together at most 48   80        80           8        7
+ *   1     equal, 16 to 48                        39        39           16       14
+ *   2     equal, 8 to 48                         m         79 - m       8        7
  *
  * Settings are sound when every field lies in its range. What the calls return
  * is always sound, or else exactly what was given to a refused call; so only a
  * caller that makes or alters settings can meet number 3.
  *
- * The last three are the stream's. No sequence changes them, and a message
- * leaves them. Between `held` and `count` there are three padding bytes of no
- * fixed value: compare settings field by field. */
+ * waiting, held and count are the stream's. No sequence changes them, and a
+ * message leaves them. Only px8_key_text changes the texts. Between `held` and
+ * `count` there are three padding bytes of no fixed value: compare settings field
+ * by field. */
 typedef struct px8_settings {
     uint8_t mode;        /* 0, 1 or 2 (ESC 208) */
     uint8_t lines1;      /* lines of screen 1, by the table (ESC 208) */
@@ -172,8 +180,8 @@ typedef struct px8_settings {
     uint8_t step;        /* lines that ESC 150 and 151 move by, 1 to H (ESC 148) */
     uint8_t secret;      /* 1 every place is shown blank, 0 not (ESC 123, 125) */
     uint8_t cursor;      /* 1 cursor on, 0 off (ESC 51, 50); stored only */
-    uint8_t display;     /* key display as sent, 0 or 1 (ESC 211); stored only. The
-                          * manual: 0 shows the function keys, 1 does not */
+    uint8_t display;     /* key display as sent (ESC 211): 0 row 8 is the key line,
+                          * 1 it shows the screens as the other rows do */
     uint8_t kind;        /* type of the cursor, 0 to 3 (ESC 214); stored only */
     px8_keys keys;
     uint8_t patterns[PX8_PATTERNS]; /* any bytes: code c, 224 to 254, has the eight
@@ -184,6 +192,8 @@ typedef struct px8_settings {
                           * are 0 */
     uint8_t held;        /* how many bytes wait, 0 to 12, at most `count` */
     uint32_t count;      /* bytes of the stream so far, 0 to PX8_COUNT_MOST */
+    uint8_t texts[PX8_TEXTS]; /* any bytes: key k, 1 to 10, has the eight from
+                          * 8 * (k - 1) on, which stand in columns 8k-7 to 8k of row 8 */
 } px8_settings;
 
 /*
@@ -191,7 +201,7 @@ typedef struct px8_settings {
  * 32, screen 1 selected (0), both places 1, 1, 1, tracking 1, step 1, secret
  * 0, cursor 1, display 1, kind 0; LEDs 0, charset U, strings 1, repeat 1,
  * delay 32, interval 16, shift 0, arrows 0; patterns 0; waiting 0, held 0,
- * count 0.
+ * count 0; texts 32.
  */
 
 /* ---- stores ----
@@ -238,7 +248,7 @@ typedef struct px8_settings {
  *                         screen 1 selected, step 1, tracking on
  *   ESC 209 n           selects screen 1 (0) or 2 (1)
  *   ESC 210 x y p       marks row x, 1 to 8, column y, 1 to 80, with code p
- *   ESC 211 n           key display, 0 or 1
+ *   ESC 211 n           key display: 0 row 8 is the key line, 1 not
  *   ESC 212, 213, 215   window to the top, to the end, to the cursor
  *   ESC 214 n           cursor type, 0 to 3
  *   ESC 224 c r1 .. r8  pattern of code c, 224 to 254
@@ -249,9 +259,19 @@ typedef struct px8_settings {
  *   ESC 247 n           shift state, one of px8_keys.shift
  *
  * Printing takes away the mark over the place that shows its cell, if one does.
- * All marks go with an accepted 42, 84, 89, 144, 145, 208, 209, with code 12, with
- * a lifted screen and with a window that moves. While tracking is on, a window
- * that misses the cursor's line after printing, codes 8, 10, 13 or ESC 61 moves.
+ * All marks go with an accepted 42, 84, 89, 144, 145, 208, 209, with a 211 that
+ * changes the display, with code 12, with a lifted screen and with a window that
+ * moves. While tracking is on, a window that misses the cursor's line after
+ * printing, codes 8, 10, 13 or ESC 61 moves.
+ *
+ * The key line. With display 0 the screens have rows 1 to 7 alone: a window is 7
+ * lines high, in mode 1 14, whose right half begins seven lines after the left. In
+ * row 8 stand the ten key texts, in every column, those too that are blank or the
+ * boundary above; marks cover them, and secret blanks them. A 211 that changes the
+ * display lowers the tops of both screens and the step to their new limits where
+ * they are above. It moves no cursor and does not track, so that the cursor's line
+ * may be left below the window until the next thing that does. The least numbers of
+ * lines stay 8 and 16.
  */
 
 /* ---- which parameter ----
@@ -274,11 +294,12 @@ typedef struct px8_settings {
 
 /* ---- results ---- */
 
-/* The answer to a message, a piece or a closing. Between its fields there are
- * padding bytes of no fixed value: compare answers field by field. */
+/* The answer to a message, a piece, a closing or a key text (which takes, reads
+ * and prints nothing). Between its fields there are padding bytes of no fixed
+ * value: compare answers field by field. */
 typedef struct px8_answer {
     uint8_t number;    /* PX8_SERVED, or why the whole call was refused: 1, 2, 3, 15,
-                        * 16; sequences may be refused in a call that was served */
+                        * 16, 17; sequences may be refused in a call that was served */
     uint32_t taken;    /* bytes taken, if served: all of the message or piece, those
                         * too that wait; none by closing */
     uint32_t accepted; /* sequences accepted (printed bytes and codes not counted) */
@@ -411,6 +432,17 @@ px8_outcome px8_closing(px8_settings settings,
                         uint8_t *shown, size_t shown_length);
 
 /*
+ * Sets the text of a key, number 1 to PX8_KEYS, to these PX8_KEY_TEXT codes, which
+ * may be any. It paints nothing: the text is seen, where the display is 0, from the
+ * next message, piece or closing on, and in the copies that these print. It is
+ * served whatever the display is, and while bytes of a stream wait.
+ *
+ * A refused call (answer.number 3 or 17) returns the settings as they were given.
+ */
+px8_outcome px8_key_text(px8_settings settings, size_t number,
+                         const uint8_t *text, size_t text_length);
+
+/*
  * The part of a printer buffer to send on: its first `count` bytes, with
  * answer.printed for the count. Returned is that part's length: count, or 0 if
  * count is larger than the length. It refuses nothing and writes nothing.
@@ -491,7 +523,7 @@ PX8_HOLDS(offsetof(px8_keys, interval) == 7);
 PX8_HOLDS(offsetof(px8_keys, shift) == 8);
 PX8_HOLDS(offsetof(px8_keys, arrows) == 9);
 
-PX8_HOLDS(sizeof(px8_settings) == 308);
+PX8_HOLDS(sizeof(px8_settings) == 388);
 PX8_HOLDS(offsetof(px8_settings, mode) == 0);
 PX8_HOLDS(offsetof(px8_settings, lines1) == 1);
 PX8_HOLDS(offsetof(px8_settings, lines2) == 2);
@@ -511,6 +543,7 @@ PX8_HOLDS(offsetof(px8_settings, patterns) == 40);
 PX8_HOLDS(offsetof(px8_settings, waiting) == 288);
 PX8_HOLDS(offsetof(px8_settings, held) == 300);
 PX8_HOLDS(offsetof(px8_settings, count) == 304);
+PX8_HOLDS(offsetof(px8_settings, texts) == 308);
 
 PX8_HOLDS(sizeof(size_t) == 8);
 PX8_HOLDS(sizeof(px8_answer) == 32);
@@ -523,9 +556,9 @@ PX8_HOLDS(offsetof(px8_answer, parameter) == 17);
 PX8_HOLDS(offsetof(px8_answer, offset) == 20);
 PX8_HOLDS(offsetof(px8_answer, printed) == 24);
 
-PX8_HOLDS(sizeof(px8_outcome) == 344);
+PX8_HOLDS(sizeof(px8_outcome) == 424);
 PX8_HOLDS(offsetof(px8_outcome, settings) == 0);
-PX8_HOLDS(offsetof(px8_outcome, answer) == 312);
+PX8_HOLDS(offsetof(px8_outcome, answer) == 392);
 
 PX8_HOLDS(sizeof(px8_difference) == 4);
 PX8_HOLDS(offsetof(px8_difference, row) == 0);
@@ -542,9 +575,9 @@ PX8_HOLDS(offsetof(px8_first, number) == 0);
 PX8_HOLDS(offsetof(px8_first, found) == 1);
 PX8_HOLDS(offsetof(px8_first, difference) == 2);
 
-PX8_HOLDS(sizeof(px8_opened) == 312);
+PX8_HOLDS(sizeof(px8_opened) == 392);
 PX8_HOLDS(offsetof(px8_opened, settings) == 0);
-PX8_HOLDS(offsetof(px8_opened, number) == 308);
+PX8_HOLDS(offsetof(px8_opened, number) == 388);
 
 PX8_HOLDS(sizeof(px8_repeats) == 16);
 PX8_HOLDS(offsetof(px8_repeats, number) == 0);

@@ -13,7 +13,7 @@
 #define STACK (256 * 1024)
 #define FILL 0xA5
 #define MOST 4096        /* what the README says a call takes at most, */
-#define STREAM_MOST 6144 /* and a piece and a closing, which are made of message calls */
+#define STREAM_MOST 7168 /* and a piece and a closing, which are made of message calls */
 
 static uint8_t cells[PX8_CELLS], layer[PX8_LAYER], shown[PX8_SHOWN], printer[2 * PX8_COPY];
 static px8_settings settings;
@@ -57,6 +57,14 @@ static void *closing(void *unused) {
     return unused;
 }
 
+static void *key_text(void *unused) {
+    static const uint8_t text[PX8_KEY_TEXT] = {'T', 'A', 'R', 'E', ' ', ' ', ' ', ' '};
+    const px8_outcome out = px8_key_text(settings, PX8_KEYS, text, sizeof text);
+    if (out.answer.number != PX8_SERVED) abort();
+    settings = out.settings;
+    return unused;
+}
+
 /* every place differs */
 static void *compare(void *unused) {
     static px8_difference list[PX8_PLACES];
@@ -96,8 +104,9 @@ int main(void) {
     size_t start = used(piece) - thread;
     size_t rest = used(next) - thread;
     size_t end = used(closing) - thread;
+    size_t name = used(key_text) - thread;
     size_t lay = used(compare) - thread;
     size_t work = used(repeats) - thread;
-    printf("opening %zu\nmessage %zu\npiece %zu\nnext piece %zu\nclosing %zu\ncompare %zu\nkey repeats %zu\n", open, serve, start, rest, end, lay, work);
-    return open <= MOST && serve <= MOST && start <= STREAM_MOST && rest <= STREAM_MOST && end <= STREAM_MOST && lay <= MOST && work <= MOST ? 0 : 1;
+    printf("opening %zu\nmessage %zu\npiece %zu\nnext piece %zu\nclosing %zu\nkey text %zu\ncompare %zu\nkey repeats %zu\n", open, serve, start, rest, end, name, lay, work);
+    return open <= MOST && serve <= MOST && start <= STREAM_MOST && rest <= STREAM_MOST && end <= STREAM_MOST && name <= MOST && lay <= MOST && work <= MOST ? 0 : 1;
 }

@@ -27,7 +27,7 @@ const PARTS: [Part; 3] = [
         breaks: BREAKS,
         list: "BROKEN: &[Functions]",
         files: &["settings", "read", "stream", "sound", "picture", "apply", "calls"],
-        calls: ("calls", &["opening", "message", "piece", "closing", "printed"]),
+        calls: ("calls", &["opening", "message", "piece", "closing", "key_text", "printed"]),
     },
     Part {
         name: "screens",

@@ -3,7 +3,7 @@
 ghost use mathlib.Core.Path.{_≡_};
 ghost use Prim.Native.Nat.{_<_, _≤_};
 ghost use lib.ListN.{length};
-ghost use Rattle.model.specs.Calls.{Promised, called, closed, pieced, terminal};
+ghost use Rattle.model.specs.Calls.{KeyPromised, Promised, called, closed, pieced, terminal};
 ghost use Rattle.model.specs.Opening.{OpeningPromised, firstPart};
 ghost use Rattle.differences.specs.Answers.{ComparePromised, firstOf, valuesOf};
 ghost use Rattle.traces.specs.Call.{RepeatsPromised};
@@ -226,6 +226,14 @@ pub extern "C" fn px8_closing(
         settings: lined(one.settings, &waiting[..0], 0),
         answer: counted_from(one.answer, start, 0),
     }
+}
+
+// Document 02, P2: the text of a key, which row 8 shows under ESC 211,0 from the next message on.
+#[no_mangle]
+pub extern "C" fn px8_key_text(settings: Settings, number: usize, text: &[u8]) -> Outcome
+    ensures { λ r. ⌜ KeyPromised number (now (text .entry)) settings (r .answer) (r .settings) ⌝ }
+{
+    terminal::key(settings, number, text)
 }
 
 // The length of the part that the printer call hands back: a reference cannot be returned to C.

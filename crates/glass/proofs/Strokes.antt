@@ -6,8 +6,7 @@ use native.Mathlib.Omega.{arith}
 use mathlib.Core.Bool.{false, true}
 use mathlib.Core.List.{List, [], _++_, _∷_, append-assoc, append-nil}
 use lib.ListN.{drop, getD, length, set, take}
-use lib.Seq.{length-take-le, take-suc-set}
-use Rattle.io.specs.Counts.{Counts}
+use lib.Seq.{take-suc-set}
 use Rattle.model.specs.Bytes.{put}
 use Rattle.model.proofs.ByteLaws.{length-put}
 use Rattle.report.specs.Letters.{letter}

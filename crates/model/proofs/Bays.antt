@@ -1,4 +1,4 @@
--- Bays' examples, all under one statement that antt computes; and P1's lists of calls, under another.
+-- Bays' examples, all under one statement that antt computes; and P1's and P2's lists of calls, under another.
 use mathlib.Core.Path.{_≡_, refl}
 use mathlib.Core.Bool.{true}
 use mathlib.Core.List.{_++_}
@@ -7,20 +7,20 @@ use Rattle.model.specs.Checks.{firstBad, inRanges?, member, passes}
 use Rattle.model.specs.Screens.{base, cellAt, columnsOf, height, lineAt, linesOf, placeOf, size, textRows}
 use Rattle.model.specs.Line.{line?, padded, zeros?}
 use Rattle.model.specs.Sound.{arrayRanges, inside?, insideRanges, keyRanges, otherRanges, plainRanges, shapeRanges, sound?}
-use Rattle.model.specs.Picture.{copied, copiedRows, covered, halves, painting, picture, pictureAt, sides, under, windowAt}
+use Rattle.model.specs.Picture.{copied, copiedRows, covered, halves, painting, picture, pictureAt, sides, textAt, under, windowAt}
 use Rattle.model.specs.Sequences.{find, modeRowOf, rowOf}
 use Rattle.model.specs.Reading.{afterEscape, afterMode, byteOf, decoded, ended, gathered, itemOf, kindOf, needed, remaining, unfinished?}
 use Rattle.model.specs.Judging.{allowed, badOf, fitting, legal?}
-use Rattle.model.specs.Rules.{applyItem, blankFrom, centred, cleared, control, down, emptied, flagged, held, withKeys, withKindPatterns, mark, missed, modeSet, nearest, obeyed, onLines, placed, printed, right, shownAt, stored, toColumn, topped, tracked, trackedFar, unmark, withCells, withLayer, withSettings}
-use Rattle.model.specs.Items.{applyAll, copies, countedAll, happened, lined, readsOf}
-use Rattle.model.specs.Calls.{accepted, allFree, answerOf, countable, eventsBy, eventsIn, firstOf, itemBytes, lineMoved, noneWaits, numberOf, printedBy, readsBy, readsIn, reasons, served, soundIn, shownAfter, sized, startOf, takenBy, takenIn}
+use Rattle.model.specs.Rules.{applyItem, blankFrom, centred, cleared, control, displaying, down, emptied, flagged, held, keyLine, withKeys, withKindPatterns, mark, missed, modeSet, nearest, obeyed, onLines, placed, printed, right, shownAt, stored, toColumn, topped, tracked, trackedFar, unmark, withCells, withLayer, withSettings}
+use Rattle.model.specs.Items.{applyAll, copies, countedAll, happened, lined, readsOf, texted}
+use Rattle.model.specs.Calls.{accepted, allFree, answerOf, countable, eventsBy, eventsIn, firstOf, itemBytes, besideItems, keyable, noneWaits, numberOf, printedBy, readsBy, readsIn, reasons, served, soundIn, shownAfter, sized, startOf, takenBy, takenIn}
 use Rattle.model.specs.Examples.{added, allHold, allRight, holds, isRight, marked, parameters, unmarked}
-use Rattle.model.specs.Runs.{allRun, streams, turnsHold}
+use Rattle.model.specs.Runs.{allRun, keyLines, streams, turnsHold}
 
 pub bays : allRight (marked ++ (unmarked ++ (added ++ parameters))) ≡ true
-unfolding joined onPart blanked scrolledUp scrolledDown put member passes inRanges? firstBad linesOf columnsOf placeOf textRows height base size lineAt cellAt keyRanges plainRanges arrayRanges insideRanges shapeRanges otherRanges inside? zeros? line? sound? windowAt halves sides under covered pictureAt picture painting copiedRows copied find rowOf modeRowOf afterMode afterEscape needed unfinished? gathered remaining kindOf decoded ended itemOf byteOf legal? badOf allowed fitting withSettings withCells withLayer placed emptied shownAt unmark mark stored onLines down toColumn right topped held centred nearest missed tracked trackedFar printed cleared control blankFrom modeSet flagged withKeys withKindPatterns obeyed applyItem readsOf happened applyAll copies countedAll itemBytes sized soundIn firstOf allFree reasons numberOf accepted noneWaits countable lineMoved startOf takenBy takenIn readsBy readsIn eventsBy eventsIn shownAfter served answerOf printedBy holds allHold isRight allRight marked unmarked added parameters
+unfolding joined onPart blanked scrolledUp scrolledDown put member passes inRanges? firstBad linesOf columnsOf placeOf textRows height base size lineAt cellAt keyRanges plainRanges arrayRanges insideRanges shapeRanges otherRanges inside? zeros? line? sound? windowAt halves sides textAt under covered pictureAt picture painting copiedRows copied find rowOf modeRowOf afterMode afterEscape needed unfinished? gathered remaining kindOf decoded ended itemOf byteOf legal? badOf allowed fitting withSettings withCells withLayer placed emptied shownAt unmark mark stored onLines down toColumn right topped held centred nearest missed tracked trackedFar printed cleared control blankFrom modeSet flagged displaying keyLine withKeys withKindPatterns obeyed applyItem readsOf happened applyAll copies countedAll itemBytes sized soundIn firstOf allFree reasons numberOf accepted noneWaits countable keyable besideItems startOf takenBy takenIn readsBy readsIn eventsBy eventsIn shownAfter served answerOf printedBy holds allHold isRight allRight marked unmarked added parameters
 bays = refl
 
-pub turns : allRun streams ≡ true
-unfolding padded lined joined onPart blanked scrolledUp scrolledDown put member passes inRanges? firstBad linesOf columnsOf placeOf textRows height base size lineAt cellAt keyRanges plainRanges arrayRanges insideRanges shapeRanges otherRanges inside? zeros? line? sound? windowAt halves sides under covered pictureAt picture painting copiedRows copied find rowOf modeRowOf afterMode afterEscape needed unfinished? gathered remaining kindOf decoded ended itemOf byteOf legal? badOf allowed fitting withSettings withCells withLayer placed emptied shownAt unmark mark stored onLines down toColumn right topped held centred nearest missed tracked trackedFar printed cleared control blankFrom modeSet flagged withKeys withKindPatterns obeyed applyItem readsOf happened applyAll copies countedAll itemBytes sized soundIn firstOf allFree reasons numberOf accepted noneWaits countable lineMoved startOf takenBy takenIn readsBy readsIn eventsBy eventsIn shownAfter served answerOf printedBy holds allHold turnsHold allRun streams
+pub turns : allRun (streams ++ keyLines) ≡ true
+unfolding padded lined texted joined onPart blanked scrolledUp scrolledDown put member passes inRanges? firstBad linesOf columnsOf placeOf textRows height base size lineAt cellAt keyRanges plainRanges arrayRanges insideRanges shapeRanges otherRanges inside? zeros? line? sound? windowAt halves sides textAt under covered pictureAt picture painting copiedRows copied find rowOf modeRowOf afterMode afterEscape needed unfinished? gathered remaining kindOf decoded ended itemOf byteOf legal? badOf allowed fitting withSettings withCells withLayer placed emptied shownAt unmark mark stored onLines down toColumn right topped held centred nearest missed tracked trackedFar printed cleared control blankFrom modeSet flagged displaying keyLine withKeys withKindPatterns obeyed applyItem readsOf happened applyAll copies countedAll itemBytes sized soundIn firstOf allFree reasons numberOf accepted noneWaits countable keyable besideItems startOf takenBy takenIn readsBy readsIn eventsBy eventsIn shownAfter served answerOf printedBy holds allHold turnsHold allRun streams keyLines
 turns = refl

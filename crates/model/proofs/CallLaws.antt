@@ -16,10 +16,10 @@ use Rattle.model.specs.Checks.{inRanges?, member, passes}
 use Rattle.model.specs.Screens.{base, cellAt, columnsOf, height, lineAt, linesOf, placeOf, textRows}
 use Rattle.model.specs.Line.{heldIn, limit, padded}
 use Rattle.model.specs.Sound.{Good, Inside, Sound, arrayRanges, keyRanges, mode0, plainRanges}
-use Rattle.model.specs.Picture.{covered, painting, picture, pictureAt, under, windowAt}
+use Rattle.model.specs.Picture.{covered, painting, picture, pictureAt, textAt, under, windowAt}
 use Rattle.model.specs.Reading.{Read, remaining}
 use Rattle.model.specs.Items.{Event, applyAll, blankAnswer, copies, counted, countedAll, eventsOf}
-use Rattle.model.specs.Calls.{Asked, Call, Promised, Reason, Request, Terminal, accepted, allFree, answerOf, closing, countable, eventsBy, eventsIn, firstOf, itemBytes, lineMoved, message, noneWaits, numberOf, ownReasons, piece, printedBy, readsBy, readsIn, reason, reasons, request, requestOf, served, short, shownAfter, sized, soundIn, startOf, takenBy, takenIn, terminal}
+use Rattle.model.specs.Calls.{Asked, Call, Promised, Reason, Request, Terminal, accepted, allFree, answerOf, closing, countable, eventsBy, eventsIn, firstOf, itemBytes, besideItems, keyText, keyable, message, noneWaits, numberOf, ownReasons, paints?, piece, printedBy, readsBy, readsIn, reason, reasons, request, requestOf, served, short, shownAfter, sized, soundIn, startOf, takenBy, takenIn, terminal}
 use Rattle.model.specs.Opening.{openedBy, openedTerminal, openingNumber, unopened}
 use Rattle.model.specs.Claims.{Shown}
 use Rattle.model.specs.Demand.{Opening, Resumed}
@@ -62,6 +62,7 @@ unfolding reasons
 numbered-reasons t (message m) = (omega arith, (omega arith, (omega arith, (omega arith, tt))))
 numbered-reasons t (piece m) = (omega arith, (omega arith, (omega arith, (omega arith, tt))))
 numbered-reasons t closing = (omega arith, (omega arith, tt))
+numbered-reasons t (keyText k x) = (omega arith, (omega arith, tt))
 
 pub accepted-number : (t : Terminal) (q : Request) → numberOf t q ≡ 0 → accepted t q ≡ true
 unfolding accepted numberOf
@@ -78,7 +79,7 @@ refused-number t q n = go (accepted t q) refl
 pub refused-leaves : (t : Terminal) (q : Request) → accepted t q ≡ false → served t q ≡ t
 unfolding served eventsIn shownAfter applyAll
 refused-leaves t q e =
-    ap (λ (b : Bool). let st = applyAll (cond b (eventsBy t q) []) (t .state) in terminal (st .settings) (st .cells) (st .layer) (cond b (painting st) (t .shown))) e
+    ap (λ (b : Bool). let st = applyAll (cond b (eventsBy t q) []) (t .state) in terminal (st .settings) (st .cells) (st .layer) (cond (b && paints? (q .asked)) (painting st) (t .shown))) e
 
 pub refused-answer : (t : Terminal) (q : Request) → accepted t q ≡ false → answerOf t q ≡ blankAnswer (numberOf t q) 0
 unfolding answerOf readsIn takenIn countedAll
@@ -90,12 +91,16 @@ refused-prints t q e = ap (λ (b : Bool). copies (cond b (eventsBy t q) []) (t .
 
 -- of an accepted call
 unfoldable pub after : Terminal → Request → Terminal
-after t q = let st = applyAll (eventsBy t q) (t .state) in record { state = st; shown = painting st }
+after t q = let st = applyAll (eventsBy t q) (t .state) in record { state = st; shown = cond (paints? (q .asked)) (painting st) (t .shown) }
 
 pub accepted-leaves : (t : Terminal) (q : Request) → accepted t q ≡ true → served t q ≡ after t q
 unfolding served eventsIn shownAfter after
 accepted-leaves t q e =
-    ap (λ (b : Bool). let st = applyAll (cond b (eventsBy t q) []) (t .state) in terminal (st .settings) (st .cells) (st .layer) (cond b (painting st) (t .shown))) e
+    ap (λ (b : Bool). let st = applyAll (cond b (eventsBy t q) []) (t .state) in terminal (st .settings) (st .cells) (st .layer) (cond (b && paints? (q .asked)) (painting st) (t .shown))) e
+
+pub accepted-painted : (t : Terminal) (q : Request) → accepted t q ≡ true → paints? (q .asked) ≡ true → let st = applyAll (eventsBy t q) (t .state) in served t q ≡ record { state = st; shown = painting st }
+unfolding after
+accepted-painted t q e f = accepted-leaves t q e ∙ (λ i. let st = applyAll (eventsBy t q) (t .state) in record { state = st; shown = cond (f i) (painting st) (t .shown) })
 
 pub accepted-answer : (t : Terminal) (q : Request) → accepted t q ≡ true → answerOf t q ≡ countedAll (readsBy t q) (blankAnswer 0 (takenBy (q .asked)))
 unfolding answerOf readsIn takenIn
@@ -128,20 +133,22 @@ pub state-served : (t : Terminal) (q : Request) → served t q .state ≡ applyA
 unfolding served
 state-served t q = refl
 
--- an accepted call was given sound settings, and stores of their sizes; a piece is within the limit, and a message is read while none waits
-sound-in : (t : Terminal) (q : Request) → accepted t q ≡ true → (sized t ≡ true) × (soundIn t ≡ true)
+-- an accepted call was given sound settings, and, but for a key call, stores of their sizes; a piece is within the limit, a message is read
+-- while none waits, and a key and its text are what they must be
+sound-in : (t : Terminal) (q : Request) → accepted t q ≡ true → (paints? (q .asked) ≡ true → sized t ≡ true) × (soundIn t ≡ true)
 unfolding accepted reasons allFree
 sound-in t q e = go (q .asked) e
   where
-    three : (a b c d : Bool) → (a && (b && (c && (d && true)))) ≡ true → (a ≡ true) × (c ≡ true)
-    three a b c d e = let z = and-right b _ (and-right a _ e) in (and-left a _ e, and-left c _ z)
+    three : (p a b c d : Bool) → (a && (b && (c && (d && true)))) ≡ true → (p ≡ true → a ≡ true) × (c ≡ true)
+    three p a b c d e = let z = and-right b _ (and-right a _ e) in (λ h. and-left a _ e, and-left c _ z)
 
-    go : (a : Asked) → allFree (reasons t a) ≡ true → (sized t ≡ true) × (soundIn t ≡ true)
-    go (message m) e = three (sized t) (short m) (soundIn t) (noneWaits (t .state .settings)) e
-    go (piece m) e = three (sized t) (short m) (soundIn t) (countable (t .state .settings) m) e
-    go closing e = (and-left (sized t) _ e, and-left (soundIn t) _ (and-right (sized t) _ e))
+    go : (a : Asked) → allFree (reasons t a) ≡ true → (paints? a ≡ true → sized t ≡ true) × (soundIn t ≡ true)
+    go (message m) e = three true (sized t) (short m) (soundIn t) (noneWaits (t .state .settings)) e
+    go (piece m) e = three true (sized t) (short m) (soundIn t) (countable (t .state .settings) m) e
+    go closing e = (λ h. and-left (sized t) _ e, and-left (soundIn t) _ (and-right (sized t) _ e))
+    go (keyText k x) e = (λ h. absurd (differ (sym h)), and-left (soundIn t) _ e)
 
-pub accepted-sized : (t : Terminal) (q : Request) → accepted t q ≡ true → sized t ≡ true
+pub accepted-sized : (t : Terminal) (q : Request) → accepted t q ≡ true → paints? (q .asked) ≡ true → sized t ≡ true
 accepted-sized t q e = sound-in t q e .0
 
 pub accepted-sound : (t : Terminal) (q : Request) → accepted t q ≡ true → Sound (t .state .settings)
@@ -156,21 +163,26 @@ pub accepted-quiet : (t : Terminal) (m : List ℕ) (room : ℕ) → accepted t (
 unfolding accepted reasons allFree noneWaits
 accepted-quiet t m room e = eqb-true _ _ (and-left (eqb (t .state .settings .held) 0) true (and-right (soundIn t) _ (and-right (short m) _ (and-right (sized t) _ e))))
 
--- what a call leaves of the line is sound
-legal-moved : (t : Terminal) (a : Asked) (room : ℕ) → accepted t (request a room) ≡ true → (st : State) → AllLegal (lineMoved (t .state .settings) a) st
-unfolding lineMoved
+pub accepted-keyable : (t : Terminal) (k : ℕ) (x : List ℕ) (room : ℕ) → accepted t (request (keyText k x) room) ≡ true → keyable k x ≡ true
+unfolding accepted reasons allFree
+accepted-keyable t k x room e = and-left (keyable k x) true (and-right (soundIn t) _ e)
+
+-- what a call leaves of the line is sound, and a text that it sets has its place
+legal-moved : (t : Terminal) (a : Asked) (room : ℕ) → accepted t (request a room) ≡ true → (st : State) → AllLegal (besideItems (t .state .settings) a) st
+unfolding besideItems
 legal-moved t (message m) room e st = tt
 legal-moved t (piece m) room e st =
     let s = t .state .settings in
     let r : List ℕ = remaining (heldIn s) m in
     (true-line (padded r) (length r) (s .count + length m) (sound-piece (s .waiting) (s .held) (s .count) (accepted-sound t (request (piece m) room) e .line) m (accepted-counts t m room e)), tt)
 legal-moved t closing room e st = (true-line (padded []) 0 0 (sound-padded [] 0 none-unfinished (omega arith) (omega arith)), tt)
+legal-moved t (keyText k x) room e st = (accepted-keyable t k x room e, tt)
 
 -- what happens in a call is legal
 pub legal-in : (t : Terminal) (q : Request) → AllLegal (eventsIn t q) (t .state)
 unfolding readsBy eventsIn eventsBy
 legal-in t q = cond-at (λ (es : List Event). AllLegal es (t .state)) (accepted t q) _ _
-    (λ e. legal-append (eventsOf (readsBy t q)) (lineMoved (t .state .settings) (q .asked)) (t .state)
+    (λ e. legal-append (eventsOf (readsBy t q)) (besideItems (t .state .settings) (q .asked)) (t .state)
     (legal-reads (itemBytes (t .state .settings) (q .asked)) (startOf (t .state .settings) (q .asked)) (t .state) (q .room))
     (legal-moved t (q .asked) (q .room) e (applyAll (eventsOf (readsBy t q)) (t .state)))) (λ e. tt)
 
@@ -186,22 +198,13 @@ shown-painting st = record { places = length-listFrom (picture st) 0 640; each =
         let e₂ : i % 80 + 1 ≡ c = omega arith in
         getD-listFrom (picture st) 640 0 i (omega arith) ∙ ap (picture st) (zero-add i) ∙ (λ j. pictureAt st (e₁ j) (e₂ j))
 
--- an accepted call paints all of it
-pub shown-accepted : (t : Terminal) (q : Request) → accepted t q ≡ true → Shown (served t q)
-unfolding after
-shown-accepted t q e = subst Shown (sym (accepted-leaves t q e)) (shown-painting _)
-
--- and every call leaves it so
-pub shown-served : (t : Terminal) (q : Request) → Shown t → Shown (served t q)
-shown-served t q s = go (accepted t q) refl
-  where
-    go : (b : Bool) → accepted t q ≡ b → Shown (served t q)
-    go true e = shown-accepted t q e
-    go false e = subst Shown (sym (refused-leaves t q e)) s
+-- an accepted call that paints paints all of it
+pub shown-accepted : (t : Terminal) (q : Request) → accepted t q ≡ true → paints? (q .asked) ≡ true → Shown (served t q)
+shown-accepted t q e f = subst Shown (sym (accepted-painted t q e f)) (shown-painting _)
 
 pub sized-served : (t : Terminal) (q : Request) → length (t .shown) ≡ 640 → length (served t q .shown) ≡ 640
 unfolding served painting shownAfter
-sized-served t q e = cond-at (λ (l : List ℕ). length l ≡ 640) (accepted t q) _ (t .shown) (λ a. length-listFrom (picture (served t q .state)) 0 640) (λ a. e)
+sized-served t q e = cond-at (λ (l : List ℕ). length l ≡ 640) (accepted t q && paints? (q .asked)) _ (t .shown) (λ a. length-listFrom (picture (served t q .state)) 0 640) (λ a. e)
 
 -- which calls a good terminal accepts
 sized-good : (t : Terminal) → Good (t .state) → length (t .shown) ≡ 640 → sized t ≡ true
@@ -220,10 +223,11 @@ number-good t q g e = go (q .asked)
     go (message m) = λ i. firstOf (reason 1 (sized-good t g e i) ∷ reason 2 (short m) ∷ reason 3 (sound-good t g i) ∷ reason 16 (noneWaits (t .state .settings)) ∷ [])
     go (piece m) = λ i. firstOf (reason 1 (sized-good t g e i) ∷ reason 2 (short m) ∷ reason 3 (sound-good t g i) ∷ reason 15 (countable (t .state .settings) m) ∷ [])
     go closing = λ i. firstOf (reason 1 (sized-good t g e i) ∷ reason 3 (sound-good t g i) ∷ [])
+    go (keyText k x) = λ i. firstOf (reason 3 (sound-good t g i) ∷ reason 17 (keyable k x) ∷ [])
 
 -- what an accepted opening leaves: blank, and the picture is blank
 opened-blank : replicate 640 32 ≡ painting opened
-unfolding painting picture pictureAt covered under windowAt textRows cellAt lineAt base columnsOf placeOf
+unfolding painting picture pictureAt covered under textAt windowAt textRows cellAt lineAt base columnsOf placeOf
 opened-blank = refl
 
 shown-opened : Shown openedTerminal

@@ -6,10 +6,12 @@ use native.Mathlib.Omega.{arith}
 use mathlib.Core.Bool.{_&&_, true}
 use mathlib.Core.List.{List, [], _++_, _∷_}
 use lib.ListN.{getD, length, take}
-use lib.Dec.{eqb, ltb}
+use lib.Dec.{eqb, leb, ltb}
+use borrow.Author.Tests.{eqb-true, leb-true}
 use Rattle.model.specs.declared.Item.{Item}
 use Rattle.model.specs.declared.Place.{Place}
 use Rattle.model.specs.declared.Item.the-variants.{Control, Printed, Refused, Sequence}
+use Rattle.model.specs.Bytes.{put}
 use Rattle.model.specs.State.{State}
 use Rattle.model.specs.Screens.{base, cellAt, columnsOf, height, lineAt, linesOf, placeOf, size, textRows}
 use Rattle.model.specs.Line.{LineSound, line?, padded}
@@ -19,15 +21,16 @@ use Rattle.model.specs.Reading.{byteOf, itemOf}
 use Rattle.model.specs.declared.Limits.{Limits}
 use Rattle.model.specs.Judging.{allowed, badOf, fitting, judged, legal?, legalItem?, limitsOf}
 use Rattle.model.specs.Rules.{applyItem, withSettings}
-use Rattle.model.specs.Items.{Event, applyAll, happened, itemRead, lineLeft, lined, eventsOf, readsOf}
-use Rattle.model.specs.Claims.{InWindow, On, Unchanged, isRefusal, mustFollow, refusedEvent, setsMode}
-use Rattle.model.proofs.Frames.{SameScreen, legalEvent?}
+use Rattle.model.specs.Items.{Event, applyAll, eventsOf, happened, itemRead, keySet, lineLeft, lined, readsOf, texted}
+use Rattle.model.specs.Calls.{keyable}
+use Rattle.model.specs.Claims.{InWindow, On, SameWindow, Unchanged, isRefusal, movesWindow, mustFollow, refusedEvent, setsMode}
+use Rattle.model.proofs.Frames.{SameScreen, Spared, legalEvent?}
 use Rattle.model.specs.Demand.{noEvent}
-use Rattle.model.proofs.Tests.{cond-at, differ}
-use Rattle.model.proofs.ByteLaws.{getD-part}
+use Rattle.model.proofs.Tests.{and-left, and-right, cond-at, differ}
+use Rattle.model.proofs.ByteLaws.{getD-part, length-put}
 use Rattle.model.proofs.LineLaws.{length-padded, line-true}
 use Rattle.model.proofs.Keep.{line-inside}
-use Rattle.model.proofs.ItemLaws.{Obeyed, obeyed-item}
+use Rattle.model.proofs.ItemLaws.{Obeyed, obeyed-item, quiet}
 use Rattle.model.proofs.Following.{window-item}
 
 -- reading gives only legal items: 11
@@ -77,7 +80,7 @@ good-lined w n a g e =
     let h = g .sound .arrays in
     record {
       sound = record {
-        arrays = (h .0, (h .1 .0, (h .1 .1 .0, (h .1 .1 .1 .0, ((omega (arith, z), omega (arith, z)), tt)))));
+        arrays = (h .0, (h .1 .0, (h .1 .1 .0, (h .1 .1 .1 .0, ((omega (arith, z), omega (arith, z)), h .1 .1 .1 .1 .1)))));
         shaped = g .sound .shaped;
         selected = g .sound .selected;
         inside = g .sound .inside;
@@ -94,16 +97,47 @@ same-lined : (k : ℕ) (w : List ℕ) (n : ℕ) (a : State) → SameScreen k a (
 unfolding lined withSettings linesOf columnsOf height textRows placeOf base size
 same-lined k w n a = record { same-base = refl; same-lines = refl; same-columns = refl; same-height = refl; same-place = refl; same-cells = refl }
 
+-- a key's text: nothing else moves
+good-texted : (k : ℕ) (x : List ℕ) (a : State) → Good a → keyable k x ≡ true → Good (texted k x a)
+unfolding texted withSettings arrayRanges plainRanges keyRanges linesOf columnsOf height textRows placeOf keyable
+good-texted k x a g e =
+    let t : List ℕ = a .settings .texts in
+    let e₂ = and-right (leb 1 k) (leb k 10 && eqb (length x) 8) e in
+    let h = g .sound .arrays in
+    let n : length t ≡ 80 = omega (arith, h .1 .1 .1 .1 .1 .0) in
+    let z : length (put ((k - 1) * 8) x t) ≡ length t =
+    length-put ((k - 1) * 8) x t (omega (arith, n, leb-true 1 k (and-left (leb 1 k) _ e), leb-true k 10 (and-left (leb k 10) _ e₂), eqb-true (length x) 8 (and-right (leb k 10) _ e₂))) in
+    record {
+      sound = record {
+        arrays = (h .0, (h .1 .0, (h .1 .1 .0, (h .1 .1 .1 .0, (h .1 .1 .1 .1 .0, ((omega (arith, z, n), omega (arith, z, n)), tt))))));
+        shaped = g .sound .shaped;
+        selected = g .sound .selected;
+        inside = g .sound .inside;
+        step-low = g .sound .step-low;
+        step-high = g .sound .step-high;
+        plain = g .sound .plain;
+        line = g .sound .line;
+      };
+      cells-are = g .cells-are;
+      layer-are = g .layer-are;
+    }
+
+same-texted : (j k : ℕ) (x : List ℕ) (a : State) → SameScreen j a (texted k x a)
+unfolding texted withSettings linesOf columnsOf height textRows placeOf base size
+same-texted j k x a = record { same-base = refl; same-lines = refl; same-columns = refl; same-height = refl; same-place = refl; same-cells = refl }
+
 -- one event
-obeyed-event : (e : Event) (a : State) → Good a → legalEvent? e (limitsOf (a .settings)) ≡ true → Obeyed a (happened e a) (setsMode e)
+obeyed-event : (e : Event) (a : State) → Good a → legalEvent? e (limitsOf (a .settings)) ≡ true → Obeyed a (happened e a) (setsMode e) (movesWindow e)
 unfolding happened
 obeyed-event (itemRead r) a g l = obeyed-item (byteOf r) (r .item) a g l
-obeyed-event (lineLeft w n) a g l = record { good = good-lined w n a g l; other = λ e k h d. same-lined k w n a }
+obeyed-event (lineLeft w n) a g l = quiet (good-lined w n a g l) (λ k h d. same-lined k w n a)
+obeyed-event (keySet k x) a g l = quiet (good-texted k x a g l) (λ j h d. same-texted j k x a)
 
 window-event : (e : Event) (a : State) → Good a → legalEvent? e (limitsOf (a .settings)) ≡ true → mustFollow e ≡ true → a .settings .tracking ≡ 1 → InWindow (happened e a)
 unfolding happened
 window-event (itemRead r) a g l f on = window-item (byteOf r) (r .item) a g l f on
 window-event (lineLeft w n) a g l f on = absurd (differ (sym f))
+window-event (keySet k x) a g l f on = absurd (differ (sym f))
 
 -- what stands before event n
 abbrev pub at : List Event → State → ℕ → State
@@ -138,9 +172,10 @@ refused-nothing (itemRead r) a e = go (r .item) e
     go (Sequence q) e = absurd (differ (sym e))
     go (Refused n p) e = refl
 refused-nothing (lineLeft w n) a e = absurd (differ (sym e))
+refused-nothing (keySet k x) a e = absurd (differ (sym e))
 
 -- what event n does
-pub event-at : (es : List Event) (a : State) → Good a → AllLegal es a → (n : ℕ) → n < length es → Obeyed (at es a n) (at es a (suc n)) (setsMode (getD es n noEvent))
+pub event-at : (es : List Event) (a : State) → Good a → AllLegal es a → (n : ℕ) → n < length es → Obeyed (at es a n) (at es a (suc n)) (setsMode (getD es n noEvent)) (movesWindow (getD es n noEvent))
 unfolding applyAll
 event-at [] a g l n h = absurd (not-suc-le-zero h)
 event-at (e ∷ es) a g l zero h = obeyed-event e a g (l .0)
@@ -169,17 +204,19 @@ chained R rf tr f i j u h = let z : i + (j - i) ≡ j = omega arith in subst (λ
 pub cell-inside : (w l n c : ℕ) → 1 ≤ l → l ≤ n → 1 ≤ c → c ≤ w → (l - 1) * w + (c - 1) < n * w
 cell-inside w l n c p q r s = omega (arith, line-inside w l n p q)
 
--- a screen that is the same, in the words of the claim
-pub unchanged : {k : ℕ} {a b : State} → SameScreen k a b → Unchanged k a b
+-- a window that is the same, in the words of the claim
+pub same-window : {k : ℕ} {a b : State} → SameScreen k a b → SameWindow k a b
+same-window s = record { top = ap (λ (p : Place). p .top) (s .same-place); tall = s .same-height }
+
+-- and a screen that is the same but for its window
+pub unchanged : {k : ℕ} {a b : State} → Spared k a b → Unchanged k a b
 unfolding cellAt lineAt size
 unchanged {k} {a} {b} s = record {
   lines = s .same-lines;
   columns = s .same-columns;
   cells = same-cell;
-  cursor-line = ap (λ (p : Place). p .line) (s .same-place);
-  cursor-column = ap (λ (p : Place). p .column) (s .same-place);
-  top = ap (λ (p : Place). p .top) (s .same-place);
-  tall = s .same-height;
+  cursor-line = s .same-line;
+  cursor-column = s .same-column;
 }
   where
     same-cell : (l c : ℕ) → On (a .settings) k l c → getD (b .cells) (cellAt (b .settings) k l c) 0 ≡ getD (a .cells) (cellAt (a .settings) k l c) 0

@@ -9,7 +9,8 @@ use Rattle.model.specs.State.{State}
 use Rattle.model.specs.Screens.{linesOf, columnsOf, placeOf, height, base, size}
 use Rattle.model.specs.Line.{line?, padded}
 use Rattle.model.specs.Judging.{legalItem?}
-use Rattle.model.specs.Items.{Event, itemRead, lineLeft}
+use Rattle.model.specs.Items.{Event, itemRead, lineLeft, keySet}
+use Rattle.model.specs.Calls.{keyable}
 
 -- the cells of screen k
 abbrev pub cellsOf : State → ℕ → List ℕ
@@ -24,7 +25,17 @@ pub record SameScreen (k : ℕ) (a b : State) : Type 0 where
   pub same-place : placeOf (b .settings) k ≡ placeOf (a .settings) k
   pub same-cells : cellsOf b k ≡ cellsOf a k
 
--- the parameters of an event are in their ranges, and a line that is left is sound
+-- the same but for its window: where it lies, its cursor, its cells
+pub record Spared (k : ℕ) (a b : State) : Type 0 where
+  pub same-base : base (b .settings) k ≡ base (a .settings) k
+  pub same-lines : linesOf (b .settings) k ≡ linesOf (a .settings) k
+  pub same-columns : columnsOf (b .settings) k ≡ columnsOf (a .settings) k
+  pub same-line : placeOf (b .settings) k .line ≡ placeOf (a .settings) k .line
+  pub same-column : placeOf (b .settings) k .column ≡ placeOf (a .settings) k .column
+  pub same-cells : cellsOf b k ≡ cellsOf a k
+
+-- the parameters of an event are in their ranges, a line that is left is sound, a key and its text are not 17
 abbrev pub legalEvent? : Event → Limits → Bool
 legalEvent? (itemRead r) s = legalItem? (r .item) s
 legalEvent? (lineLeft w n) s = line? (padded w) (length w) n
+legalEvent? (keySet k x) s = keyable k x

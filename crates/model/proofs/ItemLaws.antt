@@ -1,11 +1,12 @@
--- Every item keeps the state good, and every item but a mode setting leaves the screen that is not selected as it was.
+-- Every item keeps the state good; every item but a mode setting leaves the screen that is not selected as it was, 211 all but its window.
 use mathlib.Core.Path.{_∙_, _≡_, refl}
 use Prim.Native.Nat.{_*_, _+_, _-_, _<_, _≤_, suc, zero, ℕ}
 use native.Mathlib.Nat.{add-mul, suc-mul}
 use native.Mathlib.Omega.{arith}
-use mathlib.Core.Bool.{Bool, false, true}
+use mathlib.Core.Bool.{Bool, _||_, false, true}
 use mathlib.Core.List.{List, [], _∷_}
 use lib.ListN.{getD, length, length-replicate, length-set, set}
+use lib.Dec.{eqb}
 use Rattle.model.specs.declared.Item.{Item}
 use Rattle.model.specs.declared.Item.the-variants.{Control, Printed, Refused, Sequence}
 use Rattle.model.specs.declared.Sequence.{Sequence as Seq}
@@ -17,28 +18,38 @@ use Rattle.model.specs.Checks.{InRanges, Passes, range}
 use Rattle.model.specs.Screens.{base, columnsHere, columnsOf, height, here, linesHere, linesOf, placeOf, size, textRows}
 use Rattle.model.specs.Sound.{Good, Inside, Shaped, Sound, arrayRanges, keyRanges, mode0, mode1, mode2, plainRanges}
 use Rattle.model.specs.Judging.{legal?, legalItem?, limitsOf, ranges}
-use Rattle.model.specs.Rules.{applyItem, centred, flagged, modeSet, obeyed, placed, withArrows, withKeys, withKindPatterns, withLed, withSettings}
-use Rattle.model.specs.Claims.{isMode}
-use Rattle.model.proofs.Frames.{SameScreen}
-use Rattle.model.proofs.Tests.{differ, ranges-true}
+use Rattle.model.specs.Rules.{applyItem, centred, displaying, emptied, flagged, keyLine, modeSet, obeyed, placed, withArrows, withKeys, withKindPatterns, withLayer, withLed, withSettings}
+use Rattle.model.specs.Claims.{isDisplay, isMode}
+use Rattle.model.proofs.Frames.{SameScreen, Spared}
+use Rattle.model.proofs.Tests.{cond-at, differ, ranges-true}
 use Rattle.model.proofs.ByteLaws.{length-down, length-listFrom, length-put, length-up}
-use Rattle.model.proofs.Keep.{Kept, height-high, height-low, kept-emptied, kept-flags, kept-layer, kept-refl, kept-stored-only, kept-trans, line-inside, same-emptied, same-trans, shaped-columns, shaped-height}
+use Rattle.model.proofs.Keep.{Kept, height-high, height-low, kept-emptied, kept-flags, kept-layer, kept-refl, kept-stored-only, kept-trans, line-inside, same-emptied, same-trans, shaped-columns, shaped-height, spared, spared-refl}
 use Rattle.model.proofs.Steps.{fits, height-fits, kept-at, kept-blank, kept-cleared, kept-control, kept-held, kept-lines, kept-printed, kept-top, kept-trackedFar, length-mark}
 
--- what an item does: the state stays good, and all but a mode setting leave the screen that is not selected as it was
-pub record Obeyed (a b : State) (mode : Bool) : Type 0 where
+-- what an item does: the state stays good; all but a mode setting leave each cell and the cursor of the screen that is not selected as they
+-- were, and all but that and 211 its window too
+pub record Obeyed (a b : State) (mode moves : Bool) : Type 0 where
   pub good : Good b
-  pub other : mode ≡ false → (k : ℕ) → k < 2 → (k ≡ a .settings .selected → ⊥) → SameScreen k a b
+  pub other : mode ≡ false → (k : ℕ) → k < 2 → (k ≡ a .settings .selected → ⊥) → Spared k a b
+  pub window : moves ≡ false → (k : ℕ) → k < 2 → (k ≡ a .settings .selected → ⊥) → SameScreen k a b
 
-of-kept : {a b : State} → Kept a b → Obeyed a b false
-of-kept k = record { good = k .good; other = λ e. k .other }
+-- of what leaves the other screen as it was
+pub quiet : {a b : State} → Good b → ((k : ℕ) → k < 2 → (k ≡ a .settings .selected → ⊥) → SameScreen k a b) → Obeyed a b false false
+quiet g f = record { good = g; other = λ e k l n. spared (f k l n); window = λ e. f }
+
+of-kept : {a b : State} → Kept a b → Obeyed a b false false
+of-kept k = quiet (k .good) (k .other)
+
+-- of a mode setting
+anew : {a b : State} → Good b → Obeyed a b true true
+anew g = record { good = g; other = λ n. absurd (differ n); window = λ n. absurd (differ n) }
 
 good-modeSet : (s : Settings) → Sound s → Good (modeSet s)
 unfolding modeSet
 good-modeSet s h = record { sound = h; cells-are = length-replicate {A = ℕ} 3840 32; layer-are = length-replicate {A = ℕ} 1280 0 }
 
-good-flags : (a : State) → Good a → (tr st se cu : ℕ) → Passes (range 0 tr 1) → 1 ≤ st → st ≤ height (a .settings) → Passes (range 0 se 1) → Passes (range 0 cu 1) → Obeyed a (flagged (a .settings .selected) tr st se cu a) false
-good-flags a g tr st se cu p q r u v = let z = kept-flags a g (a .settings .selected) tr st se cu (g .sound .selected) p q r u v in record { good = z .0; other = λ e k l n. z .1 k }
+good-flags : (a : State) → Good a → (tr st se cu : ℕ) → Passes (range 0 tr 1) → 1 ≤ st → st ≤ height (a .settings) → Passes (range 0 se 1) → Passes (range 0 cu 1) → Obeyed a (flagged (a .settings .selected) tr st se cu a) false false
+good-flags a g tr st se cu p q r u v = let z = kept-flags a g (a .settings .selected) tr st se cu (g .sound .selected) p q r u v in quiet (z .0) (λ k l n. z .1 k)
 
 -- settings of a mode just set
 sound-mode : (s : Settings) (m l1 l2 c1 c2 b : ℕ) → Sound s → Shaped m l1 l2 c1 c2 → Sound (withMode s m l1 l2 c1 c2 b)
@@ -66,20 +77,42 @@ keys : {a : State} → Good a → InRanges (keyRanges (a .settings .kind) (a .se
 unfolding plainRanges
 keys g = g .sound .plain .1 .1 .1 .1
 
--- another key display
-kept-display : (n : ℕ) (a : State) → Good a → Passes (range 0 n 1) → Kept a (withSettings (withDisplay (a .settings) n) a)
-unfolding withSettings plainRanges arrayRanges keyRanges linesOf columnsOf height textRows placeOf base size
-kept-display n a g e = record {
-  good = record {
-    sound = record { arrays = g .sound .arrays; shaped = g .sound .shaped; selected = g .sound .selected; inside = g .sound .inside; step-low = g .sound .step-low; step-high = g .sound .step-high; plain = search (g .sound .plain, e) depth 30; line = g .sound .line };
-    cells-are = g .cells-are;
-    layer-are = g .layer-are;
-  };
-  same-selected = refl;
-  same-shape = λ k. (refl, refl);
-  same-tracking = refl;
-  other = λ k l n. record { same-base = refl; same-lines = refl; same-columns = refl; same-height = refl; same-place = refl; same-cells = refl };
-}
+-- settings under another key display: both tops and the step are held
+sound-display : (n : ℕ) (s : Settings) → Sound s → Passes (range 0 n 1) → Sound (displaying n s)
+unfolding displaying linesOf columnsOf placeOf plainRanges arrayRanges keyRanges height textRows
+sound-display n s h e =
+    let t : Settings = withDisplay s n (s .places) (s .step) in
+    record {
+      arrays = (omega arith, h .arrays .1);
+      shaped = h .shaped;
+      selected = h .selected;
+      inside = all;
+      step-low = omega (arith, h .step-low, height-low t);
+      step-high = omega arith;
+      plain = search (h .plain, e) depth 30;
+      line = h .line;
+    }
+  where
+    all : (k : ℕ) → k < 2 → Inside (displaying n s) k
+    all zero l = omega (arith, h .inside 0 l, shaped-height (h .shaped), height-high (withDisplay s n (s .places) (s .step)))
+    all (suc zero) l = omega (arith, h .inside 1 l, shaped-height (h .shaped), height-high (withDisplay s n (s .places) (s .step)))
+    all (suc (suc k)) l = absurd (omega arith)
+
+-- 211: it may move both windows, and nothing else of a screen
+obeyed-display : (n : ℕ) (a : State) → Good a → Passes (range 0 n 1) → Obeyed a (keyLine n a) false true
+unfolding keyLine emptied withLayer withSettings displaying linesOf columnsOf placeOf base size
+obeyed-display n a g e = cond-at (λ (b : State). Obeyed a b false true) (eqb n (a .settings .display)) _ _
+    (λ z. record { good = g; other = λ m k l d. spared-refl k a; window = λ m. absurd (differ m) })
+    (λ z. record {
+      good = record { sound = sound-display n (a .settings) (g .sound) e; cells-are = g .cells-are; layer-are = length-replicate {A = ℕ} 1280 0 };
+      other = λ m k l d. all k l;
+      window = λ m. absurd (differ m);
+    })
+  where
+    all : (k : ℕ) → k < 2 → Spared k a (emptied (withSettings (displaying n (a .settings)) a))
+    all zero l = record { same-base = refl; same-lines = refl; same-columns = refl; same-line = refl; same-column = refl; same-cells = refl }
+    all (suc zero) l = record { same-base = refl; same-lines = refl; same-columns = refl; same-line = refl; same-column = refl; same-cells = refl }
+    all (suc (suc k)) l = absurd (omega arith)
 
 -- one of three flags set
 set-low : (l : List ℕ) (w i f : ℕ) → getD l i 0 ≤ 1 → f ≤ 1 → getD (set l w f) i 0 ≤ 1
@@ -130,7 +163,7 @@ pub kept-put : (a : State) → Good a → (l c : ℕ) → InRanges (ranges (Put 
 kept-put a g l c e = kept-at a g (l - 31) (c - 31) (omega arith) (omega arith) (omega arith) (omega arith)
 
 -- every accepted sequence
-obeyed-all : (ms : ℕ → ℕ) (q : Seq) (a : State) → Good a → InRanges (ranges q (limitsOf (a .settings))) → Obeyed a (obeyed ms q a) (isMode (Sequence q))
+obeyed-all : (ms : ℕ → ℕ) (q : Seq) (a : State) → Good a → InRanges (ranges q (limitsOf (a .settings))) → Obeyed a (obeyed ms q a) (isMode (Sequence q)) (isMode (Sequence q) || isDisplay (Sequence q))
 unfolding obeyed centred withKeys withKindPatterns keyRanges plainRanges arrayRanges
 obeyed-all ms (PrintCode c) a g e = of-kept (kept-printed a g c)
 obeyed-all ms Clear a g e = of-kept (kept-cleared a g)
@@ -167,14 +200,14 @@ obeyed-all ms StringsOff a g e = of-kept (kept-stored-only a g _ _ _ (search (ke
 obeyed-all ms StringsOn a g e = of-kept (kept-stored-only a g _ _ _ (search (keys g, flag-on) depth 30) (g .sound .arrays))
 obeyed-all ms (DrawLine p1 p2 p3 p4 p5 p6 p7 p8 p9 p10 p11) a g e = of-kept (kept-refl a g)
 obeyed-all ms (DrawDot p1 p2 p3 p4) a g e = of-kept (kept-refl a g)
-obeyed-all ms (Mode0 x y) a g e = record { good = good-modeSet _ (sound-mode (a .settings) 0 x y 80 80 (a .settings .boundary) (g .sound) (mode0 refl refl refl (e .1 .0) (e .1 .1 .0 .0) (e .1 .1 .0 .1))); other = λ n. absurd (differ n) }
-obeyed-all ms (Mode1 x) a g e = record { good = good-modeSet _ (sound-mode (a .settings) 1 x x 39 39 (a .settings .boundary) (g .sound) (mode1 refl refl refl (e .1 .0 .0) (e .1 .0 .1) refl)); other = λ n. absurd (differ n) }
-obeyed-all ms (Mode2 x m p) a g e = record { good = good-modeSet _ (sound-mode (a .settings) 2 x x m (79 - m) p (g .sound) (mode2 refl (e .1 .1 .0 .0) (e .1 .1 .0 .1) refl (e .1 .0 .0) (e .1 .0 .1) refl)); other = λ n. absurd (differ n) }
+obeyed-all ms (Mode0 x y) a g e = anew (good-modeSet _ (sound-mode (a .settings) 0 x y 80 80 (a .settings .boundary) (g .sound) (mode0 refl refl refl (e .1 .0) (e .1 .1 .0 .0) (e .1 .1 .0 .1))))
+obeyed-all ms (Mode1 x) a g e = anew (good-modeSet _ (sound-mode (a .settings) 1 x x 39 39 (a .settings .boundary) (g .sound) (mode1 refl refl refl (e .1 .0 .0) (e .1 .0 .1) refl)))
+obeyed-all ms (Mode2 x m p) a g e = anew (good-modeSet _ (sound-mode (a .settings) 2 x x m (79 - m) p (g .sound) (mode2 refl (e .1 .1 .0 .0) (e .1 .1 .0 .1) refl (e .1 .0 .0) (e .1 .0 .1) refl)))
 obeyed-all ms (Select n) a g e =
     let z = kept-flags a g n (a .settings .tracking) (a .settings .step) (a .settings .secret) (a .settings .cursor) (omega arith) (g .sound .plain .0) (g .sound .step-low) (g .sound .step-high) (g .sound .plain .1 .0) (g .sound .plain .1 .1 .0) in
-    record { good = kept-emptied _ (z .0) .good; other = λ m k l d. same-trans (z .1 k) (same-emptied k _) }
+    quiet (kept-emptied _ (z .0) .good) (λ k l d. same-trans (z .1 k) (same-emptied k _))
 obeyed-all ms (Mark r c p) a g e = of-kept (kept-layer a g _ (length-mark _ p (a .layer) ∙ g .layer-are))
-obeyed-all ms (Display n) a g e = of-kept (kept-display n a g (e .0))
+obeyed-all ms (Display n) a g e = obeyed-display n a g (e .0)
 obeyed-all ms WindowTop a g e = of-kept (kept-top a g 1 (omega arith) (omega (arith, height-fits a g)))
 obeyed-all ms WindowBottom a g e = of-kept (kept-top a g _ (omega (arith, height-fits a g)) (omega (arith, height-fits a g)))
 obeyed-all ms (CursorKind n) a g e = of-kept (kept-stored-only a g _ _ _ (e .0, keys g .1) (g .sound .arrays))
@@ -189,7 +222,7 @@ obeyed-all ms (Arrows3 c1 c2 c3 c4) a g e = of-kept (kept-arrows 2 _ a g refl (o
 obeyed-all ms Nothing a g e = of-kept (kept-refl a g)
 obeyed-all ms (Shift n) a g e = of-kept (kept-stored-only a g _ _ _ (search (keys g, e) depth 30) (g .sound .arrays))
 
-pub obeyed-item : (ms : ℕ → ℕ) (i : Item) (a : State) → Good a → legalItem? i (limitsOf (a .settings)) ≡ true → Obeyed a (applyItem ms i a) (isMode i)
+pub obeyed-item : (ms : ℕ → ℕ) (i : Item) (a : State) → Good a → legalItem? i (limitsOf (a .settings)) ≡ true → Obeyed a (applyItem ms i a) (isMode i) (isMode i || isDisplay i)
 unfolding applyItem legal?
 obeyed-item ms (Printed c) a g e = of-kept (kept-printed a g c)
 obeyed-item ms (Control c) a g e = of-kept (kept-control a g c)

@@ -18,7 +18,7 @@ use Rattle.model.specs.Checks.{InRanges, Passes, range}
 use Rattle.model.specs.Screens.{base, columnsHere, columnsOf, height, here, linesHere, linesOf, placeOf, size, textRows}
 use Rattle.model.specs.Sound.{Fits, Good, Inside, Shaped, Sound, arrayRanges, keyRanges, mode0, mode1, mode2, plainRanges}
 use Rattle.model.specs.Rules.{emptied, flagged, placed, withCells, withLayer, withSettings}
-use Rattle.model.proofs.Frames.{SameScreen, cellsOf}
+use Rattle.model.proofs.Frames.{SameScreen, Spared, cellsOf}
 use Rattle.model.proofs.Tests.{cond-at, cond₂}
 use Rattle.model.proofs.ByteLaws.{length-onPart, onPart-after, onPart-before, set-before}
 
@@ -42,11 +42,11 @@ shaped-height (mode2 n p q e a b c) = rw n (omega arith)
 -- the rows that show text are seven or eight; only these two proofs know the rule
 pub rows-low : (s : Settings) → 7 ≤ textRows s
 unfolding textRows
-rows-low s = omega arith
+rows-low s = cond-at (λ (n : ℕ). 7 ≤ n) (eqb (s .display) 0) 7 8 (λ e. omega arith) (λ e. omega arith)
 
 pub rows-high : (s : Settings) → textRows s ≤ 8
 unfolding textRows
-rows-high s = omega arith
+rows-high s = cond-at (λ (n : ℕ). n ≤ 8) (eqb (s .display) 0) 7 8 (λ e. omega arith) (λ e. omega arith)
 
 -- H is these rows, or twice them in mode 1
 pub height-low : (s : Settings) → 7 ≤ height s
@@ -103,6 +103,23 @@ same-refl k a = record { same-base = refl; same-lines = refl; same-columns = ref
 
 pub same-trans : {k : ℕ} {a b c : State} → SameScreen k a b → SameScreen k b c → SameScreen k a c
 same-trans p q = record { same-base = cc; same-lines = cc; same-columns = cc; same-height = q .same-height ∙ p .same-height; same-place = cc; same-cells = q .same-cells ∙ p .same-cells }
+
+pub spared-refl : (k : ℕ) (a : State) → Spared k a a
+spared-refl k a = record { same-base = refl; same-lines = refl; same-columns = refl; same-line = refl; same-column = refl; same-cells = refl }
+
+pub spared-trans : {k : ℕ} {a b c : State} → Spared k a b → Spared k b c → Spared k a c
+spared-trans p q = record { same-base = cc; same-lines = cc; same-columns = cc; same-line = q .same-line ∙ p .same-line; same-column = q .same-column ∙ p .same-column; same-cells = q .same-cells ∙ p .same-cells }
+
+-- a screen that is the same is the same but for its window
+pub spared : {k : ℕ} {a b : State} → SameScreen k a b → Spared k a b
+spared s = record {
+  same-base = s .same-base;
+  same-lines = s .same-lines;
+  same-columns = s .same-columns;
+  same-line = ap (λ (p : Place). p .line) (s .same-place);
+  same-column = ap (λ (p : Place). p .column) (s .same-place);
+  same-cells = s .same-cells;
+}
 
 pub kept-refl : (a : State) → Good a → Kept a a
 kept-refl a g = record { good = g; same-selected = refl; same-shape = λ k. (refl, refl); same-tracking = refl; other = λ k l n. same-refl k a }

@@ -23,6 +23,9 @@ pub mod Message
 pub mod Lines
 pub mod Places
 pub mod ShownPlace
+pub mod KeyLine
+pub mod KeyCall
+pub mod KeyLaws
 pub mod Theorem
 pub mod Parameters
 pub mod Former

@@ -11,11 +11,11 @@ use Rattle.model.specs.declared.Sequence.{Sequence as Seq}
 use Rattle.model.specs.declared.Sequence.the-variants.{Arrows1, Arrows2, Arrows3, CapsOff, CapsOn, Charset, Clear, Copy, CursorKind, CursorOff, CursorOn, Display, DrawDot, DrawLine, EraseLine, EraseRest, InsOff, InsOn, LinesDown, LinesUp, Mark, Mode0, Mode1, Mode2, Nothing, NumOff, NumOn, Pattern, PrintCode, Put, Repeat, RepeatDelay, RepeatInterval, SecretOff, SecretOn, Select, Shift, Step, StringsOff, StringsOn, Tracking, WindowBottom, WindowCursor, WindowDown, WindowTop, WindowUp}
 use Rattle.model.specs.State.{State, putAt, topAt}
 use Rattle.model.specs.Screens.{base, cellAt, columnsHere, columnsOf, height, here, lineAt, linesHere, linesOf, placeOf, textRows}
-use Rattle.model.specs.Picture.{copied, copiedRows, covered, halves, picture, pictureAt, sides, under, windowAt}
+use Rattle.model.specs.Picture.{copied, copiedRows, covered, halves, picture, pictureAt, sides, textAt, under, windowAt}
 use Rattle.model.specs.Sequences.{codeOf}
 use Rattle.model.specs.Reading.{Read, byteOf}
 use Rattle.model.specs.Judging.{limitsOf}
-use Rattle.model.specs.Rules.{applyItem, blankFrom, centred, cleared, control, down, emptied, flagged, held, missed, modeSet, nearest, obeyed, onLines, placed, printed, right, shownAt, stored, toColumn, topped, tracked, trackedFar, withCells, withKeys, withKindPatterns, withLayer, withSettings}
+use Rattle.model.specs.Rules.{applyItem, blankFrom, centred, cleared, control, displaying, down, emptied, flagged, held, keyLine, missed, modeSet, nearest, obeyed, onLines, placed, printed, right, shownAt, stored, toColumn, topped, tracked, trackedFar, withCells, withKeys, withKindPatterns, withLayer, withSettings}
 use Rattle.model.specs.Items.{applyAll, copies, copyOf, eventsOf, happened, lined, obeyedBy, printerBytes, read, readsOf}
 
 module _ (w : List ℕ) (n : ℕ) where
@@ -68,6 +68,10 @@ module _ (w : List ℕ) (n : ℕ) where
       go false false false true = refl
       go false false false false = refl
 
+  keyLine-lined : (m : ℕ) (st : State) → keyLine m (lined w n st) ≡ lined w n (keyLine m st)
+  unfolding keyLine displaying lined withSettings emptied withLayer placeOf linesOf height textRows
+  keyLine-lined m st = cond-lined (eqb m (st .settings .display)) st (emptied (withSettings (displaying m (st .settings)) st))
+
   -- every sequence: most name the other settings one by one
   obeyed-lined : (ms : ℕ → ℕ) (q : Seq) (st : State) → obeyed ms q (lined w n st) ≡ lined w n (obeyed ms q st)
   unfolding obeyed cleared onLines blankFrom modeSet flagged withKeys withKindPatterns emptied withLayer withCells placed held centred lined withSettings placeOf linesOf columnsOf height textRows base cellAt lineAt
@@ -103,7 +107,7 @@ module _ (w : List ℕ) (n : ℕ) where
   obeyed-lined ms (Mode2 a m p) st = refl
   obeyed-lined ms (Select n) st = refl
   obeyed-lined ms (Mark r c p) st = refl
-  obeyed-lined ms (Display n) st = refl
+  obeyed-lined ms (Display m) st = keyLine-lined m st
   obeyed-lined ms WindowTop st = topped-lined 1 st
   obeyed-lined ms WindowBottom st = topped-lined (linesHere st + 1 - height (st .settings)) st
   obeyed-lined ms (CursorKind n) st = refl
@@ -147,7 +151,7 @@ module _ (w : List ℕ) (n : ℕ) where
 
   -- and the same is printed
   picture-lined : (st : State) (p : ℕ) → picture (lined w n st) p ≡ picture st p
-  unfolding picture pictureAt covered under halves sides windowAt cellAt lineAt base columnsOf placeOf textRows lined withSettings
+  unfolding picture pictureAt covered under textAt halves sides windowAt cellAt lineAt base columnsOf placeOf textRows lined withSettings
   picture-lined st p = refl
 
   copied-lined : (st : State) → copied (lined w n st) ≡ copied st

@@ -124,7 +124,7 @@ module _ (t : Terminal) (m : List ℕ) (room : ℕ) (xs ys : List ℕ) (cut : ga
   unfolding waitsAfter countAfter
   piece-state =
       let rs : List Read = readsOf (uncut xs) start (t .state) room in
-      leaves-lined t (piece m) room ok
+      leaves-lined t (piece m) room ok refl
       ∙ ap (lined (remaining (heldIn s) m) (s .count + length m))
       (ap (λ (l : List Read). applyAll (eventsOf l) (t .state)) two-reads
       ∙ applied-append rs (readsOf (uncut ys) (start + length xs) st₁ room₂) (t .state)

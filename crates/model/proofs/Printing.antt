@@ -20,7 +20,7 @@ use Rattle.model.specs.Sequences.{codeOf}
 use Rattle.model.specs.Reading.{Read, itemOf}
 use Rattle.model.specs.Judging.{allowed, fitting, limitsOf}
 use Rattle.model.specs.Items.{Event, applyAll, blankAnswer, bytesRead, copies, copyOf, counted, countedAll, happened, eventsOf, obeyedBy, printerBytes, printsOf, read, readsOf}
-use Rattle.model.specs.Calls.{Asked, Call, Promised, Request, Terminal, accepted, answerOf, closing, eventsBy, eventsIn, itemBytes, lineMoved, message, numberOf, piece, printedBy, readsBy, readsIn, requestOf, sentBy, startOf, takenBy, takenIn}
+use Rattle.model.specs.Calls.{Asked, Call, Promised, Request, Terminal, accepted, answerOf, closing, eventsBy, eventsIn, itemBytes, besideItems, keyText, message, numberOf, piece, printedBy, readsBy, readsIn, requestOf, sentBy, startOf, takenBy, takenIn}
 use Rattle.model.specs.Claims.{InOrder}
 use Rattle.model.proofs.Tests.{cond-at, cond₂}
 use Rattle.model.proofs.ByteLaws.{length-listFrom, length-written}
@@ -73,18 +73,19 @@ copies-append [] fs a = refl
 copies-append (e ∷ es) fs a =
     ap (λ (l : List ℕ). printsOf e a ++ l) (copies-append es fs (happened e a)) ∙ sym (append-assoc (printsOf e a) (copies es (happened e a)) (copies fs (applyAll es (happened e a))))
 
--- nothing is printed where a line is left
-moved-prints : (s : Settings) (q : Asked) (a : State) → copies (lineMoved s q) a ≡ []
-unfolding lineMoved copies
+-- nothing is printed where a line is left, or a text set
+moved-prints : (s : Settings) (q : Asked) (a : State) → copies (besideItems s q) a ≡ []
+unfolding besideItems copies
 moved-prints s (message m) a = refl
 moved-prints s (piece m) a = refl
 moved-prints s closing a = refl
+moved-prints s (keyText k x) a = refl
 
 -- the items alone print
 pub prints-by : (t : Terminal) (q : Request) → copies (eventsBy t q) (t .state) ≡ copies (eventsOf (readsBy t q)) (t .state)
 unfolding eventsBy
 prints-by t q =
-    copies-append (eventsOf (readsBy t q)) (lineMoved (t .state .settings) (q .asked)) (t .state)
+    copies-append (eventsOf (readsBy t q)) (besideItems (t .state .settings) (q .asked)) (t .state)
     ∙ ap (λ (l : List ℕ). copies (eventsOf (readsBy t q)) (t .state) ++ l) (moved-prints (t .state .settings) (q .asked) _)
     ∙ append-nil (copies (eventsOf (readsBy t q)) (t .state))
 
@@ -149,12 +150,14 @@ unfolding itemBytes
 some-asked s (message m) = some-uncut m
 some-asked s (piece m) = some-gathered (heldIn s) m
 some-asked s closing = some-last (heldIn s)
+some-asked s (keyText k x) = none
 
 taken-asked : (a : Asked) → takenBy a ≡ length (sentBy a)
 unfolding takenBy
 taken-asked (message m) = refl
 taken-asked (piece m) = refl
 taken-asked closing = refl
+taken-asked (keyText k x) = refl
 
 module _ (t : Terminal) (q : Request) (e : accepted t q ≡ true) where
   pub reads-accepted : readsIn t q ≡ readsBy t q

@@ -4,7 +4,7 @@ use mathlib.Core.Path.{_∙_, _≡_, ap, refl, subst, sym}
 use Prim.Native.Nat.{_*_, _+_, _-_, _<_, _≤_, suc, zero, ℕ}
 use native.Mathlib.Nat.{le-of-suc-le-suc, not-suc-le-zero}
 use native.Mathlib.Omega.{arith}
-use mathlib.Core.Bool.{false, true}
+use mathlib.Core.Bool.{Bool, false, true}
 use mathlib.Core.List.{List, [], _++_, _∷_}
 use lib.ListN.{length, length-append, take}
 use lib.Seq.{take-append-add}
@@ -15,17 +15,18 @@ use Rattle.model.specs.State.{State}
 use Rattle.model.specs.Screens.{base, cellAt, columnsOf, lineAt, linesOf, size}
 use Rattle.model.specs.Line.{heldIn}
 use Rattle.model.specs.Sound.{Good, Sound}
-use Rattle.model.specs.Items.{Event, applyAll, blankAnswer, bytesRead}
-use Rattle.model.specs.Calls.{Asked, Call, Promised, Request, Terminal, accepted, answerOf, eventsIn, firstOf, message, numberOf, ownReasons, printedBy, readsIn, request, requestOf, sentBy, served, startOf}
-use Rattle.model.specs.Claims.{Apart, InOrder, On, Shown, Standing, countAfter, setsMode, waitsAfter}
-use Rattle.model.specs.Demand.{Demand, Demand3, Made, Nth, Resumed, Start, Stretch, before, event, eventsOver, first, itemCount, later, left, next, none, opening, requests, resumed, stands, stood}
-use Rattle.model.proofs.Frames.{SameScreen}
-use Rattle.model.proofs.Keep.{same-refl, same-trans, within}
+use Rattle.model.specs.Items.{Event, applyAll, blankAnswer, bytesRead, copies, countedAll, readsOf, texted}
+use Rattle.model.specs.Calls.{Asked, Call, Promised, Request, Terminal, accepted, answerOf, eventsIn, firstOf, itemBytes, keyText, message, numberOf, ownReasons, paints?, printedBy, readsBy, readsIn, request, requestOf, sentBy, served, startOf, takenBy}
+use Rattle.model.specs.Claims.{Apart, InOrder, On, Shown, ShownIn, Standing, aboveRow8, countAfter, movesWindow, setsMode, waitsAfter}
+use Rattle.model.specs.Demand.{Demand, Demand3, Made, NoKey, Nth, Resumed, Start, Still, Stretch, before, claimed, event, eventsOver, first, itemCount, later, left, next, none, opening, requests, resumed, stands, stood}
+use Rattle.model.proofs.Frames.{SameScreen, Spared}
+use Rattle.model.proofs.Keep.{same-refl, same-trans, spared-refl, spared-trans, within}
 use Rattle.model.proofs.ItemLaws.{Obeyed}
-use Rattle.model.proofs.Events.{AllLegal, apply-append, at-next, cell-inside, chained, event-at, good-at, legal-append, refused-nothing, unchanged, window-at}
-use Rattle.model.proofs.CallLaws.{accepted-number, answer-number, left-is, legal-in, number-good, opening-resumed, opening-shown, refused-answer, refused-leaves, refused-number, refused-prints, shown-accepted, shown-served, sized-served, state-served}
-use Rattle.model.proofs.Printing.{buffer-length, ordered, printed-is, taken-is}
-use Rattle.model.proofs.LineAfter.{line-after, once, whole}
+use Rattle.model.proofs.Events.{AllLegal, apply-append, at-next, cell-inside, chained, event-at, good-at, legal-append, refused-nothing, same-window, unchanged, window-at}
+use Rattle.model.proofs.CallLaws.{accepted-answer, accepted-number, accepted-prints, answer-number, left-is, legal-in, number-accepted, number-good, opening-resumed, opening-shown, refused-answer, refused-leaves, refused-number, refused-prints, shown-accepted, sized-served, state-served}
+use Rattle.model.proofs.Printing.{buffer-length, ordered, printed-is, reads-accepted, taken-is}
+use Rattle.model.proofs.LineAfter.{leaves-texted, line-after, once, whole}
+use Rattle.model.proofs.KeyLine.{above-stands, shown-above, shown-stands}
 use Rattle.model.proofs.Places.{one-cell}
 
 -- what stands after a list is what its events made
@@ -97,22 +98,55 @@ unaltered c p n =
 pub is-accepted : (c : Call) → Promised c → c .answer .number ≡ 0 → accepted (c .given) (requestOf c) ≡ true
 is-accepted c p e = accepted-number (c .given) (requestOf c) (sym (number-is c p) ∙ e)
 
--- the shown screen: it stays true, and an accepted message makes it true
-pub shown-stands : (qs : List Request) (t : Terminal) → Shown t → Shown (stands t qs)
-unfolding stands
-shown-stands [] t s = s
-shown-stands (q ∷ qs) t s = shown-stands qs (served t q) (shown-served t q s)
+-- the shown screen: an accepted call that paints makes it true
+painted : (c : Call) → Promised c → c .answer .number ≡ 0 → paints? (c .asked) ≡ true → Shown (c .left)
+painted c p e f = subst Shown (sym (left-is c p)) (shown-accepted (c .given) (requestOf c) (is-accepted c p e) f)
 
-shown-left : {t : Terminal} {cs : List Call} → Made t cs → Shown t → Shown (left t cs)
-shown-left m s = subst Shown (sym (exact-all m)) (shown-stands _ _ s)
-
-shown-from : {t : Terminal} {cs : List Call} → Made t cs → (i : ℕ) (c : Call) → Nth i cs c → c .answer .number ≡ 0 → (n : ℕ) → i < n → Shown (left t (take n cs))
+-- and it stays true while no key call is accepted
+shown-left : {t : Terminal} {cs : List Call} → Made t cs → (n : ℕ) → NoKey cs 0 n → Shown t → Shown (left t (take n cs))
 unfolding left
-shown-from (next g p m) zero c first e zero l = absurd (not-suc-le-zero l)
-shown-from (next g p m) zero c first e (suc n) l =
-    shown-left (made-take m n) (subst Shown (sym (left-is c p)) (shown-accepted (c .given) (requestOf c) (is-accepted c p e)))
-shown-from (next g p m) (suc i) c (later h) e zero l = absurd (not-suc-le-zero l)
-shown-from (next g p m) (suc i) c (later h) e (suc n) l = shown-from m i c h e n (le-of-suc-le-suc l)
+shown-left none zero f s = s
+shown-left none (suc n) f s = s
+shown-left (next g p m) zero f s = s
+shown-left {t} (next {c = c} {cs = cs} g p m) (suc n) f s = shown-left m n (λ j b l u h e. f (suc j) b (omega arith) (omega arith) (later h) e) (go (accepted (c .given) (requestOf c)) refl)
+  where
+    go : (b : Bool) → accepted (c .given) (requestOf c) ≡ b → Shown (c .left)
+    go true a =
+        let e : c .answer .number ≡ 0 = number-is c p ∙ number-accepted (c .given) (requestOf c) a in
+        painted c p e (f 0 c (omega arith) (omega arith) first e)
+    go false a = subst Shown (sym (left-is c p ∙ refused-leaves (c .given) (requestOf c) a ∙ g)) s
+
+-- a fact that a call that paints makes, and that stays over the calls behind it
+from-painting : (Stays : List Call → ℕ → ℕ → Type 0) (P : Terminal → Type 0)
+    → ((c : Call) (cs : List Call) (i n : ℕ) → Stays (c ∷ cs) (suc i) (suc n) → Stays cs i n)
+    → ((t : Terminal) (cs : List Call) → Made t cs → (n : ℕ) → Stays cs 0 n → Shown t → P (left t (take n cs)))
+    → {t : Terminal} {cs : List Call} → Made t cs → (i : ℕ) (c : Call) → Nth i cs c → c .answer .number ≡ 0 → paints? (c .asked) ≡ true → (n : ℕ) → i < n → Stays cs (suc i) n → P (left t (take n cs))
+unfolding left
+from-painting S P tail go (next g p m) zero c first e f zero l s = absurd (not-suc-le-zero l)
+from-painting S P tail go (next {cs = cs} g p m) zero c first e f (suc n) l s = go (c .left) cs m n (tail c cs 0 n s) (painted c p e f)
+from-painting S P tail go (next g p m) (suc i) c (later h) e f zero l s = absurd (not-suc-le-zero l)
+from-painting S P tail go (next {c = b} {cs = cs} g p m) (suc i) c (later h) e f (suc n) l s = from-painting S P tail go m i c h e f n (le-of-suc-le-suc l) (tail b cs (suc i) n s)
+
+no-key-tail : (c : Call) (cs : List Call) (i n : ℕ) → NoKey (c ∷ cs) (suc i) (suc n) → NoKey cs i n
+no-key-tail c cs i n f = λ j b l u h e. f (suc j) b (omega arith) (omega arith) (later h) e
+
+-- rows 1 to 7 stay true over all calls
+above-left : {t : Terminal} {cs : List Call} → Made t cs → (n : ℕ) → ShownIn aboveRow8 t → ShownIn aboveRow8 (left t (take n cs))
+above-left {t} {cs} m n h = subst (ShownIn aboveRow8) (sym (exact-all (made-take m n))) (above-stands (requests (take n cs)) t h)
+
+-- what a key call does
+key-in : (c : Call) → Promised c → c .answer .number ≡ 0 → (k : ℕ) (x : List ℕ) → c .asked ≡ keyText k x
+    → (c .left ≡ record { state = texted k x (c .given .state); shown = c .given .shown }) × (readsIn (c .given) (requestOf c) ≡ []) × (c .answer ≡ blankAnswer 0 0) × (c .printer ≡ c .buffer)
+unfolding readsBy itemBytes readsOf takenBy countedAll copies written
+key-in c p e k x f =
+    let q : Request = request (keyText k x) (length (c .buffer)) in
+    let fq : requestOf c ≡ q = ap (λ (a : Asked). request a (length (c .buffer))) f in
+    let a : accepted (c .given) q ≡ true = subst (λ (q : Request). accepted (c .given) q ≡ true) fq (is-accepted c p e) in (
+      left-is c p ∙ ap (served (c .given)) fq ∙ leaves-texted (c .given) k x (length (c .buffer)) a,
+      ap (readsIn (c .given)) fq ∙ reads-accepted (c .given) q a,
+      p .answer-is ∙ ap (answerOf (c .given)) fq ∙ accepted-answer (c .given) q a,
+      p .printer-is ∙ ap (λ (ys : List ℕ). written ys (c .buffer)) (ap (printedBy (c .given)) fq ∙ accepted-prints (c .given) q a),
+    )
 
 pub sized-stands : (qs : List Request) (t : Terminal) → length (t .shown) ≡ 640 → length (stands t qs .shown) ≡ 640
 unfolding stands
@@ -203,13 +237,18 @@ module _ (t : Terminal) (cs : List Call) (made : Made t cs) where
         ∙ number-good (stood t cs n) (requestOf c) g (sized-stands (requests (take n cs)) t (start-resumed t start .shown-is))
 
     -- what event n of the list does
-    step : (n : ℕ) → n < itemCount t cs → Obeyed (before t cs n) (before t cs (suc n)) (setsMode (event t cs n))
+    step : (n : ℕ) → n < itemCount t cs → Obeyed (before t cs n) (before t cs (suc n)) (setsMode (event t cs n)) (movesWindow (event t cs n))
     step = event-at (eventsOver t (requests cs)) (t .state) good (legal-over t (requests cs))
 
-    stretch : (i j k : ℕ) → i ≤ j → j ≤ itemCount t cs → Stretch t cs i j k → (o : ℕ) → o < 2 → (o ≡ k → ⊥) → SameScreen o (before t cs i) (before t cs j)
+    stretch : (i j k : ℕ) → i ≤ j → j ≤ itemCount t cs → Stretch t cs i j k → (o : ℕ) → o < 2 → (o ≡ k → ⊥) → Spared o (before t cs i) (before t cs j)
     stretch i j k u v f o ho e =
-        chained (SameScreen o) (same-refl o) (λ a b c. same-trans) (before t cs) i j u
+        chained (Spared o) (spared-refl o) (λ a b c. spared-trans) (before t cs) i j u
         (λ n p q. step n (omega arith) .other (f n p q .1) o ho (λ z. e (z ∙ f n p q .0)))
+
+    windows : (i j k : ℕ) → i ≤ j → j ≤ itemCount t cs → Still t cs i j k → (o : ℕ) → o < 2 → (o ≡ k → ⊥) → SameScreen o (before t cs i) (before t cs j)
+    windows i j k u v f o ho e =
+        chained (SameScreen o) (same-refl o) (λ a b c. same-trans) (before t cs) i j u
+        (λ n p q. step n (omega arith) .window (f n p q .1) o ho (λ z. e (z ∙ f n p q .0)))
 
   demand : Demand3 t cs
   demand = record {
@@ -224,8 +263,13 @@ module _ (t : Terminal) (cs : List Call) (made : Made t cs) where
     whole = each (λ x c. c .answer .number ≡ 0 → (m : List ℕ) → c .asked ≡ message m → Whole x c m) whole-in made;
     line = each (λ x c. c .answer .number ≡ 0 → LineIs x c) line-in made;
     by-items = λ n h. by-items n;
-    opened-shown = λ o n h. shown-left (made-take made n) (opening-shown t o);
-    message-shown = λ i c h e n l u. shown-from made i c h e n l;
+    key-sets = each (λ x c. c .answer .number ≡ 0 → (k : ℕ) (y : List ℕ) → c .asked ≡ keyText k y
+        → (c .left ≡ record { state = texted k y (c .given .state); shown = c .given .shown }) × (readsIn x (requestOf c) ≡ []) × (c .answer ≡ blankAnswer 0 0) × (c .printer ≡ c .buffer)) key-in made;
+    opened-shown = λ o n h f. shown-left made n f (opening-shown t o);
+    message-shown = λ i c h e f n l u s. from-painting NoKey Shown no-key-tail (λ t cs m n. shown-left m n) made i c h e f n l s;
+    opened-rows = λ o n h. above-left made n (shown-above t (opening-shown t o));
+    message-rows = λ i c h e f n l u. from-painting (λ cs i n. Unit {0}) (ShownIn aboveRow8) (λ c cs i n s. s) (λ t cs m n s h. above-left m n (shown-above t h)) made i c h e f n l tt;
+    shown = λ places h n l. subst (ShownIn (claimed t (requests (take n cs)) places)) (sym (exact n)) (shown-stands (requests (take n cs)) t places h);
     numbered = number;
     standing = λ start n h. standing-of (good-at (eventsOver t (requests cs)) (t .state) (good start) (legal-over t (requests cs)) n);
     left-standing = λ start n h. (
@@ -234,6 +278,7 @@ module _ (t : Terminal) (cs : List Call) (made : Made t cs) where
     );
     tracks = λ start. window-at (eventsOver t (requests cs)) (t .state) (good start) (legal-over t (requests cs));
     stretch = λ start i j k u v f o ho e. unchanged (stretch start i j k u v f o ho e);
+    windows = λ start i j k u v f o ho e. same-window (windows start i j k u v f o ho e);
   }
 
 pub demand3 : Demand

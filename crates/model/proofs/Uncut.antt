@@ -131,8 +131,8 @@ however-cut t cs bs room start made z cut h =
 
 -- the first accepted call of a stream is made of the terminal itself, so its stores have their sizes
 flow-sized : {t : Terminal} {qs : List Request} {bs : List ℕ} → Flow t qs bs → sized t ≡ true
-flow-sized {t} (Flow.closes {room = room} a) = accepted-sized t (request closing room) a
-flow-sized {t} (Flow.goes {m = m} {room = room} a s) = accepted-sized t (request (piece m) room) a
+flow-sized {t} (Flow.closes {room = room} a) = accepted-sized t (request closing room) a refl
+flow-sized {t} (Flow.goes {m = m} {room = room} a s) = accepted-sized t (request (piece m) room) a refl
 flow-sized (Flow.skips a s) = flow-sized s
 
 message-accepted : (t : Terminal) (bs : List ℕ) (room : ℕ) → sized t ≡ true → Sound (t .state .settings) → t .state .settings .held ≡ 0 → length bs ≤ 4096 → accepted t (request (message bs) room) ≡ true
@@ -155,7 +155,7 @@ as-message t cs bs c made z stream g p f l e₁ e₂ =
     let one : As u bs t cs = uncut-as t cs bs room made z stream e₁ (subst (λ (rs : List Read). met13 rs ≡ false) ru e₂) in
     let lc : c .left ≡ served t q = left-served c t g p ∙ ap (served t) fq in
     let st : served t q .state ≡ applyAll (eventsOf u) (t .state) =
-    leaves-lined t (message bs) room ok ∙ ap (λ (n : ℕ). lined [] n (applyAll (eventsOf u) (t .state))) z ∙ quiet-state (t .state) sound z u in
+    leaves-lined t (message bs) room ok refl ∙ ap (λ (n : ℕ). lined [] n (applyAll (eventsOf u) (t .state))) z ∙ quiet-state (t .state) sound z u in
     let sh : served t q .shown ≡ painting (served t q .state) = subst (λ (x : Terminal). x .shown ≡ painting (x .state)) (sym (accepted-leaves t q ok)) refl in
     let both : left t cs ≡ served t q = λ i. record { state = (one .state ∙ sym st) i; shown = (one .shown ∙ ap painting (sym st) ∙ sym sh) i } in
     record {

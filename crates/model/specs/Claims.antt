@@ -2,10 +2,10 @@
 -- and the cursor's line, items by kind, and what a screen keeps over a stretch.
 use mathlib.Core.Path.{_≡_}
 use Prim.Native.Nat.{ℕ, _+_, _-_, _*_, _≤_, _<_}
-use mathlib.Core.Bool.{Bool, true, false, _||_}
+use mathlib.Core.Bool.{Bool, true, false, cond, _&&_, _||_}
 use mathlib.Core.List.{List, [], _∷_}
 use lib.ListN.{length, getD}
-use lib.Dec.{eqb}
+use lib.Dec.{eqb, ltb}
 use Rattle.model.specs.declared.Settings.{Settings}
 use Rattle.model.specs.declared.Item.{Item}
 use Rattle.model.specs.declared.Item.the-variants.{Printed, Control, Sequence, Refused}
@@ -16,8 +16,8 @@ use Rattle.model.specs.Picture.{pictureAt}
 use Rattle.model.specs.Reading.{Read, remaining}
 use Rattle.model.specs.Line.{heldIn}
 use Rattle.model.specs.Sequences.{codeOf}
-use Rattle.model.specs.Items.{Event, itemRead, lineLeft}
-use Rattle.model.specs.Calls.{Terminal, Asked, message, piece, closing}
+use Rattle.model.specs.Items.{Event, itemRead, lineLeft, keySet}
+use Rattle.model.specs.Calls.{Terminal, Asked, message, piece, closing, keyText, paints?, Request, accepted}
 
 -- a line and a column of screen k (0 or 1)
 pub record On (s : Settings) (k l c : ℕ) : Type 0 where
@@ -50,22 +50,38 @@ abbrev pub InOrder : ℕ → List Read → Type 0
 InOrder at [] = Unit {0}
 InOrder at (r ∷ rs) = (r .at ≡ at) × ((1 ≤ length (r .bytes)) × InOrder (at + length (r .bytes)) rs)
 
--- P1, the bytes that wait after an accepted call: of a message none, since it is refused while bytes wait
+-- P1, the bytes that wait after an accepted call: of a message none, since it is refused while bytes wait; a key call (P2) leaves them
 unfoldable pub waitsAfter : Settings → Asked → List ℕ
 waitsAfter s (message m) = []
 waitsAfter s (piece m) = remaining (heldIn s) m
 waitsAfter s closing = []
+waitsAfter s (keyText k x) = heldIn s
 
 -- and the stream's byte count
 unfoldable pub countAfter : Settings → Asked → ℕ
 countAfter s (message m) = s .count
 countAfter s (piece m) = s .count + length m
 countAfter s closing = 0
+countAfter s (keyText k x) = s .count
 
 -- "Row r, column c is byte 80(r−1)+c−1 of the shown screen": all 640 places show the picture of what stands
 pub record Shown (t : Terminal) : Type 0 where
   pub places : length (t .shown) ≡ 640
   pub each : (r c : ℕ) → 1 ≤ r → r ≤ 8 → 1 ≤ c → c ≤ 80 → getD (t .shown) (80 * (r - 1) + (c - 1)) 0 ≡ pictureAt (t .state) r c
+
+-- the same of some of the 640 places, by their numbers
+abbrev pub ShownIn : (ℕ → Bool) → Terminal → Type 0
+ShownIn places t =
+    (r c : ℕ) → 1 ≤ r → r ≤ 8 → 1 ≤ c → c ≤ 80 → places (80 * (r - 1) + (c - 1)) ≡ true → getD (t .shown) (80 * (r - 1) + (c - 1)) 0 ≡ pictureAt (t .state) r c
+
+-- those of rows 1 to 7
+abbrev pub aboveRow8 : ℕ → Bool
+aboveRow8 p = ltb p 560
+
+-- P2, "until the next accepted message, piece or closing nothing is claimed of row 8": the places that are claimed after a call, from those
+-- before it. Of an accepted call that paints all, of an accepted key call no more of row 8; a refused call leaves what was claimed
+unfoldable pub claimedBy : Terminal → Request → (ℕ → Bool) → ℕ → Bool
+claimedBy t q places p = cond (accepted t q) (paints? (q .asked) || (places p && aboveRow8 p)) (places p)
 
 -- "the window is lines top to top+H−1": the cursor's line lies in it, "on the selected screen"
 pub record InWindow (st : State) : Type 0 where
@@ -78,6 +94,13 @@ isMode (Printed c) = false
 isMode (Control c) = false
 isMode (Sequence q) = eqb (codeOf q) 208
 isMode (Refused n p) = false
+
+-- P2, "211 joins 208 as what may move the other window": an accepted 211
+abbrev pub isDisplay : Item → Bool
+isDisplay (Printed c) = false
+isDisplay (Control c) = false
+isDisplay (Sequence q) = eqb (codeOf q) 211
+isDisplay (Refused n p) = false
 
 -- "A printed character is a printed byte or an accepted 37; a line step is code 10, and codes 8 and 13 are counted with it; a cursor placing is 61"
 abbrev pub follows : Item → Bool
@@ -93,25 +116,36 @@ isRefusal (Control c) = false
 isRefusal (Sequence q) = false
 isRefusal (Refused n p) = true
 
--- the same of an event; what moves a stream's line is none of these
+-- the same of an event; what moves a stream's line or sets a key's text is none of these
 abbrev pub setsMode : Event → Bool
 setsMode (itemRead r) = isMode (r .item)
 setsMode (lineLeft w n) = false
+setsMode (keySet k x) = false
+
+abbrev pub movesWindow : Event → Bool
+movesWindow (itemRead r) = isMode (r .item) || isDisplay (r .item)
+movesWindow (lineLeft w n) = false
+movesWindow (keySet k x) = false
 
 abbrev pub refusedEvent : Event → Bool
 refusedEvent (itemRead r) = isRefusal (r .item)
 refusedEvent (lineLeft w n) = false
+refusedEvent (keySet k x) = false
 
 abbrev pub mustFollow : Event → Bool
 mustFollow (itemRead r) = follows (r .item)
 mustFollow (lineLeft w n) = false
+mustFollow (keySet k x) = false
 
--- each cell, the cursor and the window of screen k are in b as in a
+-- each cell and the cursor of screen k are in b as in a
 pub record Unchanged (k : ℕ) (a b : State) : Type 0 where
   pub lines : linesOf (b .settings) k ≡ linesOf (a .settings) k
   pub columns : columnsOf (b .settings) k ≡ columnsOf (a .settings) k
   pub cells : (l c : ℕ) → On (a .settings) k l c → getD (b .cells) (cellAt (b .settings) k l c) 0 ≡ getD (a .cells) (cellAt (a .settings) k l c) 0
   pub cursor-line : placeOf (b .settings) k .line ≡ placeOf (a .settings) k .line
   pub cursor-column : placeOf (b .settings) k .column ≡ placeOf (a .settings) k .column
+
+-- and the window: the lines top to top+H−1
+pub record SameWindow (k : ℕ) (a b : State) : Type 0 where
   pub top : placeOf (b .settings) k .top ≡ placeOf (a .settings) k .top
   pub tall : height (b .settings) ≡ height (a .settings)

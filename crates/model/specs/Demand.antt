@@ -1,8 +1,8 @@
 -- Document 01, "Lists of messages": demand 3, a single claim about a whole list of calls; document 02, P1: "pieces and closings stand in its
--- lists with messages, an accepted one counting as an accepted message".
+-- lists with messages, an accepted one counting as an accepted message"; P2: "The new call may stand in demand 3's lists".
 use mathlib.Core.Path.{_≡_}
 use Prim.Native.Nat.{ℕ, suc, _≤_, _<_}
-use mathlib.Core.Bool.{true, false, cond}
+use mathlib.Core.Bool.{Bool, true, false, cond}
 use mathlib.Core.List.{List, [], _∷_, _++_, map}
 use lib.ListN.{length, getD, take}
 use Rattle.model.specs.declared.Item.the-variants.{Refused}
@@ -10,10 +10,10 @@ use Rattle.model.specs.Bytes.{joined, written}
 use Rattle.model.specs.State.{State}
 use Rattle.model.specs.Line.{heldIn}
 use Rattle.model.specs.Sound.{Sound}
-use Rattle.model.specs.Items.{Event, itemRead, applyAll, blankAnswer, bytesRead}
-use Rattle.model.specs.Calls.{Terminal, message, sentBy, startOf, Request, Call, requestOf, Promised, short, firstOf, ownReasons, numberOf, answerOf, printedBy, readsIn, eventsIn, served}
+use Rattle.model.specs.Items.{Event, itemRead, texted, applyAll, blankAnswer, bytesRead}
+use Rattle.model.specs.Calls.{Terminal, message, keyText, paints?, sentBy, startOf, Request, Call, requestOf, Promised, short, firstOf, ownReasons, numberOf, answerOf, printedBy, readsIn, eventsIn, served}
 use Rattle.model.specs.Opening.{OpeningPromised}
-use Rattle.model.specs.Claims.{Standing, InOrder, waitsAfter, countAfter, Shown, InWindow, setsMode, refusedEvent, mustFollow, Unchanged}
+use Rattle.model.specs.Claims.{Standing, InOrder, waitsAfter, countAfter, Shown, ShownIn, aboveRow8, claimedBy, InWindow, setsMode, movesWindow, refusedEvent, mustFollow, Unchanged, SameWindow}
 
 -- "Each call gets the settings and these three stores as the call before left them", and keeps its promise
 pub data Made : Terminal → List Call → Type 0 where
@@ -57,12 +57,21 @@ requests cs = map requestOf cs
 abbrev pub stood : Terminal → List Call → ℕ → Terminal
 stood t cs n = stands t (requests (take n cs))
 
+-- the places that are claimed after a list, from those at the start
+unfoldable pub claimed : Terminal → List Request → (ℕ → Bool) → ℕ → Bool
+claimed t [] places = places
+claimed t (q ∷ qs) places = claimed (served t q) qs (claimedBy t q places)
+
 -- call n of a list, counted from 0
 pub data Nth : ℕ → List Call → Call → Type 0 where
   first : {c : Call} {cs : List Call} → Nth 0 (c ∷ cs) c
   later : {n : ℕ} {b c : Call} {cs : List Call} → Nth n cs c → Nth (suc n) (b ∷ cs) c
 
--- what happens in a whole list, one call's items and line after the other's: "across calls too"
+-- no key call is accepted among calls i to n − 1: every accepted call paints
+abbrev pub NoKey : List Call → ℕ → ℕ → Type 0
+NoKey cs i n = (j : ℕ) (c : Call) → i ≤ j → j < n → Nth j cs c → c .answer .number ≡ 0 → paints? (c .asked) ≡ true
+
+-- what happens in a whole list, one call's items, line and key text after the other's: "across calls too"
 unfoldable pub eventsOver : Terminal → List Request → List Event
 eventsOver t [] = []
 eventsOver t (q ∷ qs) = eventsIn t q ++ eventsOver (served t q) qs
@@ -71,7 +80,7 @@ eventsOver t (q ∷ qs) = eventsIn t q ++ eventsOver (served t q) qs
 abbrev pub noEvent : Event
 noEvent = itemRead (record { at = 0; item = Refused 0 0; bytes = [] })
 
--- event n of a list, an item or what moves the line, counted from 0 over all its calls
+-- event n of a list, an item or what moves the line or sets a key's text, counted from 0 over all its calls
 abbrev pub event : Terminal → List Call → ℕ → Event
 event t cs n = getD (eventsOver t (requests cs)) n noEvent
 
@@ -84,9 +93,13 @@ abbrev pub before : Terminal → List Call → ℕ → State
 before t cs n = applyAll (take n (eventsOver t (requests cs))) (t .state)
 
 -- "any items of the list that follow one another, across calls too, each read with the same screen selected and none a mode setting": events i to j − 1, screen k. What moves
--- the line between two items selects nothing and alters no screen
+-- the line or sets a key's text between two items selects nothing and alters no screen
 abbrev pub Stretch : Terminal → List Call → ℕ → ℕ → ℕ → Type 0
 Stretch t cs i j k = (n : ℕ) → i ≤ n → n < j → (before t cs n .settings .selected ≡ k) × (setsMode (event t cs n) ≡ false)
+
+-- P2, "211 joins 208 as what may move the other window": the same, and none an accepted 211
+abbrev pub Still : Terminal → List Call → ℕ → ℕ → ℕ → Type 0
+Still t cs i j k = (n : ℕ) → i ≤ n → n < j → (before t cs n .settings .selected ≡ k) × (movesWindow (event t cs n) ≡ false)
 
 -- the claim about a whole list
 pub record Demand3 (t : Terminal) (cs : List Call) : Type 0 where
@@ -118,12 +131,21 @@ pub record Demand3 (t : Terminal) (cs : List Call) : Type 0 where
       → (heldIn (c .left .state .settings) ≡ waitsAfter (stood t cs n .state .settings) (c .asked)) × (c .left .state .settings .count ≡ countAfter (stood t cs n .state .settings) (c .asked))
   -- what stands after each call is what the items of the list made, up to that call's last
   pub by-items : (n : ℕ) → n ≤ length cs → left t (take n cs) .state ≡ before t cs (length (eventsOver t (requests (take n cs))))
-  -- from an accepted opening on, all 640 places show the picture of what stands
-  pub opened-shown : Opening t → (n : ℕ) → n ≤ length cs → Shown (left t (take n cs))
-  -- from the first accepted message, piece or closing on, too
-  pub message-shown : (i : ℕ) (c : Call) → Nth i cs c → c .answer .number ≡ 0 → (n : ℕ) → i < n → n ≤ length cs → Shown (left t (take n cs))
+  -- P2, an accepted key call: "it sets the texts and reads nothing", and paints nothing
+  pub key-sets : (n : ℕ) (c : Call) → Nth n cs c → c .answer .number ≡ 0 → (k : ℕ) (x : List ℕ) → c .asked ≡ keyText k x
+      → (c .left ≡ record { state = texted k x (c .given .state); shown = c .given .shown }) × (readsIn (stood t cs n) (requestOf c) ≡ []) × (c .answer ≡ blankAnswer 0 0) × (c .printer ≡ c .buffer)
+  -- from an accepted opening on, all 640 places show the picture of what stands, while no key call is accepted
+  pub opened-shown : Opening t → (n : ℕ) → n ≤ length cs → NoKey cs 0 n → Shown (left t (take n cs))
+  -- from the first accepted message, piece or closing on, too; and after a key call from the next one on
+  pub message-shown : (i : ℕ) (c : Call) → Nth i cs c → c .answer .number ≡ 0 → paints? (c .asked) ≡ true → (n : ℕ) → i < n → n ≤ length cs → NoKey cs (suc i) n → Shown (left t (take n cs))
+  -- and rows 1 to 7 whatever key calls are accepted
+  pub opened-rows : Opening t → (n : ℕ) → n ≤ length cs → ShownIn aboveRow8 (left t (take n cs))
+  pub message-rows : (i : ℕ) (c : Call) → Nth i cs c → c .answer .number ≡ 0 → paints? (c .asked) ≡ true → (n : ℕ) → i < n → n ≤ length cs → ShownIn aboveRow8 (left t (take n cs))
+  -- by place, from whichever places show the picture at the start
+  pub shown : (places : ℕ → Bool) → ShownIn places t → (n : ℕ) → n ≤ length cs → ShownIn (claimed t (requests (take n cs)) places) (left t (take n cs))
   -- FROM AN ACCEPTED OPENING, OR FROM SOUND SETTINGS
-  -- no call is refused but by 2, a message or a piece over 4,096 bytes, by 15, a piece past the limit, and by 16, a message while bytes wait
+  -- no call is refused but by 2, a message or a piece over 4,096 bytes, by 15, a piece past the limit, by 16, a message while bytes wait,
+  -- and by 17, a key number outside 1 to 10 or a text not of 8 bytes
   pub numbered : Start t → (n : ℕ) (c : Call) → Nth n cs c → c .answer .number ≡ firstOf (ownReasons (stood t cs n .state .settings) (c .asked))
   -- before and after every item: the settings sound, each cursor and window inside its screen, the screens' cells apart and among the 3,840
   pub standing : Start t → (n : ℕ) → n ≤ itemCount t cs → Standing (before t cs n)
@@ -131,8 +153,10 @@ pub record Demand3 (t : Terminal) (cs : List Call) : Type 0 where
   pub left-standing : Start t → (n : ℕ) → n ≤ length cs → (Standing (left t (take n cs) .state)) × (length (left t (take n cs) .shown) ≡ 640)
   -- "The cursor's line is looked for right after the item, on the selected screen"
   pub tracks : Start t → (n : ℕ) → n < itemCount t cs → mustFollow (event t cs n) ≡ true → before t cs n .settings .tracking ≡ 1 → InWindow (before t cs (suc n))
-  -- a stretch leaves each cell, the cursor and the window of the other screen as they were
+  -- a stretch leaves each cell and the cursor of the other screen as they were
   pub stretch : Start t → (i j k : ℕ) → i ≤ j → j ≤ itemCount t cs → Stretch t cs i j k → (o : ℕ) → o < 2 → (o ≡ k → ⊥) → Unchanged o (before t cs i) (before t cs j)
+  -- and its window, with no 211 among the items
+  pub windows : Start t → (i j k : ℕ) → i ≤ j → j ≤ itemCount t cs → Still t cs i j k → (o : ℕ) → o < 2 → (o ≡ k → ⊥) → SameWindow o (before t cs i) (before t cs j)
 
 -- "a single claim about a whole list and not one for each call"
 abbrev pub Demand : Type 0

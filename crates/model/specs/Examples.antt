@@ -4,7 +4,7 @@
 use Prim.Native.Nat.{ℕ, suc, zero, _+_, _-_, _*_}
 use mathlib.Core.Bool.{Bool, true, false, _&&_}
 use mathlib.Core.List.{List, [], _∷_, _++_}
-use lib.ListN.{length, getD, replicate}
+use lib.ListN.{length, getD, take, drop, replicate}
 use lib.Dec.{eqb}
 use Rattle.model.specs.declared.Answer.{Answer}
 use Rattle.model.specs.Bytes.{listFrom}
@@ -20,6 +20,9 @@ pub data Fact : Type 0 where
   parameter : ℕ → Fact  -- that the first refusal names
   cursorAt : ℕ → ℕ → Fact  -- line and column, of screen 1
   top : ℕ → Fact  -- of screen 1
+  topOn : ℕ → ℕ → Fact  -- screen and top
+  cursorOn : ℕ → ℕ → ℕ → Fact  -- screen, line and column
+  step : ℕ → Fact
   selected : ℕ → Fact
   lines : ℕ → ℕ → Fact  -- of screens 1 and 2
   columns : ℕ → ℕ → Fact
@@ -35,6 +38,7 @@ pub data Fact : Type 0 where
   pattern : ℕ → ℕ → ℕ → Fact  -- code, row from 1, byte
   refusedBy : ℕ → Fact  -- the call's number; all counts 0
   waits : List ℕ → ℕ → Fact  -- the bytes that wait, the others of the array 0, and the stream's count
+  text : ℕ → List ℕ → Fact  -- a key by its number, from 1, and its 8 codes
   keySettings : ℕ → ℕ → ℕ → ℕ → ℕ → ℕ → Fact  -- set, key strings, repeat, its two numbers, shift
   displayed : ℕ → ℕ → ℕ → ℕ → Fact  -- cursor on, its type, key display, boundary
 
@@ -62,6 +66,9 @@ holds (firstRefusal n o) d w bs = eqb (w .first) n && eqb (w .offset) o
 holds (parameter p) d w bs = eqb (w .parameter) p
 holds (cursorAt l c) d w bs = eqb (placeOf (d .state .settings) 0 .line) l && eqb (placeOf (d .state .settings) 0 .column) c
 holds (top t) d w bs = eqb (placeOf (d .state .settings) 0 .top) t
+holds (topOn k t) d w bs = eqb (placeOf (d .state .settings) (k - 1) .top) t
+holds (cursorOn k l c) d w bs = eqb (placeOf (d .state .settings) (k - 1) .line) l && eqb (placeOf (d .state .settings) (k - 1) .column) c
+holds (step n) d w bs = eqb (d .state .settings .step) n
 holds (selected k) d w bs = eqb (d .state .settings .selected + 1) k
 holds (lines a b) d w bs = eqb (linesOf (d .state .settings) 0) a && eqb (linesOf (d .state .settings) 1) b
 holds (columns a b) d w bs = eqb (columnsOf (d .state .settings) 0) a && eqb (columnsOf (d .state .settings) 1) b
@@ -77,6 +84,7 @@ holds (arrow k b) d w bs = eqb (getD (d .state .settings .keys .arrows) (k - 1) 
 holds (pattern c r b) d w bs = eqb (getD (d .state .settings .patterns) ((c - 224) * 8 + (r - 1)) 0) b
 holds (refusedBy n) d w bs = eqb (w .number) n && eqb (w .taken) 0 && eqb (w .accepted) 0 && eqb (w .refused) 0 && eqb (w .first) 0 && eqb (w .offset) 0 && eqb (w .printed) 0 && eqb (length bs) 0
 holds (waits v n) d w bs = let s = d .state .settings in same? (s .waiting) (padded v) && eqb (s .held) (length v) && eqb (s .count) n
+holds (text k x) d w bs = same? (take 8 (drop ((k - 1) * 8) (d .state .settings .texts))) x
 holds (keySettings c s r a b h) d w bs = let k = d .state .settings .keys in eqb (k .charset) c && eqb (k .strings) s && eqb (k .repeat) r && eqb (k .delay) a && eqb (k .interval) b && eqb (k .shift) h
 holds (displayed o n e p) d w bs = let s = d .state .settings in eqb (s .cursor) o && eqb (s .kind) n && eqb (s .display) e && eqb (s .boundary) p
 

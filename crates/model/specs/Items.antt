@@ -1,6 +1,7 @@
 -- Document 01, "Lists of messages": "An accepted message is read into items; each in turn changes what stands as its rule
--- says"; and of "Stores and calls" the counts of the answer, which the items fix. Document 02, P1: what moves a stream's line.
-use Prim.Native.Nat.{ℕ, _+_, _-_}
+-- says"; and of "Stores and calls" the counts of the answer, which the items fix. Document 02: what moves a stream's line (P1), what
+-- sets a key's text (P2).
+use Prim.Native.Nat.{ℕ, _+_, _-_, _*_}
 use mathlib.Core.Bool.{cond}
 use mathlib.Core.List.{List, [], _∷_, _++_, map}
 use lib.ListN.{length}
@@ -8,7 +9,8 @@ use lib.Dec.{eqb}
 use Rattle.model.specs.declared.Answer.{Answer}
 use Rattle.model.specs.declared.Item.{Item}
 use Rattle.model.specs.declared.Item.the-variants.{Printed, Control, Sequence, Refused}
-use Rattle.model.specs.State.{State, withLine}
+use Rattle.model.specs.Bytes.{put}
+use Rattle.model.specs.State.{State, withLine, withTexts}
 use Rattle.model.specs.Line.{padded}
 use Rattle.model.specs.Picture.{copied, copySize}
 use Rattle.model.specs.Sequences.{codeOf}
@@ -43,10 +45,12 @@ readsOf (bs ∷ bss) at st room =
 abbrev pub bytesRead : List Read → List (List ℕ)
 bytesRead rs = map (λ (r : Read). r .bytes) rs
 
--- what happens to what stands: an item that is read; or bytes that wait and a count are left (P1), so that settings move only by events
+-- what happens to what stands: an item that is read; or bytes that wait and a count are left (P1), or a key's text is set (P2), so that
+-- settings move only by events
 pub data Event : Type 0 where
   itemRead : Read → Event
   lineLeft : List ℕ → ℕ → Event
+  keySet : ℕ → List ℕ → Event
 
 -- the events of what is read
 abbrev pub eventsOf : List Read → List Event
@@ -57,10 +61,15 @@ eventsOf (r ∷ rs) = itemRead r ∷ eventsOf rs
 unfoldable pub lined : List ℕ → ℕ → State → State
 lined w n st = withSettings (withLine (st .settings) (padded w) (length w) n) st
 
+-- P2: another text of key k, 1 to 10, and nothing else
+unfoldable pub texted : ℕ → List ℕ → State → State
+texted k x st = withSettings (withTexts (st .settings) (put ((k - 1) * 8) x (st .settings .texts))) st
+
 -- what an event does
 unfoldable pub happened : Event → State → State
 happened (itemRead r) st = obeyedBy r st
 happened (lineLeft w n) st = lined w n st
+happened (keySet k x) st = texted k x st
 
 -- "each in turn"
 unfoldable pub applyAll : List Event → State → State
@@ -78,6 +87,7 @@ copyOf (Refused n p) st = []
 abbrev pub printsOf : Event → State → List ℕ
 printsOf (itemRead r) st = copyOf (r .item) st
 printsOf (lineLeft w n) st = []
+printsOf (keySet k x) st = []
 
 -- the bytes that events print, one behind the other
 unfoldable pub copies : List Event → State → List ℕ

@@ -52,10 +52,11 @@ keyRanges kind k =
 unfoldable pub plainRanges : Settings → List Check
 plainRanges s = range 0 (s .tracking) 1 ∷ range 0 (s .secret) 1 ∷ range 0 (s .cursor) 1 ∷ range 0 (s .display) 1 ∷ keyRanges (s .kind) (s .keys)
 
--- the arrays are as long as their types say: two screens, three LEDs, twelve arrow codes, 31 patterns of 8 rows, twelve waiting bytes
+-- the arrays are as long as their types say: two screens, three LEDs, twelve arrow codes, 31 patterns of 8 rows, twelve waiting bytes, ten key texts of
+-- 8 codes (P2), which are free
 unfoldable pub arrayRanges : Settings → List Check
 arrayRanges s =
-    range 2 (length (s .places)) 2 ∷ range 3 (length (s .keys .leds)) 3 ∷ range 12 (length (s .keys .arrows)) 12 ∷ range 248 (length (s .patterns)) 248 ∷ range 12 (length (s .waiting)) 12 ∷ []
+    range 2 (length (s .places)) 2 ∷ range 3 (length (s .keys .leds)) 3 ∷ range 12 (length (s .keys .arrows)) 12 ∷ range 248 (length (s .patterns)) 248 ∷ range 12 (length (s .waiting)) 12 ∷ range 80 (length (s .texts)) 80 ∷ []
 
 -- "Settings are sound exactly when"
 pub record Sound (s : Settings) : Type 0 where

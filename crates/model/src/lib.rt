@@ -35,7 +35,7 @@ pub struct Keys {
 
 // The settings. `selected` is 0 for screen 1 and 1 for screen 2, and picks the place. `cursor` is whether the cursor is on (1), `kind` its
 // type, `display` the key display as sent. `waiting` has in its first `held` bytes the unfinished sequence of a stream, the others 0; `count` is
-// the stream's byte count.
+// the stream's byte count. `texts` has the ten key texts, 8 codes each.
 #[repr(C)]
 pub struct Settings {
     pub mode: u8,
@@ -57,6 +57,7 @@ pub struct Settings {
     pub waiting: [u8; 12],
     pub held: u8,
     pub count: u32,
+    pub texts: [u8; 80],
 }
 
 // A whole sequence, one case a second byte (208: a mode byte), its parameters as sent.
@@ -183,7 +184,7 @@ pub enum Item {
     Refused { number: u8, parameter: u8 },
 }
 
-// The answer of the message, piece and closing calls.
+// The answer of the message, piece, closing and key calls.
 #[repr(C)]
 pub struct Answer {
     pub number: u8,
@@ -196,7 +197,7 @@ pub struct Answer {
     pub printed: usize,
 }
 
-// What the message, piece and closing calls return.
+// What the message, piece, closing and key calls return.
 #[repr(C)]
 pub struct Outcome {
     pub settings: Settings,

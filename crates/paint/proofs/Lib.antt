@@ -4,4 +4,4 @@ pub mod Windows
 pub mod Views
 pub mod Pictures
 pub mod Copies
-pub mod Secret
+pub mod Tested

@@ -24,6 +24,11 @@ pub listed : (f : ℕ → ℕ) (i n : ℕ) (ys : List ℕ) → length ys ≡ n �
 listed f i n ys e h =
     ext-getD 0 ys (listFrom f i n) (e ∙ sym (length-listFrom f i n)) (λ k l. h k (omega arith) ∙ sym (getD-listFrom f n i k (omega arith)))
 
+-- and put where f counts them from
+pub put-listed : (f : ℕ → ℕ) (i n : ℕ) (ys xs : List ℕ) → length ys ≡ n → ((k : ℕ) → k < n → getD ys k 0 ≡ f (i + k)) → put i ys xs ≡ painted i n f xs
+unfolding painted
+put-listed f i n ys xs e h = ap (λ (zs : List ℕ). put i zs xs) (listed f i n ys e h)
+
 -- a turn of a loop that puts f's bytes, from i on, at a
 pub listed-more : (a i n : ℕ) (f : ℕ → ℕ) (xs : List ℕ) {l : List ℕ} {k v : ℕ}
     → l ≡ put a (listFrom f i n) xs → k ≡ a + n → v ≡ f (i + n) → k < length xs → set l k v ≡ put a (listFrom f i (n + 1)) xs

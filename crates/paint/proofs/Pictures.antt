@@ -1,4 +1,5 @@
--- The whole picture: blank while secret is on, else what the view shows in the rows of text, with the layer laid over it.
+-- The whole picture: blank while secret is on, else what the view shows in the rows of text and the key texts behind them,
+-- with the layer laid over all.
 use mathlib.Core.Path.{_∙_, _≡_, ap, refl, sym}
 use Prim.Native.Nat.{_%_, _*_, _+_, _-_, _/_, _<_, ℕ}
 use native.Mathlib.Omega.{arith}
@@ -6,18 +7,21 @@ use mathlib.Core.Bool.{Bool, cond, false, true}
 use mathlib.Core.List.{List}
 use lib.ListN.{getD, getD-replicate, length, length-replicate, replicate}
 use lib.Dec.{eqb}
+use borrow.Author.Tests.{eq-eqb, eqb-true}
 use Rattle.model.specs.declared.Settings.{Settings}
 use Rattle.model.specs.Bytes.{listFrom, put}
 use Rattle.model.specs.State.{State, state}
 use Rattle.model.specs.Screens.{textRows}
+use Rattle.model.specs.Sound.{Sound, arrayRanges}
 use Rattle.model.specs.Picture.{covered, painting, picture, pictureAt, under}
+use Rattle.model.proofs.KeyLaws.{key-row, rows-plain, rows-shown}
 use Rattle.model.proofs.Tests.{differ, elim-at}
 use Rattle.model.proofs.ByteLaws.{length-listFrom, same-listFrom}
 use Rattle.store.proofs.Laws.{put-all}
 use Rattle.paint.specs.declared.view.View.{View}
 use Rattle.paint.specs.Panes.{ViewOf, seen}
 use Rattle.paint.specs.Painted.{laid, painted}
-use Rattle.paint.proofs.Painted.{listed, painted-over}
+use Rattle.paint.proofs.Painted.{listed, painted-next, painted-over, put-listed}
 
 -- "32 everywhere while secret is on"
 secret-at : (st : State) → eqb (st .settings .secret) 1 ≡ true → (p : ℕ) → 32 ≡ picture st p
@@ -28,6 +32,11 @@ secret-at st e p = elim-at (λ (x : ℕ). 32 ≡ x) (eqb (st .settings .secret) 
 secret-picture : (st : State) → eqb (st .settings .secret) 1 ≡ true → replicate 640 32 ≡ painting st
 unfolding painting
 secret-picture st e = listed (picture st) 0 640 (replicate 640 32) (length-replicate {A = ℕ} 640 32) (λ k l. getD-replicate 640 k 32 0 l ∙ secret-at st e (0 + k))
+
+-- the key texts have a row's length
+pub texts-size : {s : Settings} → Sound s → length (s .texts) ≡ 80
+unfolding arrayRanges
+texts-size h = omega (arith, h .arrays)
 
 -- "else the layer's code if marked; else" the picture without secret and layer
 module _ (s : Settings) (cells layer : List ℕ) where
@@ -65,12 +74,34 @@ module _ (s : Settings) (cells layer : List ℕ) where
         e ∙ ap (λ (ys : List ℕ). put 0 ys xs) (same-listFrom (seen v cells) below 0 (v .rows * 80) (λ p a b. is-view .same cells layer (p / 80) (p % 80) (omega arith) (omega arith)))
         ∙ ap (λ (n : ℕ). put 0 (listFrom below 0 (n * 80)) xs) (is-view .rows-are)
 
-    -- what is painted by the view (l) and then by the layer (l′) is the picture
-    pub whole-picture : {l l′ : List ℕ} → length xs ≡ 640 → l ≡ cond (eqb (s .secret) 1) (replicate 640 32) (painted 0 (v .rows * 80) (seen v cells) xs)
-        → l′ ≡ cond (eqb (s .secret) 1) l (painted 0 640 (laid layer (λ p. getD l p 0)) l) → l′ ≡ painting st
-    unfolding textRows
-    whole-picture {l} {l′} n = by (eqb (s .secret) 1) refl
+    -- behind them, under display 0, stand the key texts
+    all-rows : {l l′ : List ℕ} → length (s .texts) ≡ 80 → length xs ≡ 640 → l ≡ painted 0 (textRows s * 80) below xs → l′ ≡ cond (eqb (s .display) 0) (put 560 (s .texts) l) l → l′ ≡ painted 0 640 below xs
+    all-rows {l} {l′} size n e = by (eqb (s .display) 0) refl
       where
-        by : (b : Bool) → eqb (s .secret) 1 ≡ b → l ≡ cond b (replicate 640 32) (painted 0 (v .rows * 80) (seen v cells) xs) → l′ ≡ cond b l (painted 0 640 (laid layer (λ p. getD l p 0)) l) → l′ ≡ painting st
-        by true t e e′ = e′ ∙ e ∙ secret-picture st t
-        by false f e e′ = painted-over 0 640 below layer xs (omega arith) (text-rows e) e′ ∙ plain-picture f xs n
+        -- row 8, by its columns
+        keys : s .display ≡ 0 → (k : ℕ) → k < 80 → getD (s .texts) k 0 ≡ below (560 + k)
+        keys d k h =
+            let r : (560 + k) / 80 + 1 ≡ 8 = omega arith in
+            let c : (560 + k) % 80 + 1 ≡ k + 1 = omega arith in
+            let b : k + 1 - 1 ≡ k = omega arith in
+            sym ((λ i. under st (r i) (c i)) ∙ key-row st (k + 1) d ∙ ap (λ (j : ℕ). getD (s .texts) j 0) b)
+
+        by : (b : Bool) → eqb (s .display) 0 ≡ b → l′ ≡ cond b (put 560 (s .texts) l) l → l′ ≡ painted 0 640 below xs
+        by true d f =
+            let seven : textRows s * 80 ≡ 560 = ap (λ (k : ℕ). k * 80) (rows-shown s (eqb-true (s .display) 0 d)) in
+            painted-next 0 below xs 560 80 640 (e ∙ ap (λ (k : ℕ). painted 0 k below xs) seven)
+            (f ∙ put-listed below 560 80 (s .texts) l size (keys (eqb-true (s .display) 0 d))) refl (omega arith) refl
+        by false d f =
+            let eight : textRows s * 80 ≡ 640 = ap (λ (k : ℕ). k * 80) (rows-plain s (λ z. differ (sym (eq-eqb (s .display) 0 z) ∙ d))) in
+            f ∙ e ∙ ap (λ (k : ℕ). painted 0 k below xs) eight
+
+    -- what is painted by the view (l), by the key texts (l′) and by the layer (l″) is the picture
+    pub whole-picture : {l l′ l″ : List ℕ} → length (s .texts) ≡ 80 → length xs ≡ 640 → l ≡ cond (eqb (s .secret) 1) (replicate 640 32) (painted 0 (v .rows * 80) (seen v cells) xs)
+        → l′ ≡ cond (eqb (s .secret) 1) l (cond (eqb (s .display) 0) (put 560 (s .texts) l) l)
+        → l″ ≡ cond (eqb (s .secret) 1) l′ (painted 0 640 (laid layer (λ p. getD l′ p 0)) l′) → l″ ≡ painting st
+    whole-picture {l} {l′} {l″} size n = by (eqb (s .secret) 1) refl
+      where
+        by : (b : Bool) → eqb (s .secret) 1 ≡ b → l ≡ cond b (replicate 640 32) (painted 0 (v .rows * 80) (seen v cells) xs)
+            → l′ ≡ cond b l (cond (eqb (s .display) 0) (put 560 (s .texts) l) l) → l″ ≡ cond b l′ (painted 0 640 (laid layer (λ p. getD l′ p 0)) l′) → l″ ≡ painting st
+        by true t e e′ e″ = e″ ∙ e′ ∙ e ∙ secret-picture st t
+        by false f e e′ e″ = painted-over 0 640 below layer xs (omega arith) (all-rows size n (text-rows e) e′) e″ ∙ plain-picture f xs n

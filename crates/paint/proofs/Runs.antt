@@ -14,17 +14,12 @@ use Rattle.paint.specs.declared.view.Pane.{Pane}
 use Rattle.paint.specs.declared.view.View.{View}
 use Rattle.paint.specs.Panes.{Framed, Line, across, cellIn, seen}
 use Rattle.paint.specs.Painted.{painted}
-use Rattle.paint.proofs.Painted.{listed, painted-next}
-
--- bytes that are f's, put where f counts them from
-run : (f : ℕ → ℕ) (i n : ℕ) (ys xs : List ℕ) → length ys ≡ n → ((k : ℕ) → k < n → getD ys k 0 ≡ f (i + k)) → put i ys xs ≡ painted i n f xs
-unfolding painted
-run f i n ys xs e h = ap (λ (zs : List ℕ). put i zs xs) (listed f i n ys e h)
+use Rattle.paint.proofs.Painted.{painted-next, put-listed}
 
 -- a part of the cells
 part-run : (f : ℕ → ℕ) (i n at : ℕ) (cells xs : List ℕ) → at + n ≤ length cells → ((k : ℕ) → k < n → f (i + k) ≡ getD cells (at + k) 0)
     → put i (take n (drop at cells)) xs ≡ painted i n f xs
-part-run f i n at cells xs h g = run f i n (take n (drop at cells)) xs (simp (length-take, length-drop) (omega arith)) (λ k l. getD-part cells at n k l ∙ sym (g k l))
+part-run f i n at cells xs h g = put-listed f i n (take n (drop at cells)) xs (simp (length-take, length-drop) (omega arith)) (λ k l. getD-part cells at n k l ∙ sym (g k l))
 
 -- a place by its row and its column
 at-column : (v : View) (cells : List ℕ) (p row column : ℕ) → p ≡ row * 80 + column → column < 80 → seen v cells p ≡ across v cells row column
@@ -65,7 +60,7 @@ module _ (v : View) (framed : Framed v) (cells : List ℕ) (size : length cells 
 
   gap-run : (xs : List ℕ) → put between (replicate (v .gap) (v .code)) xs ≡ painted between (v .gap) (seen v cells) xs
   unfolding across
-  gap-run xs = run (seen v cells) between (v .gap) (replicate (v .gap) (v .code)) xs (length-replicate (v .gap) (v .code))
+  gap-run xs = put-listed (seen v cells) between (v .gap) (replicate (v .gap) (v .code)) xs (length-replicate (v .gap) (v .code))
       (λ k l. getD-replicate (v .gap) k (v .code) 0 l ∙ sym (at-column v cells (between + k) row (v .left .width + k) (omega arith) (omega arith)
       ∙ rw (le-ltb (v .left .width + k) (v .left .width) (omega arith), lt-ltb (v .left .width + k) (v .left .width + v .gap) (omega arith))))
 

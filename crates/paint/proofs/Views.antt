@@ -1,21 +1,21 @@
 -- The views of the three modes show the picture without secret and layer.
-use mathlib.Core.Path.{_∙_, _≡_, ap, refl, sym}
+use mathlib.Core.Path.{_∙_, _≡_, refl, sym}
 use Prim.Native.Nat.{_*_, _+_, _-_, _<_, _≤_, ℕ}
 use native.Mathlib.Nat.{add-mul}
 use native.Mathlib.Omega.{arith}
-use mathlib.Core.Bool.{Bool, cond}
 use mathlib.Core.List.{List}
 use lib.ListN.{getD}
 use lib.Dec.{eqb, leb, ltb}
-use borrow.Author.Tests.{eq-eqb, eqb-true, le-leb, leb-true, ltb-false, ltb-true, ne-eqb}
+use borrow.Author.Tests.{eq-eqb, eqb-true, le-leb, leb-true, ltb-false, ltb-true}
 use Rattle.model.specs.declared.Settings.{Settings}
 use Rattle.model.specs.State.{State, state}
 use Rattle.model.specs.Screens.{columnsOf, height, textRows}
 use Rattle.model.specs.Sound.{Shaped, Sound, mode0, mode1, mode2}
-use Rattle.model.specs.Picture.{halves, sides, under}
+use Rattle.model.specs.Picture.{halves, sides, textAt, under}
 use Rattle.model.proofs.Keep.{rows-high}
+use Rattle.model.proofs.KeyLaws.{height-one, height-two}
 use Rattle.model.proofs.Tests.{cond-at, differ, elim-at}
-use Rattle.model.proofs.Places.{all, left-half, left-side, picture-shows, right-half, right-side}
+use Rattle.model.proofs.Places.{all, left-half, left-side, picture-shows, right-half, right-side, under-text}
 use Rattle.paint.specs.declared.view.Pane.{Pane}
 use Rattle.paint.specs.declared.view.View.{View}
 use Rattle.paint.specs.Panes.{ViewOf, Window, across, cellIn}
@@ -49,21 +49,21 @@ by-parts v cells row column u left gap right =
     (λ f. cond-at (λ (x : ℕ). x ≡ u) (ltb column (v .left .width + v .gap)) _ _ (λ t. gap (ltb-false _ _ f) (ltb-true _ _ t)) (λ g. right (ltb-false _ _ g)))
 
 -- "40 and 41 blank"
-gap-blank : (st : State) (row column : ℕ) → st .settings .mode ≡ 1 → 40 ≤ column → column ≤ 41 → under st row column ≡ 32
-unfolding under halves
-gap-blank st row column m g h =
-    elim-at (λ (x : ℕ). x ≡ 32) (eqb (st .settings .mode) 0) _ _ (λ t. absurd (omega (arith, eqb-true (st .settings .mode) 0 t)))
+gap-blank : (st : State) (row column : ℕ) → row ≤ textRows (st .settings) → st .settings .mode ≡ 1 → 40 ≤ column → column ≤ 41 → under st row column ≡ 32
+unfolding textAt halves
+gap-blank st row column r m g h =
+    under-text st row column r ∙ elim-at (λ (x : ℕ). x ≡ 32) (eqb (st .settings .mode) 0) _ _ (λ t. absurd (omega (arith, eqb-true (st .settings .mode) 0 t)))
     (λ f. elim-at (λ (x : ℕ). x ≡ 32) (eqb (st .settings .mode) 1) _ _
     (λ t. elim-at (λ (x : ℕ). x ≡ 32) (leb column 39) _ _ (λ u. absurd (omega (arith, leb-true column 39 u)))
     (λ u. elim-at (λ (x : ℕ). x ≡ 32) (leb column 41) _ _ (λ w. refl) (λ w. absurd (differ (sym (le-leb column 41 h) ∙ w)))))
     (λ g. absurd (differ (sym (eq-eqb _ 1 m) ∙ g))))
 
 -- "column m+1 the boundary"
-gap-boundary : (st : State) (row column : ℕ) → st .settings .mode ≡ 2 → column ≡ st .settings .columns1 + 1 → under st row column ≡ st .settings .boundary
-unfolding under sides
-gap-boundary st row column m h =
+gap-boundary : (st : State) (row column : ℕ) → row ≤ textRows (st .settings) → st .settings .mode ≡ 2 → column ≡ st .settings .columns1 + 1 → under st row column ≡ st .settings .boundary
+unfolding textAt sides
+gap-boundary st row column r m h =
     let b : ℕ = st .settings .boundary in
-    elim-at (λ (x : ℕ). x ≡ b) (eqb (st .settings .mode) 0) _ _ (λ t. absurd (omega (arith, eqb-true (st .settings .mode) 0 t)))
+    under-text st row column r ∙ elim-at (λ (x : ℕ). x ≡ b) (eqb (st .settings .mode) 0) _ _ (λ t. absurd (omega (arith, eqb-true (st .settings .mode) 0 t)))
     (λ f. elim-at (λ (x : ℕ). x ≡ b) (eqb (st .settings .mode) 1) _ _ (λ t. absurd (omega (arith, eqb-true (st .settings .mode) 1 t)))
     (λ g. elim-at (λ (x : ℕ). x ≡ b) (leb column (st .settings .columns1)) _ _ (λ u. absurd (omega (arith, leb-true column (st .settings .columns1) u)))
     (λ u. elim-at (λ (x : ℕ). x ≡ b) (eqb column (st .settings .columns1 + 1)) _ _ (λ w. refl) (λ w. absurd (differ (sym (eq-eqb column (st .settings .columns1 + 1) h) ∙ w))))))
@@ -74,15 +74,6 @@ module _ (s : Settings) (sound : Sound s) where
   unfolding columnsOf
   columns-both n k e f = cond-at (λ (w : ℕ). w ≡ n) (eqb k 0) _ _ (λ t. e) (λ t. f)
 
-  -- the window's height, by the mode
-  low : (s .mode ≡ 1 → ⊥) → height s ≡ textRows s
-  unfolding height
-  low n = ap (λ (b : Bool). cond b (2 * textRows s) (textRows s)) (ne-eqb (s .mode) 1 n)
-
-  high : s .mode ≡ 1 → height s ≡ 2 * textRows s
-  unfolding height
-  high e = ap (λ (b : Bool). cond b (2 * textRows s) (textRows s)) (eq-eqb (s .mode) 1 e)
-
   -- all rows of a window that is as tall as they are lie among the cells
   rows-inside : {k rows : ℕ} {pane : Pane} → rows ≡ height s → Window s k pane → pane .at + rows * pane .width ≤ 3840
   rows-inside {k} {rows} {pane} e w = rw e (w .inside)
@@ -92,7 +83,7 @@ module _ (s : Settings) (sound : Sound s) where
   shows-whole m {rows} rs {left} w =
       let c = columns-0 (sound .shaped) m in
       let wide : left .width ≡ 80 = w .wide ∙ columns-both 80 (s .selected) (c .0) (c .1) in
-      let h : rows ≡ height s = rs ∙ sym (low (λ e. omega arith)) in
+      let h : rows ≡ height s = rs ∙ sym (height-one s (λ e. omega arith)) in
       record {
         framed = record { whole = omega arith; rows-high = omega (arith, rows-high s); left-inside = rows-inside h w; right-inside = omega arith; halves = λ e. absurd (omega arith); single = λ n e. absurd (n wide) };
         rows-are = rs;
@@ -110,7 +101,7 @@ module _ (s : Settings) (sound : Sound s) where
       let c = columns-1 (sound .shaped) z t in
       let m : s .mode ≡ 1 = c .0 in
       let wide : left .width ≡ 39 = w .wide ∙ columns-both 39 (s .selected) (c .1 .0) (c .1 .1) in
-      let h : rows + rows ≡ height s = omega (arith, high m) in
+      let h : rows + rows ≡ height s = omega (arith, height-two s m) in
       let both : left .at + (rows * left .width + rows * left .width) ≤ 3840 = rw (← add-mul rows rows (left .width), h) (w .inside) in
       record {
         framed = record { whole = omega arith; rows-high = omega (arith, rows-high s); left-inside = omega arith; right-inside = omega arith; halves = λ e. (wide, wide); single = λ n e. absurd (e refl) };
@@ -119,7 +110,7 @@ module _ (s : Settings) (sound : Sound s) where
             by-parts _ cells row column _
             (λ l. sym (picture-shows (state s cells layer) (row + 1) (column + 1) _
             (left-half m (omega arith) (omega arith) (in-window s sound (s .selected) (sound .selected) w row column (row + 1) (column + 1) refl refl))))
-            (λ l g. sym (gap-blank (state s cells layer) (row + 1) (column + 1) m (omega arith) (omega arith)))
+            (λ l g. sym (gap-blank (state s cells layer) (row + 1) (column + 1) (omega arith) m (omega arith) (omega arith)))
             (λ g. sym (picture-shows (state s cells layer) (row + 1) (column + 1) _
             (right-half m (omega arith) (omega arith)
             (below left rows row (column - (left .width + 2)) ∙ in-window s sound (s .selected) (sound .selected) w (rows + row) (column - (left .width + 2)) (textRows s + (row + 1)) (column + 1 - 41) (omega arith) (omega arith)))));
@@ -135,7 +126,7 @@ module _ (s : Settings) (sound : Sound s) where
       let c = columns-2 (sound .shaped) m in
       let wide : left .width ≡ s .columns1 = w .wide in
       let wide′ : right .width ≡ s .columns2 = w′ .wide in
-      let h : rows ≡ height s = rs ∙ sym (low (λ e. omega arith)) in
+      let h : rows ≡ height s = rs ∙ sym (height-one s (λ e. omega arith)) in
       record {
         framed = record { whole = omega arith; rows-high = omega (arith, rows-high s); left-inside = rows-inside h w; right-inside = rows-inside h w′; halves = λ e. absurd (omega arith); single = λ n e. refl };
         rows-are = rs;
@@ -143,7 +134,7 @@ module _ (s : Settings) (sound : Sound s) where
             by-parts _ cells row column _
             (λ l. sym (picture-shows (state s cells layer) (row + 1) (column + 1) _
             (left-side m (omega arith) (omega arith) (in-window s sound 0 (omega arith) w row column (row + 1) (column + 1) refl refl))))
-            (λ l g. sym (gap-boundary (state s cells layer) (row + 1) (column + 1) m (omega arith)))
+            (λ l g. sym (gap-boundary (state s cells layer) (row + 1) (column + 1) (omega arith) m (omega arith)))
             (λ g. sym (picture-shows (state s cells layer) (row + 1) (column + 1) _
             (right-side m (omega arith) (omega arith) (in-window s sound 1 (omega arith) w′ row (column - (left .width + 1)) (row + 1) (column + 1 - s .columns1 - 1) refl (omega arith)))));
       }

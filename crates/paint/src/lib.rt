@@ -17,19 +17,36 @@ use model::Settings;
 use rows::COPY_ROW;
 use rows::PLACES;
 use rows::ROW;
+use rows::ROW_8;
 use rows::ROWS;
 use view::Pane;
 use view::View;
 
-// "It always ends by painting all 640 places": the panes, then the layer over them. What paints is handed the view and single numbers, so
-// that no settings are copied for it.
+// "It always ends by painting all 640 places": the panes, under display 0 the key line behind them, then the layer over all. What paints is handed
+// the view and single numbers, so that no settings are copied for it.
 pub fn paint(settings: Settings, bare: bool, cells: &[u8], layer: &[u8], shown: &mut [u8])
     requires { ⌜ (Good (state settings (now cells) (now layer))) × ((bare ≡ true → now layer ≡ replicate 1280 0) × (length (now shown) ≡ 640)) ⌝ }
     ensures { λ _. ⌜ now (shown .exit) ≡ painting (state settings (now (cells .entry)) (now (layer .entry))) ⌝ }
 {
     let panes = view::view_of(settings);
     paint_under(settings.secret, panes, cells, shown);
+    paint_keys(settings, shown);
     lay_over(settings.secret, bare, layer, shown);
+}
+
+// "With ESC 211,0 row 8 shows ten key texts of 8 codes", which secret mode leaves out. Only then are the texts touched.
+fn paint_keys(settings: Settings, shown: &mut [u8])
+    requires { ⌜ (length (settings .texts) ≡ 80) × (length (now shown) ≡ 640) ⌝ }
+    ensures { λ _. ⌜ now (shown .exit) ≡ cond (eqb (settings .secret) 1) (now (shown .entry)) (cond (eqb (settings .display) 0) (put 560 (settings .texts) (now (shown .entry))) (now (shown .entry))) ⌝ }
+{
+    if settings.secret == 1 {
+        return;
+    }
+    if settings.display != 0 {
+        return;
+    }
+    let texts = settings.texts;
+    store::copy_in(shown, ROW_8, &texts, 0, ROW);
 }
 
 // The layer over what is painted, which secret mode leaves out. A layer that is known to be empty is not laid.
@@ -117,6 +134,7 @@ pub fn copy(settings: Settings, cells: &[u8], layer: &[u8], printer: &mut [u8], 
     let mut picture = [0u8; PLACES];
     let panes = view::view_of(settings);
     paint_under(settings.secret, panes, cells, &mut picture);
+    paint_keys(settings, &mut picture);
     lay_over(settings.secret, false, layer, &mut picture);
     let mut row = 0;
     while row < ROWS {

@@ -9,12 +9,14 @@ ghost use Rattle.paint.specs.Copy.{rowCopied};
 use crate::view::View;
 use crate::view::start;
 
-// The rows of the shown screen, a row, all places, and a row of a printed copy with the two codes behind it.
+// The rows of the shown screen, a row, all places, those before row 8, and a row of a printed copy with the two codes behind it.
 pub(crate) const ROWS: usize = 8;
 
 pub(crate) const ROW: usize = 80;
 
 pub(crate) const PLACES: usize = 640;
+
+pub(crate) const ROW_8: usize = 560;
 
 pub(crate) const COPY_ROW: usize = 82;
 

@@ -10,7 +10,7 @@ pub struct Pane {
     pub width: usize,
 }
 
-// In `rows` rows of the shown screen, those that show text; `gap` places of `code` stand between the panes.
+// In `rows` rows, those of text; `gap` places of `code` stand between the panes.
 pub struct View {
     pub rows: usize,
     pub left: Pane,
@@ -59,7 +59,7 @@ pub(crate) fn view_of(settings: Settings) -> View
     ensures { λ r. ⌜ ViewOf settings r ⌝ }
 {
     let mode = settings.mode;
-    let rows = tables::text_rows() as usize;
+    let rows = tables::text_rows(settings.display) as usize;
     if mode == 2 {
         return View {
             rows,

@@ -19,7 +19,7 @@ use Rattle.model.specs.Sound.{Good}
 use Rattle.model.specs.Reading.{gathered, remaining, uncut}
 use Rattle.model.specs.Rules.{withSettings}
 use Rattle.model.specs.Items.{lined}
-use Rattle.model.specs.Calls.{Promised, Request, Terminal, accepted, called, eventsIn, firstOf, message, noneWaits, numberOf, ownReasons, piece, pieced, reason, request, served, terminal}
+use Rattle.model.specs.Calls.{Promised, Request, Terminal, accepted, called, eventsIn, firstOf, message, noneWaits, numberOf, ownReasons, paints?, piece, pieced, reason, request, served, terminal}
 use Rattle.model.specs.Stream.{together}
 use Rattle.model.proofs.CallLaws.{accepted-number, accepted-sized, accepted-sound, answer-number, left-is, legal-in, number-good, sized-served, state-served}
 use Rattle.model.proofs.Events.{good-all}
@@ -33,9 +33,9 @@ use Rattle.pieces.proofs.Refusals.{Told}
 use Rattle.pieces.proofs.Quiet.{held-is, quiet, quiet-accepted, quiet-state}
 
 -- after an accepted call only a long message, or one while bytes wait, is refused
-number-next : (t : Terminal) (q q′ : Request) → accepted t q ≡ true → numberOf (served t q) q′ ≡ firstOf (ownReasons (served t q .state .settings) (q′ .asked))
-number-next t q q′ e =
-    let z = sizes t (accepted-sized t q e) in
+number-next : (t : Terminal) (q q′ : Request) → accepted t q ≡ true → paints? (q .asked) ≡ true → numberOf (served t q) q′ ≡ firstOf (ownReasons (served t q .state .settings) (q′ .asked))
+number-next t q q′ e f =
+    let z = sizes t (accepted-sized t q e f) in
     let g : Good (t .state) = record { sound = accepted-sound t q e; cells-are = z .0; layer-are = z .1 } in
     number-good (served t q) q′ (subst Good (sym (state-served t q)) (good-all (eventsIn t q) (t .state) g (legal-in t q))) (sized-served t q (z .2))
 
@@ -112,7 +112,7 @@ module _ (s : Settings) (m cells layer shown buffer : List ℕ) (size : length (
       second-served =
           let q₂ : Request = request (message ys) (length (drop (b .printed) p)) in
           let same : left₁ ≡ served q asked = left-is (called xs q buffer b left₁ p) w in
-          ap (λ (x : Answer). x .number) (w₂ .answer-is) ∙ answer-number left₁ q₂ ∙ ap (λ (x : Terminal). numberOf x q₂) same ∙ number-next q asked q₂ first-served
+          ap (λ (x : Answer). x .number) (w₂ .answer-is) ∙ answer-number left₁ q₂ ∙ ap (λ (x : Terminal). numberOf x q₂) same ∙ number-next q asked q₂ first-served refl
           ∙ ap (λ (x : Terminal). firstOf (ownReasons (x .state .settings) (message ys))) (sym same)
           ∙ (λ i. firstOf (reason 2 (le-leb (length ys) 4096 few₂ i) ∷ reason 16 (eq-eqb (s₁ .held) 0 none-held i) ∷ []))
 

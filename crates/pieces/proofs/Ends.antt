@@ -2,7 +2,6 @@
 use mathlib.Core.Path.{_∙_, _≡_, ap, sym}
 use Prim.Native.Nat.{_+_, _-_, _≤_, ℕ}
 use native.Mathlib.Omega.{arith}
-use mathlib.Core.Bool.{true}
 use mathlib.Core.List.{List, _++_}
 use lib.ListN.{drop, length, length-append, length-drop, length-take, take, take-append-drop}
 use lib.Seq.{drop-append-le, drop-drop, length-take-le, take-all, take-at, take-take}

@@ -8,7 +8,7 @@ use Rattle.model.specs.declared.Answer.{Answer}
 use Rattle.model.specs.Bytes.{written}
 use Rattle.model.specs.Reading.{uncut}
 use Rattle.model.specs.Items.{blankAnswer, lined}
-use Rattle.model.specs.Calls.{Asked, Promised, Request, Terminal, accepted, called, closing, countable, firstOf, itemBytes, message, noneWaits, numberOf, piece, reason, reasons, request, short, sized, soundIn, startOf, takenBy}
+use Rattle.model.specs.Calls.{Asked, Promised, Request, Terminal, accepted, called, closing, countable, firstOf, itemBytes, message, noneWaits, numberOf, paints?, piece, reason, reasons, request, short, sized, soundIn, startOf, takenBy}
 use Rattle.model.specs.Claims.{countAfter, waitsAfter}
 use Rattle.model.proofs.CallLaws.{accepted-number, answer-number, left-is, refused-answer, refused-leaves, refused-number, refused-prints}
 use Rattle.model.proofs.Offsets.{further}
@@ -68,8 +68,8 @@ module _ (t : Terminal) (a : Asked) (only : firstOf (reasons t a) ≡ oneOrThree
   accepted-with z = accepted-number t (request a (length buffer)) (sym number-is ∙ z)
 
   -- and one part is all of it
-  pub served-with : b .number ≡ 0 → (n : ℕ) → q .state ≡ lined [] n (t .state) → itemBytes (t .state .settings) a ≡ uncut xs
+  pub served-with : paints? a ≡ true → b .number ≡ 0 → (n : ℕ) → q .state ≡ lined [] n (t .state) → itemBytes (t .state .settings) a ≡ uncut xs
       → (answer : Answer) (left : Terminal) → answer ≡ taking (takenBy a) (further (startOf (t .state .settings) a) b)
       → left .state ≡ lined (waitsAfter (t .state .settings) a) (countAfter (t .state .settings) a) (l .state) → left .shown ≡ l .shown → Promised (call a t buffer answer left p)
-  served-with z n e cut answer left f g h =
-      promised-one t a buffer xs cut (accepted-with z) n b l p (part-of n xs (t .state) buffer b l p q e w z) answer left f g h
+  served-with paints z n e cut answer left f g h =
+      promised-one t a paints buffer xs cut (accepted-with z) n b l p (part-of n xs (t .state) buffer b l p q e w z) answer left f g h

@@ -13,14 +13,14 @@ use Rattle.model.specs.Checks.{inRanges?, range}
 use Rattle.model.specs.Screens.{base, cellAt, columnsOf, height, lineAt, linesOf, placeOf, textRows}
 use Rattle.model.specs.Line.{heldIn, line?}
 use Rattle.model.specs.Sound.{arrayRanges, inside?, insideRanges, keyRanges, otherRanges, plainRanges, shapeRanges, sound?}
-use Rattle.model.specs.Picture.{covered, halves, painting, picture, pictureAt, sides, under, windowAt}
+use Rattle.model.specs.Picture.{covered, halves, painting, picture, pictureAt, sides, textAt, under, windowAt}
 use Rattle.model.specs.Reading.{Read, gathered, remaining, uncut}
 use Rattle.model.specs.Rules.{withSettings}
 use Rattle.model.specs.Items.{applyAll, blankAnswer, copies, countedAll, eventsOf, lined, readsOf}
-use Rattle.model.specs.Calls.{Asked, Call, Promised, Request, Terminal, accepted, answerOf, called, firstOf, itemBytes, lineMoved, message, numberOf, piece, printedBy, readsBy, reasons, request, served, startOf, takenBy}
+use Rattle.model.specs.Calls.{Asked, Call, Promised, Request, Terminal, accepted, answerOf, besideItems, called, firstOf, itemBytes, message, numberOf, paints?, piece, printedBy, readsBy, reasons, request, served, startOf, takenBy}
 use Rattle.model.specs.Claims.{countAfter, waitsAfter}
 use Rattle.model.specs.Stream.{together}
-use Rattle.model.proofs.CallLaws.{accepted-answer, accepted-leaves, accepted-number, accepted-prints, after, answer-number, left-is, refused-number}
+use Rattle.model.proofs.CallLaws.{accepted-answer, accepted-number, accepted-painted, accepted-prints, answer-number, left-is, refused-number}
 use Rattle.model.proofs.LineAfter.{leaves, leaves-lined}
 use Rattle.model.proofs.Lined.{applied-lined, copies-lined, reads-lined}
 use Rattle.model.proofs.Offsets.{further}
@@ -56,7 +56,7 @@ module _ (n : ℕ) (xs : List ℕ) (st : State) (buffer : List ℕ) (a : Answer)
 
   -- a message call that was served there is a part
   pub part-of : (g : Terminal) → g .state ≡ lined [] n st → Promised (called xs g buffer a l p) → a .number ≡ 0 → Part n xs st buffer a l p
-  unfolding readsBy itemBytes startOf lineMoved takenBy applyAll after
+  unfolding readsBy itemBytes startOf besideItems takenBy applyAll
   part-of g e w z =
       let q : Request = request (message xs) room in
       let ok : accepted g q ≡ true = accepted-number g q (sym (ap (λ (x : Answer). x .number) (w .answer-is) ∙ answer-number g q) ∙ z) in
@@ -65,7 +65,7 @@ module _ (n : ℕ) (xs : List ℕ) (st : State) (buffer : List ℕ) (a : Answer)
       record {
         answer-is = w .answer-is ∙ accepted-answer g q ok ∙ ap (λ (x : State). countedAll (readsOf (uncut xs) 0 x room) (blankAnswer 0 (length xs))) e ∙ ap (λ (rs : List Read). countedAll rs (blankAnswer 0 (length xs))) items-quiet;
         state-is = ap (λ (x : Terminal). x .state) left ∙ leaves g q ok ∙ ap (λ (x : State). applyAll (eventsOf (readsOf (uncut xs) 0 x room)) x) e ∙ quiet-state;
-        shown-is = subst (λ (x : Terminal). x .shown ≡ painting (x .state)) (sym (left ∙ accepted-leaves g q ok)) refl;
+        shown-is = subst (λ (x : Terminal). x .shown ≡ painting (x .state)) (sym (left ∙ accepted-painted g q ok refl)) refl;
         printer-is = w .printer-is ∙ ap (λ (ys : List ℕ). written ys buffer) prints;
         printed-is = ap (λ (x : Answer). x .printed) (w .answer-is) ∙ printed-is g q ∙ ap length prints;
       }
@@ -77,11 +77,11 @@ lined-twice w n v k st = refl
 
 -- no picture looks at the line
 painting-lined : (w : List ℕ) (n : ℕ) (st : State) → painting (lined w n st) ≡ painting st
-unfolding painting picture pictureAt covered under halves sides windowAt cellAt lineAt base columnsOf placeOf textRows lined withSettings
+unfolding painting picture pictureAt covered under textAt halves sides windowAt cellAt lineAt base columnsOf placeOf textRows lined withSettings
 painting-lined w n st = refl
 
 -- what one part is all of: a call whose items are the bytes xs, cut
-module _ (t : Terminal) (a : Asked) (buffer : List ℕ) (xs : List ℕ) (cut : itemBytes (t .state .settings) a ≡ uncut xs) (ok : accepted t (request a (length buffer)) ≡ true) where
+module _ (t : Terminal) (a : Asked) (paints : paints? a ≡ true) (buffer : List ℕ) (xs : List ℕ) (cut : itemBytes (t .state .settings) a ≡ uncut xs) (ok : accepted t (request a (length buffer)) ≡ true) where
   abbrev s : Settings
   s = t .state .settings
 
@@ -94,7 +94,7 @@ module _ (t : Terminal) (a : Asked) (buffer : List ℕ) (xs : List ℕ) (cut : i
 
   one-state : served t (request a (length buffer)) .state ≡ lined (waitsAfter s a) (countAfter s a) (stateOf xs (t .state) (length buffer))
   one-state =
-      leaves-lined t a (length buffer) ok
+      leaves-lined t a (length buffer) ok paints
       ∙ ap (lined (waitsAfter s a) (countAfter s a)) (ap (λ (rs : List Read). applyAll (eventsOf rs) (t .state)) one-read ∙ later-state start xs (t .state) (length buffer))
 
   one-answer : (n : ℕ) → answerOf t (request a (length buffer)) ≡ taking (takenBy a) (further start (countedAll (itemsOf xs (t .state) (length buffer)) (blankAnswer 0 n)))
@@ -112,7 +112,7 @@ module _ (t : Terminal) (a : Asked) (buffer : List ℕ) (xs : List ℕ) (cut : i
   promised-one n b l p w answer left e f g =
       let made : left .state ≡ lined (waitsAfter s a) (countAfter s a) (stateOf xs (t .state) (length buffer)) =
       f ∙ ap (lined (waitsAfter s a) (countAfter s a)) (w .state-is) ∙ lined-twice (waitsAfter s a) (countAfter s a) [] n (stateOf xs (t .state) (length buffer)) in
-      promised-by (call a t buffer answer left p) ok (made ∙ sym one-state)
+      promised-by (call a t buffer answer left p) ok paints (made ∙ sym one-state)
       (g ∙ w .shown-is ∙ sym (ap painting f ∙ painting-lined (waitsAfter s a) (countAfter s a) (l .state)))
       (e ∙ ap (λ (x : Answer). taking (takenBy a) (further start x)) (w .answer-is) ∙ sym (one-answer (length xs)))
       (w .printer-is ∙ ap (λ (ys : List ℕ). written ys buffer) (sym one-prints))
@@ -141,7 +141,7 @@ module _ (t : Terminal) (m : List ℕ) (buffer : List ℕ) (xs ys : List ℕ) (c
       let made : left .state ≡ lined w′ k (stateOf ys st₁ room₂) =
       f ∙ ap (lined w′ k) (w .state-is ∙ ap (λ (r : ℕ). lined [] n (stateOf ys st₁ r)) size) ∙ lined-twice w′ k [] n (stateOf ys st₁ room₂) in
       let second : b₂ ≡ countedAll (itemsOf ys st₁ room₂) (blankAnswer 0 (length ys)) = w .answer-is ∙ ap (λ (r : ℕ). countedAll (itemsOf ys st₁ r) (blankAnswer 0 (length ys))) size in
-      promised-by (call (piece m) t buffer answer left (p₁ ++ q₂)) ok (made ∙ sym (piece-state t m (length buffer) xs ys cut ok))
+      promised-by (call (piece m) t buffer answer left (p₁ ++ q₂)) ok refl (made ∙ sym (piece-state t m (length buffer) xs ys cut ok))
       (g ∙ w .shown-is ∙ sym (ap painting f ∙ painting-lined w′ k (l₂ .state)))
       (e ∙ (λ i. taking (length m) (together (further from (v .answer-is i)) (further (from + length xs) (second i)))) ∙ sym (piece-answer t m (length buffer) xs ys cut ok (length xs) (length ys)))
       (ap (λ (l : List ℕ). p₁ ++ l) (w .printer-is ∙ ap (λ (r : ℕ). written (printsIn ys st₁ r) (drop (length p₁) buffer)) size) ∙ written-twice p₁ (printsIn ys st₁ room₂) buffer
@@ -160,6 +160,6 @@ sound-either s w h n w′ h′ n′ e e′ f f′ = (λ i. body (e i) (f i)) ∙
   where
     body : ℕ → Bool → Bool
     body k b =
-        inRanges? (range 2 (length (s .places)) 2 ∷ range 3 (length (s .keys .leds)) 3 ∷ range 12 (length (s .keys .arrows)) 12 ∷ range 248 (length (s .patterns)) 248 ∷ range 12 k 12 ∷ [])
+        inRanges? (range 2 (length (s .places)) 2 ∷ range 3 (length (s .keys .leds)) 3 ∷ range 12 (length (s .keys .arrows)) 12 ∷ range 248 (length (s .patterns)) 248 ∷ range 12 k 12 ∷ range 80 (length (s .texts)) 80 ∷ [])
         && (inRanges? (shapeRanges (s .mode) (s .lines1) (s .lines2) (s .columns1) (s .columns2))
         && (inRanges? (otherRanges (s .selected) (s .step) (height s)) && (inRanges? (plainRanges s) && (inside? s 0 && (inside? s 1 && b)))))

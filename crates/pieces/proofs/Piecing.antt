@@ -2,7 +2,7 @@
 use mathlib.Core.Path.{_∙_, _≡_, ap, refl, subst, sym}
 use Prim.Native.Nat.{_+_, _-_, _<_, _^_, _≤_, ℕ}
 use native.Mathlib.Omega.{arith}
-use mathlib.Core.Bool.{cond, true}
+use mathlib.Core.Bool.{cond}
 use mathlib.Core.List.{List, [], _++_, append-nil}
 use lib.ListN.{drop, drop-of-length-le, length, length-drop, length-take, take}
 use lib.Seq.{length-take-le, take-all, take-length}
@@ -77,7 +77,7 @@ module _ (s : Settings) (m cells layer shown buffer : List ℕ) (size : length (
   unfolding itemBytes takenBy startOf waitsAfter countAfter
   one-served small b s′ cells′ layer′ shown′ p w z answer r e f =
       let t : Terminal = terminal s cells layer shown in
-      quiet-served s cells layer shown size (h .line) (piece m) (piece-number t m (h .few) (h .counts)) (take end bytes) (omega (arith, length-take end bytes, x .low)) buffer b s′ cells′ layer′ shown′ p w z cut answer r
+      quiet-served s cells layer shown size (h .line) (piece m) (piece-number t m (h .few) (h .counts)) (take end bytes) (omega (arith, length-take end bytes, x .low)) buffer b s′ cells′ layer′ shown′ p w refl z cut answer r
       (e ∙ ap (λ (j : ℕ). countedFrom (s .count - j) (length m) b) (sym (x .held))) rest (s .count + length m) rest-is refl f
 
 -- a long piece: 52 bytes of it are in the array, and it goes on from where their whole items end

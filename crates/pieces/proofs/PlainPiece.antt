@@ -107,7 +107,7 @@ module _ {s : Settings} {m : List ℕ} {end : ℕ} (x : Plain s m end) where
         → Promised (pieced m t buffer answer (terminal r cells′ layer′ shown′) p)
     unfolding itemBytes countAfter takenBy lined withSettings
     plain-served z answer r f g =
-        served-with t (piece m) only t front refl refl small quiet buffer b l p w z (s .count) (as-quiet z) (ap (λ (v : List ℕ). gathered v m) nothing ∙ cut)
+        served-with t (piece m) only t front refl refl small quiet buffer b l p w refl z (s .count) (as-quiet z) (ap (λ (v : List ℕ). gathered v m) nothing ∙ cut)
         answer (terminal r cells′ layer′ shown′) (f ∙ ap (λ (n : ℕ). taking (length m) (further n b)) start-is)
         ((λ i. state (g i) cells′ layer′) ∙ (λ i. lined (waits i) (s .count + length m) (state s′ cells′ layer′))) refl
 
@@ -117,7 +117,7 @@ module _ {s : Settings} {m : List ℕ} {end : ℕ} (x : Plain s m end) where
     none-left z =
         let q : Request = request (message front) (length buffer) in
         let ok : accepted t q ≡ true = accepted-number t q (sym (ap (λ (x : Answer). x .number) (w .answer-is) ∙ answer-number t q) ∙ z) in
-        let e = w .settings-are ∙ ap (λ (x : State). x .settings) (leaves-lined t (message front) (length buffer) ok) in
+        let e = w .settings-are ∙ ap (λ (x : State). x .settings) (leaves-lined t (message front) (length buffer) ok refl) in
         (ap (λ (x : Settings). x .waiting) e, ap (λ (x : Settings). x .held) e)
 
     -- where all of it is whole, only the count is another

@@ -1,11 +1,12 @@
 -- What opening and playing a recording leave, beside the lines that they print: what the calls promise, and the sum of the printer bytes.
 use mathlib.Core.Path.{_≡_}
 use Prim.Native.Nat.{ℕ}
-use mathlib.Core.List.{List}
+use mathlib.Core.List.{List, []}
 use lib.ListN.{length}
 use Rattle.model.specs.declared.Answer.{Answer}
 use Rattle.model.specs.declared.Outcome.{Outcome}
-use Rattle.model.specs.Calls.{Asked, Call, Promised, Terminal, answerOf, printedBy, request}
+use Rattle.model.specs.declared.Settings.{Settings}
+use Rattle.model.specs.Calls.{Asked, Call, KeyPromised, Promised, Terminal, answerOf, keyText, printedBy, request, terminal}
 use Rattle.model.specs.Opening.{OpeningPromised, firstPart, openingNumber, unopened}
 use Rattle.report.specs.Adler.{adlerFrom}
 use Rattle.recording.specs.declared.Played.{Played}
@@ -23,6 +24,11 @@ callOf asked given buffer answer left printer = record { asked = asked; given = 
 pub record Plays (asked : Asked) (t : Terminal) (buffer : List ℕ) (sum sum′ : ℕ) (t′ : Terminal) (printer : List ℕ) : Type 0 where
   pub plays : Promised (callOf asked t buffer (answerOf t (request asked (length buffer))) t′ printer)
   pub sum-is : sum′ ≡ adlerFrom sum (printedBy t (request asked (length buffer)))
+
+-- a key call, which is lent no store and prints nothing: what it promises, whatever the stores
+pub record KeyPlayed (key : ℕ) (text : List ℕ) (s s′ : Settings) (sum sum′ : ℕ) : Type 0 where
+  pub plays : KeyPromised key text s (answerOf (terminal s [] [] []) (request (keyText key text) 0)) s′
+  pub sum-is : sum′ ≡ sum
 
 -- what is handed on of a call that left its printer buffer so: its settings, and the sum with its printer bytes
 pub record Told (sum : ℕ) (out : Outcome) (printer : List ℕ) (r : Played) : Type 0 where

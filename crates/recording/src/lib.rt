@@ -4,7 +4,7 @@ ghost use mathlib.Core.Path.{_≡_};
 ghost use mathlib.Core.List.{[]};
 ghost use Prim.Native.Nat.{_+_, _*_};
 ghost use Rattle.model.specs.Calls.{Asked, terminal};
-ghost use Rattle.recording.specs.Playing.{Opens, Plays, Told};
+ghost use Rattle.recording.specs.Playing.{KeyPlayed, Opens, Plays, Told};
 use libc::STDIN_FILENO;
 use model::Answer;
 use model::Outcome;
@@ -115,6 +115,23 @@ pub fn play_closing(
     let outcome = board::px8_closing(before, cells, layer, shown);
     let none = [0u8; 0];
     told(number, played.printer, outcome, &none)
+}
+
+// A key call, and its line: `K answer A`. It is lent no store, and prints nothing.
+pub fn play_key(number: u64, played: Played, key: u8, text: &[u8]) -> Played
+    ensures { λ r. ⌜ KeyPlayed key (now (text .entry)) (played .settings) (r .settings) (played .printer) (r .printer) ⌝ }
+{
+    let before = played.settings;
+    let outcome = terminal::key(before, key as usize, text);
+    let settings = outcome.settings;
+    let answer = outcome.answer;
+    report::say_number(b"", number);
+    report::say_byte(b" answer ", answer.number);
+    report::say(b"\n");
+    Played {
+        settings,
+        printer: played.printer,
+    }
 }
 
 // The line of a call; what it left, and the sum over its printer bytes, is handed on.

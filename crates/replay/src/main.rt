@@ -1,5 +1,5 @@
 // Plays a recording of calls from standard input, from an opening: a line a record, then what stands. Kind 1 is a message, 2 a piece of a
-// stream, 3 its closing.
+// stream, 3 its closing, 4 a key text: the key's number, then the text.
 ghost use Prim.Native.Nat.{_≤_};
 use model::CELLS;
 use model::COPY;
@@ -45,7 +45,7 @@ fn main() {
     report::say_standing(settings, &cells, &layer, &shown, played.printer);
 }
 
-// The call that a record asks for. Other kinds than these three never come here.
+// The call that a record asks for. Other kinds than these four never come here, nor a key text without its number.
 fn play(
     number: u64,
     kind: u16,
@@ -59,8 +59,17 @@ fn play(
     match kind {
         2 => recording::play_piece(number, played, body, cells, layer, shown, printer),
         3 => recording::play_closing(number, played, cells, layer, shown),
+        4 => play_key(number, played, body),
         _ => recording::play_message(number, played, body, cells, layer, shown, printer),
     }
+}
+
+// A key text: its first byte is the key's number.
+fn play_key(number: u64, played: Played, body: &[u8]) -> Played {
+    if body.len() == 0 {
+        return played;
+    }
+    recording::play_key(number, played, body[0], &body[1..])
 }
 
 // The next record, or the recording's end: after its last byte, or at a record that is cut, passes the limit or asks for no call.
@@ -83,11 +92,12 @@ fn next_call(number: u64, left: usize, body: &mut [u8]) -> Next
     }
 }
 
-// Whether a record of this kind and length of body is a call: a closing has no body.
+// Whether a record of this kind and length of body is a call: a closing has no body, a key text a byte at least.
 fn asks(kind: u16, length: u16) -> bool {
     match kind {
         1 | 2 => true,
         3 => length == 0,
+        4 => length >= 1,
         _ => false,
     }
 }

@@ -22,6 +22,7 @@ pub fn say_standing(
     let places = settings.places;
     let keys = settings.keys;
     let patterns = settings.patterns;
+    let texts = settings.texts;
     say_screens(settings);
     say_place(b"screen 1", places[0]);
     say_place(b"screen 2", places[1]);
@@ -33,6 +34,7 @@ pub fn say_standing(
     say_number(b" layer ", adler32(1, layer) as u64);
     say_number(b" patterns ", patterns_sum(&patterns) as u64);
     say_number(b" printer ", printer as u64);
+    say_number(b" texts ", texts_sum(&texts) as u64);
     say(b"\n");
     say_rows(shown);
 }
@@ -41,6 +43,12 @@ fn patterns_sum(patterns: &[u8; 248]) -> u32
     ensures { λ r. ⌜ r ≡ adler32 (now (patterns .entry)) ⌝ }
 {
     adler32(1, patterns)
+}
+
+fn texts_sum(texts: &[u8; 80]) -> u32
+    ensures { λ r. ⌜ r ≡ adler32 (now (texts .entry)) ⌝ }
+{
+    adler32(1, texts)
 }
 
 // `selected` is told as the screen's number, 1 or 2.

@@ -16,11 +16,11 @@ use Rattle.model.specs.Checks.{member}
 use Rattle.model.specs.Sequences.{codeOf}
 use Rattle.model.specs.State.{State}
 use Rattle.model.specs.OnScreen.{onScreen?, staysOnScreen?}
-use Rattle.model.specs.Rules.{applyItem, blankFrom, cleared, control, emptied, flagged, modeSet, obeyed, onLines, placed, withKeys, withKindPatterns, withLayer, withSettings}
+use Rattle.model.specs.Rules.{applyItem, blankFrom, cleared, control, emptied, flagged, keyLine, modeSet, obeyed, onLines, placed, withKeys, withKindPatterns, withLayer, withSettings}
 use Rattle.model.proofs.Item.{the-type as item-type}
 use Rattle.model.proofs.Sequence.{the-type}
 use Rattle.model.proofs.Cases.{none-passes}
-use Rattle.model.proofs.Tests.{differ, or-false}
+use Rattle.model.proofs.Tests.{cond-at, differ, or-false}
 use Rattle.serving.specs.Acting.{bareThen, emptying}
 
 -- the variants, by their position, that `bare_then` leaves to its last arm
@@ -48,7 +48,7 @@ empty = replicate 1280 0
 -- selected screen, under a frame that says so
 left : (q : Seq) (b : Bool) (m : ℕ → ℕ) (st : State) → bareThen (Sequence q) b ≡ true → (b ≡ true → (onScreen? q ≡ false → st .layer ≡ empty) × (onScreen? q ≡ true → obeyed m q st .layer ≡ empty))
     → obeyed m q st .layer ≡ empty
-unfolding onScreen? member obeyed cleared placed onLines blankFrom emptied withLayer modeSet flagged withKeys withKindPatterns withSettings
+unfolding onScreen? member obeyed cleared placed onLines blankFrom emptied withLayer modeSet flagged keyLine withKeys withKindPatterns withSettings
 left (PrintCode a) bare m st z y = y z .1 refl
 left Clear bare m st z y = refl
 left CursorOff bare m st z y = y z .0 refl
@@ -81,7 +81,7 @@ left (Mode1 a) bare m st z y = refl
 left (Mode2 a b c) bare m st z y = refl
 left (Select a) bare m st z y = refl
 left (Mark a b c) bare m st z y = absurd (differ (sym z))
-left (Display a) bare m st z y = y z .0 refl
+left (Display a) bare m st z y = cond-at (λ (r : State). r .layer ≡ empty) (eqb a (st .settings .display)) st _ (λ e. y z .0 refl) (λ e. refl)
 left WindowTop bare m st z y = y z .1 refl
 left WindowBottom bare m st z y = y z .1 refl
 left (CursorKind a) bare m st z y = y z .0 refl

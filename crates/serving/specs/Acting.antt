@@ -55,7 +55,7 @@ abbrev pub emptying : List ℕ
 emptying = 42 ∷ 84 ∷ 89 ∷ 144 ∷ 145 ∷ 208 ∷ 209 ∷ []
 
 -- whether the layer is known to be empty after an item, by whether it was before: those empty it, code 12 does as 42, and 210 "marks the layer". A
--- lift, and a top that moves, empty it too, and nothing is known of that
+-- lift, a top that moves and another key display empty it too, and nothing is known of that
 abbrev pub bareThen : Item → Bool → Bool
 bareThen (Printed b) bare = bare
 bareThen (Control c) bare = eqb c 12 || bare

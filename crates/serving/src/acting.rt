@@ -88,7 +88,8 @@ pub(crate) fn bare_after(item: Item, bare: bool) -> bool
     }
 }
 
-// The same of a sequence: 210 marks the layer, these others "empty the whole layer".
+// The same of a sequence: 210 marks the layer, these others "empty the whole layer". So does a 211 that changes the key display, of which nothing
+// is known here.
 fn bare_then(q: Sequence, bare: bool) -> bool
     ensures { λ r. ⌜ r ≡ bareThen (Item.Sequence q) bare ⌝ }
 {

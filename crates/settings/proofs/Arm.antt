@@ -1,4 +1,4 @@
--- An arm that has one sequence, k: what stands is what the rules make of it, and they leave the patterns.
+-- An arm that has one sequence, k: what stands is what the rules make of it, and they leave patterns and key texts.
 use mathlib.Core.Path.{_≡_, _∙_, ap, sym}
 use Prim.Native.Nat.{ℕ}
 use mathlib.Core.Bool.{false}
@@ -12,10 +12,13 @@ use Rattle.model.specs.Sequences.{codeOf}
 use Rattle.model.proofs.Tests.{differ}
 use Rattle.settings.specs.Obey.{Obeyed, Setting, more, settled}
 
+abbrev Stayed : Settings → Settings → Type 0
+Stayed s r = (r .patterns ≡ s .patterns) × (r .texts ≡ s .texts)
+
 -- in `obey`, where it is not 224
-pub arm : {s r : Settings} {q k : Seq} {cells layer cells′ layer′ : List ℕ} → q ≡ k → ((m : List ℕ) → state r cells′ layer′ ≡ settled m k (state s cells layer)) → settled [] k (state s cells layer) .settings .patterns ≡ s .patterns → eqb (codeOf k) 224 ≡ false → Obeyed s q r cells layer cells′ layer′
-arm is stands kept other = record { does = λ e m. rw is (stands m); left = λ e. absurd (differ (sym e ∙ ap (λ (j : Seq). eqb (codeOf j) 224) is ∙ other)); keeps = ap (λ (st : State). st .settings .patterns) (stands []) ∙ kept }
+pub arm : {s r : Settings} {q k : Seq} {cells layer cells′ layer′ : List ℕ} → q ≡ k → ((m : List ℕ) → state r cells′ layer′ ≡ settled m k (state s cells layer)) → Stayed s (settled [] k (state s cells layer) .settings) → eqb (codeOf k) 224 ≡ false → Obeyed s q r cells layer cells′ layer′
+arm is stands kept other = record { does = λ e m. rw is (stands m); left = λ e. absurd (differ (sym e ∙ ap (λ (j : Seq). eqb (codeOf j) 224) is ∙ other)); keeps = (ap (λ (st : State). st .settings .patterns) (stands []) ∙ kept .0, ap (λ (st : State). st .settings .texts) (stands []) ∙ kept .1) }
 
 -- in `set`, where it changes no store
-pub set-arm : {s r : Settings} {q k : Seq} → q ≡ k → ((m cells layer : List ℕ) → state r cells layer ≡ settled m k (state s cells layer)) → settled [] k (state s [] []) .settings .patterns ≡ s .patterns → member (codeOf k) more ≡ false → Setting s q r
-set-arm is stands kept other = record { does = λ e m cells layer. rw is (stands m cells layer); left = λ e. absurd (differ (sym e ∙ ap (λ (j : Seq). member (codeOf j) more) is ∙ other)); keeps = ap (λ (st : State). st .settings .patterns) (stands [] [] []) ∙ kept }
+pub set-arm : {s r : Settings} {q k : Seq} → q ≡ k → ((m cells layer : List ℕ) → state r cells layer ≡ settled m k (state s cells layer)) → Stayed s (settled [] k (state s [] []) .settings) → member (codeOf k) more ≡ false → Setting s q r
+set-arm is stands kept other = record { does = λ e m cells layer. rw is (stands m cells layer); left = λ e. absurd (differ (sym e ∙ ap (λ (j : Seq). member (codeOf j) more) is ∙ other)); keeps = (ap (λ (st : State). st .settings .patterns) (stands [] [] []) ∙ kept .0, ap (λ (st : State). st .settings .texts) (stands [] [] []) ∙ kept .1) }

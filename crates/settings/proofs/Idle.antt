@@ -22,11 +22,11 @@ use Rattle.settings.specs.Obey.{more, settled}
 
 -- the variants, by their position, that `set` leaves to its last arm
 abbrev unset : List ℕ
-unset = 0 ∷ 1 ∷ 4 ∷ 6 ∷ 7 ∷ 8 ∷ 11 ∷ 12 ∷ 15 ∷ 16 ∷ 25 ∷ 26 ∷ 27 ∷ 28 ∷ 29 ∷ 30 ∷ 31 ∷ 33 ∷ 34 ∷ 36 ∷ 37 ∷ 44 ∷ []
+unset = 0 ∷ 1 ∷ 4 ∷ 6 ∷ 7 ∷ 8 ∷ 11 ∷ 12 ∷ 15 ∷ 16 ∷ 25 ∷ 26 ∷ 27 ∷ 28 ∷ 29 ∷ 30 ∷ 31 ∷ 32 ∷ 33 ∷ 34 ∷ 36 ∷ 37 ∷ 44 ∷ []
 
 -- those that `obey` leaves to its own
 abbrev only-set : List ℕ
-only-set = listFrom (λ n. n) 0 27 ++ listFrom (λ n. n) 32 14
+only-set = listFrom (λ n. n) 0 27 ++ listFrom (λ n. n) 33 13
 
 -- those that `is_pattern` and `store_pattern` leave to theirs: all but 224
 abbrev not-224 : List ℕ
@@ -67,7 +67,7 @@ idle (Mode1 a) z o m st = absurd (differ o)
 idle (Mode2 a b c) z o m st = absurd (differ o)
 idle (Select a) z o m st = absurd (differ o)
 idle (Mark a b c) z o m st = absurd (differ o)
-idle (Display a) z o m st = absurd (miss unset 32 tt z)
+idle (Display a) z o m st = absurd (differ o)
 idle WindowTop z o m st = refl
 idle WindowBottom z o m st = refl
 idle (CursorKind a) z o m st = absurd (miss unset 35 tt z)
@@ -85,7 +85,7 @@ idle (Shift a) z o m st = absurd (miss unset 45 tt z)
 -- what `obey` leaves to `set` changes no store
 pub storeless : (q : Seq) → OneOf only-set (tagOf the-type q) → eqb (codeOf q) 224 ≡ false → member (codeOf q) more ≡ false
 unfolding member
-storeless q z e = rw e (none-passes (λ c. member c (208 ∷ 209 ∷ 210 ∷ [])) only-set q refl z)
+storeless q z e = rw e (none-passes (λ c. member c (208 ∷ 209 ∷ 210 ∷ 211 ∷ [])) only-set q refl z)
 
 -- what `is_pattern` and `store_pattern` leave to their last arms is not 224
 pub no-pattern : (q : Seq) → OneOf not-224 (tagOf the-type q) → eqb (codeOf q) 224 ≡ false

@@ -1,4 +1,5 @@
 pub mod Arm
+pub mod Displays
 pub mod Idle
 pub mod Parts
 pub mod Rows

@@ -33,12 +33,12 @@ pub record Obeyed (s : Settings) (q : Seq) (r : Settings) (cells layer cells′ 
   pub does : eqb (codeOf q) 224 ≡ false → (m : List ℕ) → state r cells′ layer′ ≡ settled m q (state s cells layer)
   -- 224 changes nothing here
   pub left : eqb (codeOf q) 224 ≡ true → state r cells′ layer′ ≡ state s cells layer
-  -- the patterns are 224's alone
-  pub keeps : r .patterns ≡ s .patterns
+  -- the patterns are 224's alone, the key texts the key call's
+  pub keeps : (r .patterns ≡ s .patterns) × (r .texts ≡ s .texts)
 
 -- the second bytes of those that do more than set something: the patterns are 224's, a store is changed by the others
 abbrev pub more : List ℕ
-more = 224 ∷ 208 ∷ 209 ∷ 210 ∷ []
+more = 224 ∷ 208 ∷ 209 ∷ 210 ∷ 211 ∷ []
 
 -- what `set` leaves of settings s: settings r
 pub record Setting (s : Settings) (q : Seq) (r : Settings) : Type 0 where
@@ -46,7 +46,7 @@ pub record Setting (s : Settings) (q : Seq) (r : Settings) : Type 0 where
   pub does : member (codeOf q) more ≡ false → (m cells layer : List ℕ) → state r cells layer ≡ settled m q (state s cells layer)
   -- these change nothing here
   pub left : member (codeOf q) more ≡ true → r ≡ s
-  pub keeps : r .patterns ≡ s .patterns
+  pub keeps : (r .patterns ≡ s .patterns) × (r .texts ≡ s .texts)
 
 -- for 224: sound settings, its code in its range, and the eight rows of the pattern in the message
 pub record PatternAsked (s : Settings) (q : Seq) (m : List ℕ) : Type 0 where

@@ -2,7 +2,7 @@
 ghost use mathlib.Core.Path.{_≡_};
 ghost use Prim.Native.Nat.{_-_, _≤_};
 ghost use lib.ListN.{length, replicate};
-ghost use Rattle.model.specs.State.{withFlags, withDisplay, withStored};
+ghost use Rattle.model.specs.State.{withFlags, withStored};
 use model::Settings;
 
 // 209: "select by 0 or 1"; it "empties the whole layer".
@@ -49,15 +49,6 @@ pub fn cursor(settings: Settings, on: u8) -> Settings
 {
     let mut s = settings;
     s.cursor = on;
-    s
-}
-
-// 211: "0 or 1, stored only".
-pub fn display(settings: Settings, on: u8) -> Settings
-    ensures { λ r. ⌜ r ≡ withDisplay settings on ⌝ }
-{
-    let mut s = settings;
-    s.display = on;
     s
 }
 

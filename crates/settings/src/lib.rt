@@ -1,6 +1,7 @@
-// Document 01, "What the sequences do": those that change the settings. 208 changes the cells and the layer too, 209 and 210
+// Document 01, "What the sequences do": those that change the settings. 208 changes the cells and the layer too, 209 to 211
 // the layer. The others act inside the selected screen, on its cells, cursor and window, and are crate screen's.
-// 224 alone changes the patterns, and has its own function: a caller need not move their 248 bytes at the others.
+// 224 alone changes the patterns, and has its own function: a caller need not move their 248 bytes at the others. None changes the key texts.
+mod display;
 mod flags;
 mod keys;
 mod layer;
@@ -17,7 +18,7 @@ ghost use Rattle.settings.specs.Obey.{Obeying, Obeyed, PatternAsked, Pat
 use model::Sequence;
 use model::Settings;
 
-// Does what an accepted sequence says, unless it is 224, and leaves the patterns. 208 changes all stores, 209 and 210 the layer.
+// Does what an accepted sequence says, unless it is 224, and leaves patterns and key texts. 208 changes all stores, 209 to 211 the layer.
 pub fn obey(settings: Settings, q: Sequence, cells: &mut [u8], layer: &mut [u8]) -> Settings
     requires { ⌜ Obeying settings q (now cells) (now layer) ⌝ }
     ensures { λ r. ⌜ Obeyed settings q r (now (cells .entry)) (now (layer .entry)) (now (cells .exit)) (now (layer .exit)) ⌝ }
@@ -32,12 +33,13 @@ pub fn obey(settings: Settings, q: Sequence, cells: &mut [u8], layer: &mut [u8])
         } => modes::mode2(settings, lines, columns, boundary, cells, layer),
         Sequence::Select(n) => flags::select(settings, n, layer),
         Sequence::Mark { row, column, code } => layer::mark(settings, row, column, code, layer),
+        Sequence::Display(n) => display::display(settings, n, layer),
         _ => set(settings, q),
     }
 }
 
 // The sequences that only set something. The last arm is what changes nothing here: the sequences of crate screen, 80 (the copy is made
-// from the picture), 198, 199 and 246, and those that are done elsewhere: 208 to 210 above, 224 by `store_pattern`.
+// from the picture), 198, 199 and 246, and those that are done elsewhere: 208 to 211 above, 224 by `store_pattern`.
 fn set(settings: Settings, q: Sequence) -> Settings
     requires { ⌜ Sound settings ⌝ }
     requires { ⌜ legal? q (limitsOf settings) ≡ true ⌝ }
@@ -59,7 +61,6 @@ fn set(settings: Settings, q: Sequence) -> Settings
         Sequence::NumOff => keys::led(settings, 2, 0),
         Sequence::StringsOff => keys::strings(settings, 0),
         Sequence::StringsOn => keys::strings(settings, 1),
-        Sequence::Display(n) => flags::display(settings, n),
         Sequence::CursorKind(n) => flags::kind(settings, n),
         Sequence::Repeat(n) => keys::repeat(settings, n),
         Sequence::RepeatDelay(n) => keys::delay(settings, n),

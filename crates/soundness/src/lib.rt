@@ -122,7 +122,7 @@ pub fn shaped(settings: Settings) -> bool
 pub fn placed(settings: Settings) -> bool
     ensures { λ r. ⌜ r ≡ (inRanges? (otherRanges (settings .selected) (settings .step) (height settings)) && (inside? settings 0 && inside? settings 1)) ⌝ }
 {
-    let height = tables::height_of(settings.mode);
+    let height = tables::height_of(settings.mode, settings.display);
     let less = height - 1;
     let first = settings.places[0];
     let second = settings.places[1];

@@ -1,5 +1,5 @@
-// The tables of document 01 that more than one crate asks, each written once: which numbers 67 and 247 take, the rows that show text and H
-// by the mode, and the length of a sequence by its second byte.
+// The tables of document 01 that more than one crate asks, each written once: which numbers 67 and 247 take, the rows of text by the key
+// display and H by the mode, and the length of a sequence by its second byte.
 ghost use mathlib.Core.Path.{_≡_};
 ghost use Prim.Native.Nat.{_≤_};
 ghost use Rattle.model.specs.declared.Settings.{Settings};
@@ -29,18 +29,18 @@ pub fn shift(n: u8) -> bool
     }
 }
 
-// The rows of the shown screen that show text, of all settings.
-pub fn text_rows() -> u8
-    ensures { λ r. ⌜ ((s : Settings) → r ≡ textRows s) × (r ≤ 8) ⌝ }
+// The rows of text of the shown screen, of all settings with that key display: "With ESC 211,0 row 8 shows ten key texts" (document 02, P2).
+pub fn text_rows(display: u8) -> u8
+    ensures { λ r. ⌜ ((s : Settings) → s .display ≡ display → r ≡ textRows s) × (r ≤ 8) ⌝ }
 {
-    8
+    if display == 0 { 7 } else { 8 }
 }
 
-// The column "H" of the table of modes, of all settings in that mode.
-pub fn height_of(mode: u8) -> u8
-    ensures { λ r. ⌜ ((s : Settings) → s .mode ≡ mode → r ≡ height s) ⌝ }
+// The column "H" of the table of modes, of all settings in that mode with that key display.
+pub fn height_of(mode: u8, display: u8) -> u8
+    ensures { λ r. ⌜ ((s : Settings) → s .mode ≡ mode → s .display ≡ display → r ≡ height s) ⌝ }
 {
-    let rows = text_rows();
+    let rows = text_rows(display);
     if mode == 1 { 2 * rows } else { rows }
 }
 

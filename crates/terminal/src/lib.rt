@@ -1,13 +1,14 @@
-// The calls of the terminal: opening, message and printer. None asks anything of its caller: bad input is refused by number.
+// The calls of the terminal: opening, message, key and printer. None asks anything of its caller: bad input is refused by number.
 pub mod numbers;
 mod opened;
 
-ghost use Rattle.model.specs.Calls.{Promised, called, terminal};
+ghost use Rattle.model.specs.Calls.{KeyPromised, Promised, called, terminal};
 ghost use Rattle.model.specs.Opening.{OpeningPromised, PartPromised};
 use model::Opened;
 use model::Outcome;
 use model::Settings;
 use numbers::call_number;
+use numbers::key_number;
 use numbers::refusal;
 use numbers::stores_sized;
 use opened::opened_settings;
@@ -49,6 +50,26 @@ pub fn message(
     } else {
         let answer = refusal(number);
         Outcome { settings, answer }
+    }
+}
+
+// Document 02, P2, the key call: another text of a key, "seen from the next message on"; or refused by 3 or 17, and nothing altered. It is lent no
+// store, and promises the same of all stores. The number is as wide as a length: one of 257 is no key.
+pub fn key(settings: Settings, number: usize, text: &[u8]) -> Outcome
+    ensures { λ r. ⌜ KeyPromised number (now (text .entry)) settings (r .answer) (r .settings) ⌝ }
+{
+    let refused = key_number(settings, number, text);
+    let answer = refusal(refused);
+    if refused != 0 {
+        return Outcome { settings, answer };
+    }
+    let mut texts = settings.texts;
+    store::copy_in(&mut texts, (number - 1) * 8, text, 0, 8);
+    let mut s = settings;
+    s.texts = texts;
+    Outcome {
+        settings: s,
+        answer,
     }
 }
 

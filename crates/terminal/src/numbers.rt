@@ -1,6 +1,7 @@
 // The numbers of a whole call, in their order.
 ghost use mathlib.Core.Path.{_≡_};
-ghost use Rattle.model.specs.Calls.{Asked, firstOf, reasons, sized, terminal};
+ghost use mathlib.Core.List.{[]};
+ghost use Rattle.model.specs.Calls.{Asked, firstOf, keyable, reasons, sized, terminal};
 ghost use Rattle.model.specs.Items.{blankAnswer};
 ghost use Rattle.model.specs.Opening.{unopened};
 use model::Answer;
@@ -56,7 +57,25 @@ pub(crate) fn call_number(
     }
 }
 
-// "zero counts, its number"
+// 17: "a key number outside 1 to 10 or a text not of 8 bytes"; here, that it is neither
+fn keyable(number: usize, text: &[u8]) -> bool
+    ensures { λ r. ⌜ r ≡ keyable number (now (text .entry)) ⌝ }
+{
+    (1 <= number) & ((number <= 10) & (text.len() == 8))
+}
+
+// "17, after 3": the number of a key call, whatever the stores
+pub(crate) fn key_number(settings: Settings, number: usize, text: &[u8]) -> u8
+    ensures { λ r. ⌜ r ≡ firstOf (reasons (terminal settings [] [] []) (Asked.keyText number (now (text .entry)))) ⌝ }
+{
+    if soundness::sound(settings) {
+        if keyable(number, text) { 0 } else { 17 }
+    } else {
+        3
+    }
+}
+
+// "zero counts, its number"; of a key call that is served too
 pub fn refusal(number: u8) -> Answer
     ensures { λ r. ⌜ r ≡ blankAnswer number 0 ⌝ }
 {

@@ -45,5 +45,6 @@ pub(crate) fn opened_settings() -> Settings
         waiting: [0u8; 12],
         held: 0,
         count: 0,
+        texts: [32u8; 80],
     }
 }

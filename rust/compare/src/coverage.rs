@@ -5,11 +5,13 @@
 mod before;
 mod ends;
 mod items;
+mod keyline;
 mod list;
 mod parameters;
 mod streams;
 
 use self::before::Before;
+use self::keyline::KeyLine;
 use self::list::{CLASSES, JUDGED};
 use self::parameters::Parameters;
 use self::streams::Streams;
@@ -34,6 +36,7 @@ pub struct Coverage {
     ends: BTreeMap<(&'static str, u8, usize), u64>,
     parameters: Parameters,
     streams: Streams,
+    key_line: KeyLine,
     cells: Vec<u8>,
     layer: Vec<u8>,
 }
@@ -134,6 +137,8 @@ impl Coverage {
             }
             Kind::Piece => self.count_sizes("piece", call.sizes),
             Kind::Closing => self.count_sizes("closing", call.sizes),
+            // it reads nothing
+            Kind::KeyText(number) => return self.key_line.key_text(number, call, settings, answer),
         }
         if answer.number == 0 {
             self.refusals(answer);
@@ -233,6 +238,7 @@ impl Coverage {
         if call.kind == Kind::Piece {
             self.streams.waits(&bytes[offset..], offset, settings);
         }
+        self.key_line.painted(&standing);
         self.parameters.several(&refusals);
         self.cells = cells;
         self.layer = layer;
@@ -275,6 +281,7 @@ impl Coverage {
         }
         lines.extend(self.parameters.lines());
         lines.extend(self.streams.lines());
+        lines.extend(self.key_line.lines());
         lines.extend(self.unsound.iter().map(|(name, &count)| (format!("unsound: {name}"), count)));
         lines.extend(self.sizes.iter().map(|(name, &count)| (format!("size: {name}"), count)));
         lines

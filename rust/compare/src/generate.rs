@@ -4,7 +4,9 @@
 //! - `messages`: messages, part by part
 //! - `sequences`: single sequences, with parameters in their ranges or not
 //! - `streams`: pieces of a line, and what waits
+//! - `keyline`: key texts
 
+mod keyline;
 mod messages;
 pub mod sequences;
 mod settings;
@@ -25,10 +27,12 @@ pub enum Kind {
     Message,
     Piece,
     Closing,
+    /// with the key's number
+    KeyText(usize),
 }
 
 /// A call: settings of its own if it breaks some, sizes of its stores, the
-/// message or the piece, and the printer room.
+/// message, the piece or the text, and the printer room.
 pub struct Call {
     pub kind: Kind,
     pub settings: Option<(&'static str, Settings)>,
@@ -39,17 +43,20 @@ pub struct Call {
 
 /// `line` is what is still to come of the stream; a piece is its first part.
 pub fn call(random: &mut Random, settings: &Settings, line: &mut Vec<u8>) -> Call {
-    let kind = streams::kind(random, settings);
+    let kind = if random.one_in(10) { keyline::kind(random) } else { streams::kind(random, settings) };
     let message = match kind {
         Kind::Message => message(random, settings),
         Kind::Piece => streams::piece(random, settings, line),
         Kind::Closing => Vec::new(),
+        Kind::KeyText(_) => keyline::text(random),
     };
     // a message that is too long is more often refused for more than that
     let (often_broken, often_sized) = if message.len() > 4096 { (3, 4) } else { (12, 25) };
     let broken = random.one_in(often_broken).then(|| unsound(random, settings));
-    let sizes = if random.one_in(often_sized) { wrong_sizes(random) } else { SIZES };
-    let room = if kind == Kind::Closing { 0 } else { room(random) };
+    // a key text has no store
+    let stores = !matches!(kind, Kind::KeyText(_));
+    let sizes = if stores && random.one_in(often_sized) { wrong_sizes(random) } else { SIZES };
+    let room = if matches!(kind, Kind::Message | Kind::Piece) { room(random) } else { 0 };
     Call { kind, settings: broken, sizes, message, room }
 }
 

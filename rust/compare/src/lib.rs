@@ -62,6 +62,8 @@ pub trait Terminal {
         shown: &mut [u8],
     ) -> (Settings, Answer);
 
+    fn key_text(&mut self, settings: Settings, number: usize, text: &[u8]) -> (Settings, Answer);
+
     fn printed<'a>(&mut self, buffer: &'a [u8], count: usize) -> &'a [u8];
 }
 
@@ -73,6 +75,7 @@ pub struct Functions {
     pub message: MessageCall,
     pub piece: MessageCall,
     pub closing: ClosingCall,
+    pub key_text: KeyTextCall,
     pub printed: for<'a> fn(&'a [u8], usize) -> &'a [u8],
 }
 
@@ -80,6 +83,7 @@ pub type OpeningCall = fn(&mut [u8], &mut [u8], &mut [u8]) -> (Settings, u8);
 pub type MessageCall = fn(Settings, &[u8], &mut [u8], &mut [u8], &mut [u8], &mut [u8]) -> (Settings, Answer);
 
 pub type ClosingCall = fn(Settings, &mut [u8], &mut [u8], &mut [u8]) -> (Settings, Answer);
+pub type KeyTextCall = fn(Settings, usize, &[u8]) -> (Settings, Answer);
 
 pub const REFERENCE: Functions = Functions {
     name: "reference",
@@ -87,6 +91,7 @@ pub const REFERENCE: Functions = Functions {
     message: reference::message,
     piece: reference::piece,
     closing: reference::closing,
+    key_text: reference::key_text,
     printed: reference::printed,
 };
 
@@ -96,6 +101,7 @@ pub const TUNED: Functions = Functions {
     message: tuned::message,
     piece: tuned::piece,
     closing: tuned::closing,
+    key_text: tuned::key_text,
     printed: tuned::printed,
 };
 
@@ -142,6 +148,10 @@ impl Terminal for Functions {
         shown: &mut [u8],
     ) -> (Settings, Answer) {
         (self.closing)(settings, cells, layer, shown)
+    }
+
+    fn key_text(&mut self, settings: Settings, number: usize, text: &[u8]) -> (Settings, Answer) {
+        (self.key_text)(settings, number, text)
     }
 
     fn printed<'a>(&mut self, buffer: &'a [u8], count: usize) -> &'a [u8] {

@@ -87,6 +87,10 @@ impl Terminal for Guarded {
         guarded(settings, || self.0.closing(settings, cells, layer, shown))
     }
 
+    fn key_text(&mut self, settings: Settings, number: usize, text: &[u8]) -> (Settings, Answer) {
+        guarded(settings, || self.0.key_text(settings, number, text))
+    }
+
     fn printed<'a>(&mut self, buffer: &'a [u8], count: usize) -> &'a [u8] {
         self.0.printed(buffer, count)
     }

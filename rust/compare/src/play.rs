@@ -153,7 +153,7 @@ impl Game<'_> {
         Ok(())
     }
 
-    /// A message, a piece or a closing.
+    /// A message, a piece, a closing or a key text.
     fn one_call(&mut self) -> Found {
         let call = generate::call(&mut self.random, &self.sides[0].settings, &mut self.line);
         self.calls += 1;
@@ -209,7 +209,7 @@ impl Game<'_> {
             self.sides[0].settings = after;
             self.sides[1].settings = after;
             match call.kind {
-                Kind::Message => {}
+                Kind::Message | Kind::KeyText(_) => {}
                 Kind::Piece => drop(self.line.drain(..call.message.len())),
                 Kind::Closing => self.line.clear(),
             }
@@ -254,6 +254,7 @@ fn made(
         Kind::Message => terminal.message(settings, &call.message, cells, layer, shown, printer),
         Kind::Piece => terminal.piece(settings, &call.message, cells, layer, shown, printer),
         Kind::Closing => terminal.closing(settings, cells, layer, shown),
+        Kind::KeyText(number) => terminal.key_text(settings, number, &call.message),
     }
 }
 

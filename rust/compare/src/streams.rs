@@ -16,7 +16,7 @@ pub const CLASSES: &[&str] = &[
     "empty stream", "no piece at all", "one piece", "several pieces", "pieces of one byte", "an empty piece",
     "a piece ends inside a sequence", "a piece ends after 27, 209", "closed on 27, 209", "closed by 12",
     "longer than a message", "a refusal", "a refusal in a later piece", "copies in several pieces", "scarce room and a refusal: nothing said",
-    "refused between: 1", "refused between: 2", "refused between: 3", "refused between: 16",
+    "refused between: 1", "refused between: 2", "refused between: 3", "refused between: 16", "refused between: 17",
 ];
 
 /// What stands, and what came of all calls together.
@@ -156,7 +156,7 @@ impl Stream<'_> {
         let before = self.run.clone();
         let Run { settings, stores: [cells, layer, shown], .. } = &mut self.run;
         let (terminal, unsound) = (&mut *self.terminal, Settings { step: 0, ..*settings });
-        let (given, (after, answer), class) = match random.below(4) {
+        let (given, (after, answer), class) = match random.below(5) {
             0 => {
                 (*settings, terminal.closing(*settings, &mut cells[1..], layer, shown), "refused between: 1")
             }
@@ -170,6 +170,7 @@ impl Stream<'_> {
                 terminal.message(unsound, &[65], cells, layer, shown, &mut []),
                 "refused between: 3",
             ),
+            3 => (*settings, terminal.key_text(*settings, 0, &[65; 8]), "refused between: 17"),
             _ if settings.held == 0 => return Ok(()),
             _ => (
                 *settings,

@@ -12,17 +12,20 @@
 //! - kind 1: a message call with the body as the message and a printer buffer
 //!   of just that room.
 //! - kind 3: a piece call, as a message call. Kind 4: a closing call, with an
-//!   empty body. `vectors --every N` leaves out the cases that have these.
+//!   empty body. Kind 5: a key text call; the body is the key's number, eight
+//!   bytes, little-endian, and the text. `vectors --every N` leaves out the
+//!   cases that have these.
 //!
 //! The text (`vectors`) has for each case, in order:
 //! - a line `case NAME`,
 //! - a line `K answer A taken T accepted C refused R first F at O printed P
-//!   parameter N` for each call, K from 1,
+//!   parameter N` for each call, K from 1; for a key text only `K answer A`,
 //! - what stands after the last call: the settings' seven lines, the line of
 //!   sums (Adler-32; printer: over the printer bytes of all calls of the
 //!   case) and the eight rows, as `replay` prints them.
 
 mod examples;
+mod keyline;
 mod layer;
 mod parameters;
 mod ranges;
@@ -32,13 +35,14 @@ mod streams;
 
 use crate::generate::Kind;
 use crate::{Terminal, REFERENCE};
-use reference::text::{numbered_answer, record, Session, MESSAGE, REPLAY_ROOM};
+use reference::text::{key_answer, numbered_answer, record, Session, MESSAGE, REPLAY_ROOM};
 use reference::Answer;
 
 pub const NEW_CASE: u16 = 0;
 pub const PRINTER_ROOM: u16 = 2;
 pub const PIECE: u16 = 3;
 pub const CLOSING: u16 = 4;
+pub const KEY_TEXT: u16 = 5;
 
 pub struct Case {
     pub name: String,
@@ -47,9 +51,9 @@ pub struct Case {
 }
 
 impl Case {
-    /// Whether it has pieces or closings.
-    pub fn streams(&self) -> bool {
-        self.calls.iter().any(|(kind, ..)| *kind != Kind::Message)
+    /// Whether all its calls are messages.
+    pub fn messages_alone(&self) -> bool {
+        self.calls.iter().all(|(kind, ..)| *kind == Kind::Message)
     }
 }
 
@@ -94,6 +98,7 @@ pub fn cases() -> Vec<Case> {
     scenes::what_else_shows(&mut cases);
     parameters::cases(&mut cases);
     streams::cases(&mut cases);
+    keyline::cases(&mut cases);
     cases.0
 }
 
@@ -109,12 +114,15 @@ pub fn recording(cases: &[Case]) -> Vec<u8> {
                 put(&mut bytes, PRINTER_ROOM, &(*room as u32).to_le_bytes());
                 standing = *room;
             }
-            let kind = match kind {
-                Kind::Message => MESSAGE,
-                Kind::Piece => PIECE,
-                Kind::Closing => CLOSING,
-            };
-            put(&mut bytes, kind, message);
+            match kind {
+                Kind::Message => put(&mut bytes, MESSAGE, message),
+                Kind::Piece => put(&mut bytes, PIECE, message),
+                Kind::Closing => put(&mut bytes, CLOSING, message),
+                Kind::KeyText(key) => {
+                    let number = (*key as u64).to_le_bytes();
+                    put(&mut bytes, KEY_TEXT, &[&number, &message[..]].concat());
+                }
+            }
         }
     }
     bytes
@@ -146,6 +154,13 @@ pub fn play_on(terminal: &mut dyn Terminal, recording: &[u8]) -> Option<String> 
                 (session, room, number) = (Some(open_on(terminal)), REPLAY_ROOM, 0);
             }
             PRINTER_ROOM => room = u32::from_le_bytes(body.try_into().ok()?) as usize,
+            KEY_TEXT => {
+                number += 1;
+                let (key, words) = body.split_first_chunk()?;
+                let kind = Kind::KeyText(u64::from_le_bytes(*key) as usize);
+                let answer = call_on(terminal, session.as_mut()?, kind, words, room);
+                text += &key_answer(number, &answer);
+            }
             _ => {
                 let kind = match kind {
                     MESSAGE => Kind::Message,
@@ -186,6 +201,7 @@ fn call_on(
         Kind::Message => terminal.message(*settings, bytes, cells, layer, shown, &mut printer),
         Kind::Piece => terminal.piece(*settings, bytes, cells, layer, shown, &mut printer),
         Kind::Closing => terminal.closing(*settings, cells, layer, shown),
+        Kind::KeyText(number) => terminal.key_text(*settings, number, bytes),
     };
     *settings = after;
     printed.extend_from_slice(terminal.printed(&printer, answer.printed));

@@ -93,6 +93,7 @@ fn play_one(terminal: &Functions, side: &mut Side, call: &(Kind, usize, Vec<u8>)
         Kind::Message => (terminal.message)(*settings, bytes, cells, layer, shown, &mut printer),
         Kind::Piece => (terminal.piece)(*settings, bytes, cells, layer, shown, &mut printer),
         Kind::Closing => (terminal.closing)(*settings, cells, layer, shown),
+        Kind::KeyText(number) => (terminal.key_text)(*settings, *number, bytes),
     };
     *settings = after;
     (answer, printer)

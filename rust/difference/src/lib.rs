@@ -61,6 +61,11 @@ impl Terminal for Board {
         (settings_from_board(&after), answer_from_board(&answer))
     }
 
+    fn key_text(&mut self, settings: Settings, number: usize, text: &[u8]) -> (Settings, Answer) {
+        let (after, answer) = px8::key_text(settings_to_board(&settings), number, text);
+        (settings_from_board(&after), answer_from_board(&answer))
+    }
+
     fn printed<'a>(&mut self, buffer: &'a [u8], count: usize) -> &'a [u8] {
         px8::printed(buffer, count)
     }
@@ -142,6 +147,7 @@ pub fn settings_to_board(s: &Settings) -> px8::Settings {
         waiting: s.waiting,
         held: s.held,
         count: s.count,
+        texts: s.texts,
     }
 }
 
@@ -177,6 +183,7 @@ pub fn settings_from_board(s: &px8::Settings) -> Settings {
         waiting: s.waiting,
         held: s.held,
         count: s.count,
+        texts: s.texts,
     }
 }
 

@@ -1,6 +1,6 @@
 //! `difference [--calls N] [--seed S] [--list L]`: the proved library
-//! against the reference on random lists of calls, pieces and closings among
-//! them; with `--streams` its closed streams against the reference's uncut
+//! against the reference on random lists of calls, pieces, closings and key
+//! texts among them; with `--streams` its closed streams against the reference's uncut
 //! reading, with `--screens` on pairs of screens, with `--traces` on traces of
 //! keys.
 //! `difference --vectors`: the same on the named cases.

@@ -51,6 +51,9 @@ fn settings_are_carried_over_whole() {
     settings.keys.arrows = [1, 2, 3, 4, 5, 6, 7, 8, 9, 10, 11, 12];
     settings.waiting = [21, 22, 23, 24, 25, 26, 27, 28, 29, 30, 31, 32];
     (settings.held, settings.count) = (33, 0x0102_0304);
+    for (at, byte) in settings.texts.iter_mut().enumerate() {
+        *byte = 100 + at as u8;
+    }
     let board = settings_to_board(&settings);
     assert_eq!(settings_from_board(&board), settings);
     assert_eq!(format!("{board:?}"), format!("{settings:?}"));

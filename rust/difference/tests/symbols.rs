@@ -34,6 +34,7 @@ fn the_calls_are_exported() {
         "px8_compare",
         "px8_first_difference",
         "px8_key_repeats",
+        "px8_key_text",
         "px8_message",
         "px8_opening",
         "px8_piece",

@@ -64,6 +64,8 @@ extern "C" {
         shown_length: usize,
     ) -> Outcome;
 
+    fn px8_key_text(settings: Settings, number: usize, text: *const u8, text_length: usize) -> Outcome;
+
     fn px8_printed(buffer: *const u8, length: usize, count: usize) -> usize;
 
     fn px8_key_repeats(
@@ -226,6 +228,27 @@ pub fn closing(
     (outcome.settings, outcome.answer)
 }
 
+/// The key text call: key `number`, 1 to 10, gets this text of eight codes.
+/// Nothing is painted: with the key line (27, 211, 0) the next message, piece or
+/// closing shows it. Refused by 3, then by 17.
+///
+/// ```
+/// let settings = *px8::Terminal::open().settings();
+/// let (after, answer) = px8::key_text(settings, 10, b"   TALLY");
+/// assert_eq!((answer.number, &after.texts[72..]), (px8::SERVED, &b"   TALLY"[..]));
+/// for (number, text) in [(0, &b"   TALLY"[..]), (11, b"   TALLY"), (257, b"   TALLY"), (1, b"  TALLY")] {
+///     let (same, answer) = px8::key_text(settings, number, text);
+///     assert_eq!((same, answer.number), (settings, px8::BAD_KEY_TEXT));
+/// }
+/// ```
+#[inline]
+pub fn key_text(settings: Settings, number: usize, text: &[u8]) -> (Settings, Answer) {
+    // SAFETY: the pointer goes with its own length, and is only read. Any
+    // settings may be given, and the call keeps no pointer.
+    let outcome = unsafe { px8_key_text(settings, number, text.as_ptr(), text.len()) };
+    (outcome.settings, outcome.answer)
+}
+
 /// The printer call: the first `count` bytes of the buffer itself, or its
 /// empty part if it is shorter.
 ///
@@ -270,10 +293,10 @@ mod tests {
 
     #[test]
     fn results_are_laid_out_as_in_the_header() {
-        assert_eq!((size_of::<Outcome>(), align_of::<Outcome>()), (344, 8));
-        assert_eq!((offset_of!(Outcome, settings), offset_of!(Outcome, answer)), (0, 312));
-        assert_eq!((size_of::<Opened>(), align_of::<Opened>()), (312, 4));
-        assert_eq!((offset_of!(Opened, settings), offset_of!(Opened, number)), (0, 308));
+        assert_eq!((size_of::<Outcome>(), align_of::<Outcome>()), (424, 8));
+        assert_eq!((offset_of!(Outcome, settings), offset_of!(Outcome, answer)), (0, 392));
+        assert_eq!((size_of::<Opened>(), align_of::<Opened>()), (392, 4));
+        assert_eq!((offset_of!(Opened, settings), offset_of!(Opened, number)), (0, 388));
         assert_eq!((size_of::<Repeats>(), align_of::<Repeats>()), (16, 8));
         assert_eq!((offset_of!(Repeats, number), offset_of!(Repeats, count)), (0, 8));
     }

@@ -3,9 +3,9 @@
 //!
 //! [`Terminal`] owns its stores and is what most programs want; [`Stream`]
 //! takes a serial line into it through [`std::io::Write`], cut at any byte.
-//! [`opening`], [`message`], [`piece`], [`closing`] and [`printed`] are the
-//! library's own calls, on slices of any length; a wrong length is a refusal
-//! and never a fault. [`compare`], [`first_difference`] and [`differences`] lay
+//! [`opening`], [`message`], [`piece`], [`closing`], [`key_text`] and
+//! [`printed`] are the library's own calls, on slices of any length; a wrong
+//! length is a refusal and never a fault. [`compare`], [`first_difference`] and [`differences`] lay
 //! two shown screens side by side. [`key_repeats`] works out from a trace which
 //! codes the keyboard sent.
 //!
@@ -28,7 +28,7 @@ mod stream;
 mod terminal;
 mod types;
 
-pub use calls::{closing, key_repeats, message, opening, piece, printed};
+pub use calls::{closing, key_repeats, key_text, message, opening, piece, printed};
 pub use screens::{compare, differences, first_difference};
 pub use stream::{Refused, Stream};
 pub use terminal::{Reply, Terminal};

@@ -168,6 +168,25 @@ impl Terminal {
         answer
     }
 
+    /// Sets the text of a key, 1 to 10: eight codes for the key line, which row
+    /// 8 is after 27, 211, 0. It is shown by the next message, piece or closing.
+    /// The answer has [`SERVED`](crate::SERVED), [`UNSOUND`](crate::UNSOUND) or
+    /// [`BAD_KEY_TEXT`](crate::BAD_KEY_TEXT), and nothing else.
+    ///
+    /// ```
+    /// let mut terminal = px8::Terminal::open();
+    /// assert!(terminal.key_text(1, b"TARE    ").is_clean());
+    /// assert!(terminal.key_text(2, b"PRINT   ").is_clean());
+    /// terminal.message(&[27, 211, 0]);
+    /// assert_eq!(terminal.to_string(), "1\n2\n3\n4\n5\n6\n7\n8 TARE    PRINT\n");
+    /// assert_eq!(terminal.key_text(11, b"PRINT   ").number, px8::BAD_KEY_TEXT);
+    /// ```
+    pub fn key_text(&mut self, number: usize, text: &[u8]) -> Answer {
+        let (after, answer) = calls::key_text(self.settings, number, text);
+        self.settings = after;
+        answer
+    }
+
     /// The stream as something to write to, from where it stands.
     ///
     /// ```

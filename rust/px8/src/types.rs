@@ -17,6 +17,12 @@ pub const MESSAGE_MOST: usize = 4096;
 pub const COPY: usize = ROWS * (WIDTH + 2);
 /// Bytes of the patterns: 31 codes of 8 rows.
 pub const PATTERNS: usize = 248;
+/// Keys with a text in the key line.
+pub const KEYS: usize = 10;
+/// Codes of a key's text.
+pub const KEY_TEXT: usize = 8;
+/// Bytes of the key texts.
+pub const TEXTS: usize = KEYS * KEY_TEXT;
 /// Bytes of a stream that wait at most.
 pub const WAITING_MOST: usize = 12;
 /// The most that a stream's byte count reaches.
@@ -36,6 +42,9 @@ pub const UNSOUND: u8 = 3;
 pub const STREAM_TOO_LONG: u8 = 15;
 /// A message while bytes of a stream wait; the whole call is refused.
 pub const BYTES_WAIT: u8 = 16;
+/// The key is not 1 to [`KEYS`], or its text not of [`KEY_TEXT`] bytes; the
+/// whole call is refused.
+pub const BAD_KEY_TEXT: u8 = 17;
 /// More places differ than the list has records; the whole call is refused.
 pub const LIST_SHORT: u8 = 18;
 /// First refusal: the byte after ESC is not in the list.
@@ -98,9 +107,10 @@ pub struct Keys {
     pub arrows: [u8; 12],
 }
 
-/// The settings. H is the window's height: 16 in mode 1, else 8. They are
-/// sound when every field lies in the range given here. The last three are the
-/// stream's; no sequence changes them, and a message leaves them.
+/// The settings. H is the window's height: 16 in mode 1, else 8; with the key
+/// line 14 in mode 1, else 7. They are sound when every field lies in the
+/// range given here. `waiting`, `held` and `count` are the stream's: no sequence
+/// changes them, and a message leaves them. Only a key text changes `texts`.
 #[repr(C)]
 #[derive(Clone, Copy, Debug, PartialEq, Eq)]
 pub struct Settings {
@@ -130,7 +140,8 @@ pub struct Settings {
     pub secret: u8,
     /// 1 is on (51, 50).
     pub cursor: u8,
-    /// Key display as sent, 0 or 1 (211).
+    /// Key display as sent (211): 0 row 8 is the key line, 1 it shows the
+    /// screens as the other rows do.
     pub display: u8,
     /// The cursor's type, 0 to 3 (214).
     pub kind: u8,
@@ -145,6 +156,10 @@ pub struct Settings {
     pub held: u8,
     /// The stream's byte count, 0 to [`COUNT_MOST`].
     pub count: u32,
+    /// Ten key texts of eight codes, which may be any bytes: that of key k
+    /// stands in columns 8k − 7 to 8k of the key line. See
+    /// [`Settings::key_texts`].
+    pub texts: [u8; TEXTS],
 }
 
 impl Settings {
@@ -160,18 +175,30 @@ impl Settings {
     pub fn waiting(&self) -> &[u8] {
         &self.waiting[..usize::from(self.held).min(WAITING_MOST)]
     }
+
+    /// The text of each key, from key 1 on.
+    ///
+    /// ```
+    /// let mut terminal = px8::Terminal::open();
+    /// terminal.key_text(2, b"PRINT   ");
+    /// let texts: Vec<_> = terminal.settings().key_texts().collect();
+    /// assert_eq!((texts.len(), texts[0], texts[1]), (10, b"        ", b"PRINT   "));
+    /// ```
+    pub fn key_texts(&self) -> impl ExactSizeIterator<Item = &[u8; KEY_TEXT]> {
+        self.texts.as_chunks().0.iter()
+    }
 }
 
-/// The answer to a message, a piece or a closing.
+/// The answer to a message, a piece, a closing or a key text.
 #[repr(C)]
 #[derive(Clone, Copy, Debug, PartialEq, Eq)]
 pub struct Answer {
     /// [`SERVED`], or why the whole call was refused: 1, 2, 3 or 16 a message;
-    /// 1, 2, 3 or 15 a piece; 1 or 3 a closing. Sequences may be refused in a
-    /// call that was served: see [`Answer::is_clean`].
+    /// 1, 2, 3 or 15 a piece; 1 or 3 a closing; 3 or 17 a key text. Sequences
+    /// may be refused in a call that was served: see [`Answer::is_clean`].
     pub number: u8,
-    /// Bytes taken: all of the message or piece, if served; a closing takes
-    /// none.
+    /// Bytes taken: all of the message or piece, if served; a closing and a key
+    /// text take none.
     pub taken: u32,
     /// Sequences accepted.
     pub accepted: u32,

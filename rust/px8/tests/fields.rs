@@ -1,5 +1,5 @@
-//! Every field of the settings and of the answer, set by a sequence of its
-//! own and read back through the Rust types: a field that the declaration
+//! Every field of the settings and of the answer, set by a sequence or a call
+//! of its own and read back through the Rust types: a field that the declaration
 //! and the archive do not have in the same place is found here.
 
 use px8::{Place, Settings, Terminal};
@@ -47,6 +47,7 @@ fn opening_settings() {
         waiting: [0; 12],
         held: 0,
         count: 0,
+        texts: [32; 80],
     };
     assert_eq!(Terminal::open().settings(), &expected);
 }
@@ -144,6 +145,19 @@ fn waiting_held_and_count() {
     let mut terminal = Terminal::resume(given, *opened.cells(), *opened.layer(), *opened.shown());
     terminal.piece(&[0; 0x0102]);
     assert_eq!(terminal.settings(), &Settings { count: 0x3000_0102, ..given });
+}
+
+/// Every code of the texts, a key at a time.
+#[test]
+fn texts() {
+    let mut terminal = Terminal::open();
+    let mut expected = *terminal.settings();
+    for key in 1..=px8::KEYS {
+        let text = [0, 1, 2, 3, 4, 5, 6, 7].map(|at| 250 - 9 * key as u8 + at);
+        expected.texts[8 * (key - 1)..8 * key].copy_from_slice(&text);
+        assert!(terminal.key_text(key, &text).is_clean());
+        assert_eq!(terminal.settings(), &expected);
+    }
 }
 
 /// Five numbers and the printed bytes, all different.

@@ -83,6 +83,7 @@ impl Standing<'_> {
                 self.empty_layer();
             }
             210 => self.mark(usize::from(p[0]), usize::from(p[1]), p[2]),
+            211 => self.set_display(p[0]),
             // "198, 199: no operation ... 246: no effect."
             198 | 199 | 246 => {}
             _ => self.store(second, p),
@@ -100,7 +101,6 @@ impl Standing<'_> {
             148 => settings.step = p[0],
             // "149: 0 tracking, 1 not."
             149 => settings.tracking = 1 - p[0],
-            211 => settings.display = p[0],
             214 => settings.kind = p[0],
             224 => {
                 let start = 8 * usize::from(p[0] - 224);
@@ -253,6 +253,23 @@ impl Standing<'_> {
             self.here_mut().top = top as u8;
             self.empty_layer();
         }
+    }
+
+    /// "A changed 211 empties the layer, holds both tops in their new range
+    /// and lowers step to H if above."
+    fn set_display(&mut self, display: u8) {
+        if self.settings.display == display {
+            return;
+        }
+        self.settings.display = display;
+        self.empty_layer();
+        for screen in 0..2 {
+            let greatest = self.settings.greatest_top(screen) as u8;
+            let top = &mut self.settings.places[screen].top;
+            *top = greatest.min(*top);
+        }
+        let height = self.settings.height() as u8;
+        self.settings.step = height.min(self.settings.step);
     }
 
     // ---- blanking and scrolling ----

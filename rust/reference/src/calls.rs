@@ -1,11 +1,11 @@
-//! The opening call, the message call, the stream's two calls and the printer
-//! call.
+//! The opening call, the message call, the stream's two calls, the key text
+//! call and the printer call.
 
 use super::apply::Standing;
 use super::picture::paint;
 use super::read::{read, Item};
 use super::settings::{Answer, Settings};
-use super::settings::{BLANK, CELLS, LAYER, LONGEST_MESSAGE, LONGEST_STREAM, OPENING, SHOWN};
+use super::settings::{BLANK, CELLS, KEYS, KEY_TEXT, LAYER, LONGEST_MESSAGE, LONGEST_STREAM, OPENING, SHOWN};
 use super::sound::sound;
 use super::stream::Line;
 
@@ -109,6 +109,23 @@ pub fn closing(
     Line::of(&OPENING).leave(&mut standing.settings);
     paint(&standing.settings, standing.cells, standing.layer, shown);
     (standing.settings, answer)
+}
+
+/// "ten key texts of 8 codes, set by a new call (seen from the next message
+/// on)": it has no store, and so paints nothing. "a key number outside 1 to 10
+/// or a text not of 8 bytes is 17, after 3, nothing changed".
+pub fn key_text(settings: Settings, number: usize, text: &[u8]) -> (Settings, Answer) {
+    let refused = |number: u8| (settings, Answer { number, ..Answer::default() });
+    if !sound(&settings) {
+        return refused(3);
+    }
+    if !(1..=KEYS).contains(&number) || text.len() != KEY_TEXT {
+        return refused(17);
+    }
+    let mut after = settings;
+    let start = KEY_TEXT * (number - 1);
+    after.texts[start..start + KEY_TEXT].copy_from_slice(text);
+    (after, Answer::default())
 }
 
 /// The numbers that all these calls have in common, in the order 1, 2, 3.

@@ -30,7 +30,7 @@ pub mod sound;
 pub mod stream;
 pub mod text;
 
-pub use calls::{closing, message, opening, piece, printed};
+pub use calls::{closing, key_text, message, opening, piece, printed};
 pub use picture::picture;
 pub use settings::{Answer, Keys, Place, Settings};
 pub use sound::sound;

@@ -19,6 +19,7 @@ pub fn picture(settings: &Settings, cells: &[u8], layer: &[u8], row: usize, colu
     match source(settings, row, column) {
         Source::Blank => BLANK,
         Source::Boundary => settings.boundary,
+        Source::KeyLine { at } => settings.texts[at],
         Source::Cell { screen, line, column } => cells[settings.cell(screen, line, column)],
     }
 }
@@ -28,18 +29,32 @@ pub fn picture(settings: &Settings, cells: &[u8], layer: &[u8], row: usize, colu
 pub enum Source {
     Blank,
     Boundary,
-    Cell { screen: usize, line: usize, column: usize },
+    /// a code of the key texts, counted from 0
+    KeyLine {
+        at: usize,
+    },
+    Cell {
+        screen: usize,
+        line: usize,
+        column: usize,
+    },
 }
 
 pub fn source(settings: &Settings, row: usize, column: usize) -> Source {
     let selected = usize::from(settings.selected);
     let top = |screen: usize| usize::from(settings.places[screen].top);
     let m = settings.columns(0);
+    let rows = settings.screen_rows();
+    if row > rows {
+        return Source::KeyLine { at: column - 1 };
+    }
     match settings.mode {
         0 => Source::Cell { screen: selected, line: top(selected) + row - 1, column },
         1 if column <= 39 => Source::Cell { screen: selected, line: top(selected) + row - 1, column },
         1 if column <= 41 => Source::Blank,
-        1 => Source::Cell { screen: selected, line: top(selected) + 7 + row, column: column - 41 },
+        // "42 to 80 from line top+7+r"; with the key line this half "starts
+        // seven lines after the left"
+        1 => Source::Cell { screen: selected, line: top(selected) + rows - 1 + row, column: column - 41 },
         _ if column <= m => Source::Cell { screen: 0, line: top(0) + row - 1, column },
         _ if column == m + 1 => Source::Boundary,
         _ => Source::Cell { screen: 1, line: top(1) + row - 1, column: column - m - 1 },
@@ -57,9 +72,10 @@ pub fn cursor_place(settings: &Settings) -> Option<usize> {
         return None;
     }
     let row = line - top + 1;
+    let rows = settings.screen_rows();
     match (settings.mode, screen) {
         // mode 1's window goes on in the right half
-        (1, _) if row > 8 => Some(place(row - 8, column + 41)),
+        (1, _) if row > rows => Some(place(row - rows, column + 41)),
         (2, 1) => Some(place(row, column + settings.columns(0) + 1)),
         _ => Some(place(row, column)),
     }

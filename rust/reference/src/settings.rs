@@ -13,6 +13,9 @@ pub const LONGEST_MESSAGE: usize = 4096;
 pub const LONGEST_WAIT: usize = 12;
 /// "the stream's byte count, up to 1,000,000,000"
 pub const LONGEST_STREAM: usize = 1_000_000_000;
+/// "ten key texts of 8 codes"
+pub const KEYS: usize = 10;
+pub const KEY_TEXT: usize = 8;
 /// 8 rows of 80, each followed by 13 and 10.
 pub const COPY: usize = 656;
 pub const BLANK: u8 = 32;
@@ -73,6 +76,8 @@ pub struct Settings {
     pub held: u8,
     /// the stream's bytes so far, those that wait among them
     pub count: u32,
+    /// the key texts, one behind the other
+    pub texts: [u8; KEYS * KEY_TEXT],
 }
 
 #[derive(Clone, Copy, Debug, Default, PartialEq, Eq)]
@@ -132,6 +137,7 @@ pub const OPENING: Settings = Settings {
     waiting: [0; LONGEST_WAIT],
     held: 0,
     count: 0,
+    texts: [BLANK; KEYS * KEY_TEXT],
 };
 
 /// Screens are numbered 0 and 1 here, as `selected` is.
@@ -144,12 +150,23 @@ impl Settings {
         usize::from([self.columns1, self.columns2][screen])
     }
 
-    /// H, the window's height.
+    /// The rows that show the screens: "With ESC 211,0 row 8 shows ten key
+    /// texts".
+    pub fn screen_rows(&self) -> usize {
+        if self.display == 0 {
+            ROWS - 1
+        } else {
+            ROWS
+        }
+    }
+
+    /// H, the window's height: 8, or 16 in mode 1; with the key line "H
+    /// becomes 7, or 14 in mode 1".
     pub fn height(&self) -> usize {
         if self.mode == 1 {
-            16
+            2 * self.screen_rows()
         } else {
-            8
+            self.screen_rows()
         }
     }
 

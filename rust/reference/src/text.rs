@@ -1,6 +1,6 @@
 //! The words of the programs `show` and `replay`.
 
-use super::calls::{closing, message, opening, piece};
+use super::calls::{closing, key_text, message, opening, piece};
 use super::picture::place;
 use super::settings::{Answer, Settings, CELLS, COPY, LAYER, OPENING, ROWS, SHOWN, WIDTH};
 use super::stream::waits;
@@ -14,6 +14,7 @@ pub const REPLAY_ROOM: usize = 2 * COPY;
 pub const MESSAGE: u16 = 1;
 pub const PIECE: u16 = 2;
 pub const CLOSING: u16 = 3;
+pub const KEY_TEXT: u16 = 4;
 
 /// The message call and the piece call.
 type MessageCall = fn(Settings, &[u8], &mut [u8], &mut [u8], &mut [u8], &mut [u8]) -> (Settings, Answer);
@@ -56,6 +57,12 @@ impl Session {
         answer
     }
 
+    pub fn key_text(&mut self, number: usize, text: &[u8]) -> Answer {
+        let (settings, answer) = key_text(self.settings, number, text);
+        self.settings = settings;
+        answer
+    }
+
     fn with_printer(&mut self, call: MessageCall, bytes: &[u8], room: usize) -> Answer {
         let mut printer = vec![0; room];
         let stores = (&mut self.cells, &mut self.layer, &mut self.shown);
@@ -65,14 +72,20 @@ impl Session {
         answer
     }
 
-    /// Plays a record; none if its kind or its body is not known.
-    fn record(&mut self, kind: u16, body: &[u8]) -> Option<Answer> {
-        match (kind, body) {
-            (MESSAGE, _) => Some(self.play(body, REPLAY_ROOM)),
-            (PIECE, _) => Some(self.piece(body, REPLAY_ROOM)),
-            (CLOSING, []) => Some(self.closing()),
-            _ => None,
-        }
+    /// Plays a record and gives its line; none if its kind or its body is not
+    /// known.
+    fn record(&mut self, number: usize, kind: u16, body: &[u8]) -> Option<String> {
+        let answer = match (kind, body) {
+            (MESSAGE, _) => self.play(body, REPLAY_ROOM),
+            (PIECE, _) => self.piece(body, REPLAY_ROOM),
+            (CLOSING, []) => self.closing(),
+            (KEY_TEXT, [key, text @ ..]) => {
+                let answer = self.key_text(usize::from(*key), text);
+                return Some(key_answer(number, &answer));
+            }
+            _ => return None,
+        };
+        Some(numbered_answer(number, &answer))
     }
 
     /// What stands, in the words of `replay`: settings, sums and rows.
@@ -82,11 +95,12 @@ impl Session {
 
     fn sums(&self) -> String {
         format!(
-            "sums cells {} layer {} patterns {} printer {}\n",
+            "sums cells {} layer {} patterns {} printer {} texts {}\n",
             adler32(&self.cells),
             adler32(&self.layer),
             adler32(&self.settings.patterns),
-            adler32(&self.printed)
+            adler32(&self.printed),
+            adler32(&self.settings.texts)
         )
     }
 }
@@ -107,12 +121,12 @@ pub fn replay(recording: &[u8]) -> String {
     while offset < recording.len() {
         number += 1;
         let read = record(recording, offset).filter(|(_, body)| offset + 4 + body.len() <= LONGEST_RECORDING);
-        let played = read.and_then(|(kind, body)| session.record(kind, body));
-        let Some(answer) = played else {
+        let played = read.and_then(|(kind, body)| session.record(number, kind, body));
+        let Some(line) = played else {
             writeln!(text, "{number} bad record").unwrap();
             break;
         };
-        text += &numbered_answer(number, &answer);
+        text += &line;
         offset += 4 + read.map_or(0, |(_, body)| body.len());
     }
     text + &session.text()
@@ -139,6 +153,11 @@ pub fn answer_text(answer: &Answer) -> String {
 pub fn numbered_answer(number: usize, answer: &Answer) -> String {
     let Answer { printed, parameter, .. } = answer;
     format!("{number} {} printed {printed} parameter {parameter}\n", answer_text(answer))
+}
+
+/// A key text's line in a replay: it counts nothing.
+pub fn key_answer(number: usize, answer: &Answer) -> String {
+    format!("{number} answer {}\n", answer.number)
 }
 
 pub fn settings_text(s: &Settings) -> String {

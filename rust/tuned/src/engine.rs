@@ -1,5 +1,6 @@
 //! The stores, the selected screen's measures, text, windows and painting.
 
+use crate::rows;
 use crate::sequences::unfinished;
 use reference::{Answer, Place, Settings};
 
@@ -34,6 +35,8 @@ pub struct Engine<'a> {
     base: usize,
     pub lines: usize,
     pub columns: usize,
+    /// the rows that show it, and H
+    rows: usize,
     pub height: usize,
     pub line: usize,
     pub column: usize,
@@ -52,6 +55,7 @@ impl<'a> Engine<'a> {
             base: 0,
             lines: 0,
             columns: 0,
+            rows: 0,
             height: 0,
             line: 0,
             column: 0,
@@ -69,7 +73,8 @@ impl<'a> Engine<'a> {
         self.base = if second { first_size } else { 0 };
         self.lines = usize::from(if second { s.lines2 } else { s.lines1 });
         self.columns = usize::from(if second { s.columns2 } else { s.columns1 });
-        self.height = if s.mode == 1 { 16 } else { 8 };
+        self.rows = rows(s).into();
+        self.height = if s.mode == 1 { 2 * self.rows } else { self.rows };
         let place = s.places[usize::from(second)];
         self.line = usize::from(place.line);
         self.column = usize::from(place.column);
@@ -162,10 +167,11 @@ impl<'a> Engine<'a> {
         }
         let left = match (self.settings.mode, self.settings.selected) {
             (2, 1) => usize::from(self.settings.columns1) + 1,
-            (1, _) if row >= 8 => 41,
+            (1, _) if row >= self.rows => 41,
             _ => 0,
         };
-        let at = row % 8 * 80 + left + self.column - 1;
+        let row = if row >= self.rows { row - self.rows } else { row };
+        let at = row * 80 + left + self.column - 1;
         self.stores.marks[at..at + count].fill(0);
         self.stores.codes[at..at + count].fill(0);
     }
@@ -226,9 +232,15 @@ impl<'a> Engine<'a> {
             return;
         }
         match self.settings.mode {
-            0 => picture.copy_from_slice(&self.stores.cells[self.block(self.top - 1, self.top + 7)]),
+            0 if self.rows == 8 => {
+                picture.copy_from_slice(&self.stores.cells[self.block(self.top - 1, self.top + 7)]);
+            }
+            0 => picture[..560].copy_from_slice(&self.stores.cells[self.block(self.top - 1, self.top + 6)]),
             1 => self.paint_halves(picture),
             _ => self.paint_both(picture),
+        }
+        if self.rows < 8 {
+            picture[560..].copy_from_slice(&self.settings.texts);
         }
         if !self.empty {
             let (marks, codes) = (&*self.stores.marks, &*self.stores.codes);
@@ -241,8 +253,8 @@ impl<'a> Engine<'a> {
     }
 
     fn paint_halves(&self, picture: &mut [u8; 640]) {
-        let window = &self.stores.cells[self.block(self.top - 1, self.top + 15)];
-        let (left, right) = window.split_at(8 * 39);
+        let window = &self.stores.cells[self.block(self.top - 1, self.top - 1 + self.height)];
+        let (left, right) = window.split_at(self.rows * 39);
         let halves = left.chunks_exact(39).zip(right.chunks_exact(39));
         for (row, (left, right)) in picture.chunks_exact_mut(80).zip(halves) {
             row[..39].copy_from_slice(left);
@@ -259,7 +271,7 @@ impl<'a> Engine<'a> {
         let second = usize::from(s.lines1) * m;
         let left = self.stores.cells[(tops[0] - 1) * m..].chunks_exact(m);
         let right = self.stores.cells[second + (tops[1] - 1) * (79 - m)..].chunks_exact(79 - m);
-        for ((row, left), right) in picture.chunks_exact_mut(80).zip(left).zip(right) {
+        for ((row, left), right) in picture.chunks_exact_mut(80).take(self.rows).zip(left).zip(right) {
             row[..m].copy_from_slice(left);
             row[m] = s.boundary;
             row[m + 1..].copy_from_slice(right);

@@ -45,6 +45,7 @@ const START: Settings = Settings {
     waiting: [0; 12],
     held: 0,
     count: 0,
+    texts: [b' '; 80],
 };
 
 pub fn opening(cells: &mut [u8], layer: &mut [u8], shown: &mut [u8]) -> (Settings, u8) {
@@ -104,8 +105,29 @@ fn judged<'a>(
     Ok((stores, picture))
 }
 
+/// Document 02, P2: a key's text.
+pub fn key_text(mut settings: Settings, number: usize, text: &[u8]) -> (Settings, Answer) {
+    if !sound(&settings) {
+        return refused(settings, 3);
+    }
+    match settings.texts.chunks_exact_mut(8).nth(number.wrapping_sub(1)) {
+        Some(place) if text.len() == 8 => place.copy_from_slice(text),
+        _ => return refused(settings, 17),
+    }
+    (settings, Answer::default())
+}
+
 pub fn printed(buffer: &[u8], count: usize) -> &[u8] {
     buffer.get(..count).unwrap_or(&buffer[..0])
+}
+
+/// The rows of the shown screen that are not the key line.
+fn rows(s: &Settings) -> u8 {
+    if s.display == 0 {
+        7
+    } else {
+        8
+    }
 }
 
 fn sound(s: &Settings) -> bool {
@@ -122,7 +144,7 @@ fn sound(s: &Settings) -> bool {
     if !shape {
         return false;
     }
-    let height = if s.mode == 1 { 16 } else { 8 };
+    let height = rows(s) << u8::from(s.mode == 1);
     let inside = |p: &Place, lines: u8, columns: u8| {
         p.line.wrapping_sub(1) < lines
             && p.column.wrapping_sub(1) < columns

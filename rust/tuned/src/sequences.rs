@@ -178,6 +178,7 @@ impl Engine<'_> {
                 self.wipe();
             }
             210 => self.mark(usize::from(p[0]) * 80 + usize::from(p[1]) - 81, p[2]),
+            211 => self.display(p[0]),
             _ => self.keep(second, p),
         }
     }
@@ -191,7 +192,6 @@ impl Engine<'_> {
             125 => s.secret = 0,
             148 => s.step = p[0],
             149 => s.tracking = p[0] ^ 1,
-            211 => s.display = p[0],
             214 => s.kind = p[0],
             224 => {
                 let at = usize::from(p[0] - 224) * 8;
@@ -210,6 +210,22 @@ impl Engine<'_> {
             247 => s.keys.shift = p[0],
             _ => {}
         }
+    }
+
+    /// Row 8 to the key texts or back to the screens.
+    fn display(&mut self, display: u8) {
+        if display == self.settings.display {
+            return;
+        }
+        self.save();
+        self.settings.display = display;
+        self.load();
+        let (s, height) = (&mut self.settings, self.height as u8);
+        s.step = s.step.min(height);
+        s.places[0].top = s.places[0].top.min(s.lines1 - height + 1);
+        s.places[1].top = s.places[1].top.min(s.lines2 - height + 1);
+        self.load();
+        self.wipe();
     }
 
     fn last_top(&self) -> usize {

@@ -10,7 +10,7 @@ use Rattle.model.specs.State.{state}
 use Rattle.model.specs.Picture.{copiedRows}
 use Rattle.model.proofs.Tests.{differ}
 use Rattle.store.proofs.Laws.{put-none}
-use Rattle.paint.proofs.Pictures.{whole-picture}
+use Rattle.paint.proofs.Pictures.{texts-size, whole-picture}
 use Rattle.paint.proofs.Copies.{copied-all, copied-more}
 use Rattle.paint.proofs.copy.Statement.{statement}
 use Rattle.paint.proofs.copy.Tie as tie
@@ -25,8 +25,11 @@ abbrev μ-loop : tie.MeasureT-loop
 paint-under-requires : tie.Need-paint-under-requires Inv-loop μ-loop
 paint-under-requires c κs = let v = c .before in (v .view-of .ensures .framed, (v .before .before .before .before .pre .0 .cells-are, length-replicate {A = ℕ} 640 0))
 
+paint-keys-requires : tie.Need-paint-keys-requires Inv-loop μ-loop
+paint-keys-requires c κs = (texts-size (c .before .before .before .before .before .before .before .before .pre .0 .sound), search needs)
+
 lay-over-requires : tie.Need-lay-over-requires Inv-loop μ-loop
-lay-over-requires c κs = ((c .before .before .before .before .before .before .before .before .pre .0 .layer-are, search needs), λ e. absurd (differ (sym e)))
+lay-over-requires c κs = ((c .before .before .before .before .before .before .before .before .before .before .before .pre .0 .layer-are, search needs), λ e. absurd (differ (sym e)))
 
 loop-holds : tie.Need-loop-holds Inv-loop μ-loop
 unfolding copiedRows
@@ -36,7 +39,7 @@ loop-again : tie.Need-loop-again Inv-loop μ-loop
 loop-again c =
     let at = c .before .before in
     let head = at .before .before .before .before in
-    let entry = head .before .before .before .before .before .before .before .before .before .before .before in
+    let entry = head .before .before .before .before .before .before .before .before .before .before .before .before .before .before in
     let a = entry .args in
     (search needs, (search needs, copied-more (a .from) (head .loop .row) _ (a .printer .now) (head .loop .inv .1 .1) (at .copy-row .ensures) refl (omega (arith, entry .pre .1))))
 
@@ -44,10 +47,13 @@ returns : tie.Need-returns Inv-loop μ-loop
 returns c =
     let loop = c .before .loop in
     let lay = c .before .before .before in
-    let under = lay .before .before .before in
+    let keys = lay .before .before .before in
+    let under = keys .before .before .before in
     let v = under .before .before in
-    let a = v .before .before .before .before .args in
-    let picture = whole-picture (a .settings) (a .cells .now) (a .layer .now) (v .view-of .result) (v .view-of .ensures) _ (length-replicate {A = ℕ} 640 0) (under .paint-under .ensures) (lay .lay-over .ensures) in
+    let entry = v .before .before .before .before in
+    let a = entry .args in
+    let picture = whole-picture (a .settings) (a .cells .now) (a .layer .now) (v .view-of .result) (v .view-of .ensures) _ (texts-size (entry .pre .0 .sound)) (length-replicate {A = ℕ} 640 0)
+    (under .paint-under .ensures) (keys .paint-keys .ensures) (lay .lay-over .ensures) in
     loop .inv .1 .1 ∙ ap (λ (ys : List ℕ). put (a .from) ys (a .printer .now)) (copied-all (state (a .settings) (a .cells .now) (a .layer .now)) _ (loop .row) picture (omega arith))
 
 pub copy-spec : {M : Type 1} → statement M
@@ -59,6 +65,8 @@ copy-spec =
     (λ c κs. search needs)
     (λ c. search needs)
     paint-under-requires
+    (λ c. search needs)
+    paint-keys-requires
     (λ c. search needs)
     lay-over-requires
     loop-holds

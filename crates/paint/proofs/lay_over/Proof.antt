@@ -5,12 +5,12 @@ use native.Mathlib.Omega.{arith}
 use lib.ListN.{getD}
 use borrow.Author.Needs.{needs}
 use Rattle.paint.proofs.Painted.{painted-bare, painted-same}
-use Rattle.paint.proofs.Secret.{off, on}
+use Rattle.paint.proofs.Tested.{is, is-not}
 use Rattle.paint.proofs.lay_over.Statement.{statement}
 use Rattle.paint.proofs.lay_over.Tie as tie
 
 returns : tie.Need-returns
-returns c = sym (on (c .before .before .before .args .secret) _ _ (omega arith))
+returns c = sym (is (c .before .before .before .args .secret) 1 _ _ (omega arith))
 
 returns-2 : tie.Need-returns-2
 returns-2 c =
@@ -18,12 +18,12 @@ returns-2 c =
     let a = entry .args in
     painted-same 640 (a .shown .now) (omega arith)
     ∙ painted-bare 0 640 1280 (λ (p : ℕ). getD (a .shown .now) p 0) (a .layer .now) (a .shown .now) (entry .pre .1 (search needs)) (omega arith)
-    ∙ sym (off (a .secret) _ _ (omega arith))
+    ∙ sym (is-not (a .secret) 1 _ _ (omega arith))
 
 returns-3 : tie.Need-returns-3
 returns-3 c =
     let lay = c .before .before in
-    lay .lay .ensures ∙ sym (off (lay .before .before .before .before .before .before .args .secret) _ _ (omega arith))
+    lay .lay .ensures ∙ sym (is-not (lay .before .before .before .before .before .before .args .secret) 1 _ _ (omega arith))
 
 pub lay-over-spec : {M : Type 1} → statement M
 lay-over-spec = tie.close (tie.spec returns returns-2 (λ c κs. search needs) (λ c. search needs) returns-3)

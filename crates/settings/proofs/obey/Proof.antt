@@ -1,6 +1,6 @@
 -- `settings::obey` meets its contract. In the arm of a sequence that changes a store `q` is that sequence, and what its rule says is what the
--- function that the arm calls ensures; the rule leaves the patterns. What the last arm is left with changes no store, and `set` does it;
--- of 224 only the patterns are claimed.
+-- function that the arm calls ensures; the rule leaves patterns and key texts. What the last arm is left with changes no store, and `set` does it;
+-- of 224 only patterns and key texts are claimed.
 use mathlib.Core.Path.{_∙_, ap, refl}
 use Prim.Native.Nat.{ℕ}
 use native.Mathlib.Omega.{arith}
@@ -12,6 +12,7 @@ use Rattle.model.specs.Rules.{obeyed, flagged, withSettings, emptied, withLayer
 use Rattle.model.proofs.Cases.{ranged}
 use Rattle.settings.specs.Obey.{settled}
 use Rattle.settings.proofs.Arm.{arm}
+use Rattle.settings.proofs.Displays.{display-stays}
 use Rattle.settings.proofs.Idle.{storeless}
 use Rattle.settings.proofs.Parts.{stands}
 use Rattle.settings.proofs.obey.Statement.{statement}
@@ -28,18 +29,20 @@ obey-spec =
     (λ c. search needs) (λ c κs. let told = c .before .before .before in omega (arith, ranged _ (told .before .before .before .before .pre .legal) (told .q3 .given .1)))
     (λ c. search needs) (λ c κs. search needs)
     (λ c. search needs) (λ c κs. let told = c .before .before in omega (arith, ranged _ (told .before .before .before .before .pre .legal) (told .q5 .given .1)))
+    (λ c. search needs) (λ c κs. search needs)
     (λ c κs. search needs)
     -- what then stands
-    (λ c. search needs) (λ c. search needs) (λ c. let done = c .before .before .before .before in arm (done .before .before .before .before .q .given .1) (λ m. done .mode0 .ensures) refl refl)
-    (λ c. search needs) (λ c. search needs) (λ c. let done = c .before .before .before .before in arm (done .before .before .before .before .q2 .given .1) (λ m. done .mode1 .ensures) refl refl)
-    (λ c. search needs) (λ c. search needs) (λ c. let done = c .before .before .before .before in arm (done .before .before .before .before .q3 .given .1) (λ m. done .mode2 .ensures) refl refl)
+    (λ c. search needs) (λ c. search needs) (λ c. let done = c .before .before .before .before in arm (done .before .before .before .before .q .given .1) (λ m. done .mode0 .ensures) (refl, refl) refl)
+    (λ c. search needs) (λ c. search needs) (λ c. let done = c .before .before .before .before in arm (done .before .before .before .before .q2 .given .1) (λ m. done .mode1 .ensures) (refl, refl) refl)
+    (λ c. search needs) (λ c. search needs) (λ c. let done = c .before .before .before .before in arm (done .before .before .before .before .q3 .given .1) (λ m. done .mode2 .ensures) (refl, refl) refl)
     (λ c. search needs) (λ c. let done = c .before .before in
     let told = done .before .before .before in
-    arm (told .q4 .given .1) (λ m. stands (done .select .ensures .0) refl (done .select .ensures .1 ∙ ap (λ (n : ℕ). replicate n 0) (told .before .before .before .before .pre .sized .layer-are))) refl refl)
-    (λ c. search needs) (λ c. let done = c .before .before in arm (done .before .before .before .q5 .given .1) (λ m. rw (done .mark .ensures .0, done .mark .ensures .1)) refl refl)
+    arm (told .q4 .given .1) (λ m. stands (done .select .ensures .0) refl (done .select .ensures .1 ∙ ap (λ (n : ℕ). replicate n 0) (told .before .before .before .before .pre .sized .layer-are))) (refl, refl) refl)
+    (λ c. search needs) (λ c. let done = c .before .before in arm (done .before .before .before .q5 .given .1) (λ m. rw (done .mark .ensures .0, done .mark .ensures .1)) (refl, refl) refl)
+    (λ c. search needs) (λ c. let done = c .before .before in arm (done .before .before .before .q6 .given .1) (λ m. done .display .ensures _) (display-stays _ _) refl)
     (λ c. let h = c .set .ensures in
     record {
-      does = λ e m. h .does (storeless (c .before .before .before .before .args .q) (c .before .match .keys6) e) m _ _;
+      does = λ e m. h .does (storeless (c .before .before .before .before .args .q) (c .before .match .keys7) e) m _ _;
       left = λ e. stands (h .left (rw e)) refl refl;
       keeps = h .keeps;
     }))

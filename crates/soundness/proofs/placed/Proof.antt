@@ -14,7 +14,7 @@ returns c =
     let tall = other .before .before .before in
     let s = tall .before .args .t1 in
     let n = tall .height-of .result in
-    let e = tall .height-of .ensures s refl in
+    let e = tall .height-of .ensures s refl refl in
     λ i. (other .chosen .ensures ∙ step-of s n e) i && ((c .before .inside .ensures ∙ first-of s n e) i && (c .inside2 .ensures ∙ second-of s n e) i)
 
 pub placed-spec : {M : Type 1} → statement M
@@ -22,7 +22,7 @@ placed-spec =
     tie.close
     (tie.spec
     (λ c κs. tt)
-    (λ c. omega (arith, height-low (c .before .args .t1), c .height-of .ensures (c .before .args .t1) refl))
+    (λ c. omega (arith, height-low (c .before .args .t1), c .height-of .ensures (c .before .args .t1) refl refl))
     (λ c. search needs)
     (λ c. search needs)
     (λ c κs. tt)

@@ -1,10 +1,13 @@
--- `tables::text_rows` meets its contract: the number of the definition.
-use mathlib.Core.Path.{refl}
+-- `tables::text_rows` meets its contract by the test of its branch.
+use mathlib.Core.Path.{_∙_, sym}
 use native.Mathlib.Omega.{arith}
-use Rattle.model.specs.Screens.{textRows}
+use Rattle.model.proofs.KeyLaws.{rows-plain, rows-shown}
 use Rattle.tables.proofs.text_rows.Statement.{statement}
 use Rattle.tables.proofs.text_rows.Tie as tie
 
 pub text-rows-spec : {M : Type 1} → statement M
-unfolding textRows
-text-rows-spec = tie.close (tie.spec (λ c. (λ s. refl, omega arith)))
+text-rows-spec =
+    tie.close
+    (tie.spec
+    (λ c. (λ s e. sym (rows-shown s (e ∙ c .if1 .taken)), omega arith))
+    (λ c. (λ s e. sym (rows-plain s (λ z. c .if1 .left (sym e ∙ z))), omega arith)))

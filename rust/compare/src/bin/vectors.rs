@@ -4,7 +4,7 @@
 //! The form of both stands at the top of `vectors.rs` in the library.
 //!
 //! `--every N` after the first two takes the first case of the list and then
-//! each Nth, of those without streams: `crates/vectors/stdin` and `stdout` are
+//! each Nth, of those with messages alone: `crates/vectors/stdin` and `stdout` are
 //! those of `--every 3`.
 
 use compare::vectors::{cases, play, recording, Case};
@@ -35,7 +35,7 @@ fn chosen(words: &[&str]) -> Option<Vec<Case>> {
         [] => Some(cases()),
         ["--every", number] => {
             let step = number.parse().ok().filter(|&step| step > 0)?;
-            Some(cases().into_iter().filter(|case| !case.streams()).step_by(step).collect())
+            Some(cases().into_iter().filter(Case::messages_alone).step_by(step).collect())
         }
         _ => None,
     }

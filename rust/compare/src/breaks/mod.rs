@@ -5,9 +5,11 @@
 //! - `scope`: document 01
 //! - `parameters`: which parameter a refusal names
 //! - `streams`: pieces and closings
+//! - `keyline`: the key line and its texts
 //! - `screens`: the comparison of two screens
 //! - `traces`: key repeats
 
+mod keyline;
 mod parameters;
 mod scope;
 mod screens;
@@ -27,7 +29,7 @@ const fn entry(name: &'static str, file: &'static str, old: &'static str, new: &
 }
 
 /// The broken copies of the terminal.
-pub const BREAKS: &[&[Break]] = &[scope::BREAKS, parameters::BREAKS, streams::BREAKS];
+pub const BREAKS: &[&[Break]] = &[scope::BREAKS, parameters::BREAKS, streams::BREAKS, keyline::BREAKS];
 
 /// The broken copies of the comparison of two screens.
 pub const SCREENS: &[&[Break]] = &[screens::BREAKS];

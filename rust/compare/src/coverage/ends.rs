@@ -7,7 +7,7 @@ impl Coverage {
     /// Both ends of every judged range, and one beyond each, where a byte
     /// can lie there. 208 stands under its mode byte, which no second byte is.
     pub(super) fn expect_ends(&mut self) {
-        let sequences = JUDGED.iter().map(|&second| (second, ranges(second, 0, 24, 80)));
+        let sequences = JUDGED.iter().map(|&second| (second, ranges(second, 8, 24, 80)));
         let modes = (0..3).map(|mode| (mode, mode_ranges(mode, 24)));
         for (name, ranges) in sequences.chain(modes) {
             for (at, &(low, high)) in ranges.iter().enumerate().filter(|(_, &range)| range != (0, 255)) {
@@ -27,7 +27,7 @@ impl Coverage {
             (208, &[mode @ 0..=2, first, ..]) => (mode, mode_ranges(mode, first), &parameters[1..]),
             _ => {
                 let screen = before.screen();
-                (second, ranges(second, s.mode, s.lines(screen), s.columns(screen)), parameters)
+                (second, ranges(second, s.height(), s.lines(screen), s.columns(screen)), parameters)
             }
         };
         for (at, (&(low, high), &byte)) in ranges.iter().zip(parameters).enumerate() {

@@ -30,6 +30,7 @@ impl Coverage {
     }
 
     fn sequence(&mut self, second: u8, parameters: &[u8], before: &Before, after: &Standing) {
+        self.key_line.sequence(second, before, after);
         match second {
             37 => self.printing(true, before, after),
             61 => self.placing(before, after),
@@ -82,15 +83,17 @@ impl Coverage {
 
     fn emptied_place(&mut self, by_37: bool, before: &Before, after: &Standing) {
         let emptied = filled(&after.layer[..MARKS]) < before.marks;
+        self.key_line.printed(emptied, before, after);
         let code = filled(&after.layer[MARKS..]) < before.codes;
         self.count_if(code && !emptied, "code of an unmarked place emptied");
         if !emptied {
             return;
         }
-        let row = before.place.line - before.place.top + 1;
+        let row = usize::from(before.place.line - before.place.top + 1);
         self.count(if by_37 { "place emptied by 37" } else { "place emptied by printing" });
         self.count_if(before.settings.secret == 1, "place emptied under secret");
-        self.count_if(before.mode() == 1 && row > 8, "place emptied in the right half");
+        let right = before.mode() == 1 && row > before.settings.screen_rows();
+        self.count_if(right, "place emptied in the right half");
         let right = before.mode() == 2 && before.screen() == 1;
         self.count_if(right, "place emptied on screen 2 of mode 2");
     }
@@ -103,6 +106,7 @@ impl Coverage {
         if place.top == before.place.top {
             return;
         }
+        self.key_line.moved(before);
         self.count(how[usize::from(place.top > before.place.top)]);
         self.count_if(before.marks > 0, "layer emptied by tracking by the least amount");
     }

@@ -22,11 +22,11 @@ impl Parameters {
     pub fn new() -> Parameters {
         let mut classes = Parameters(BTreeMap::new());
         for &second in JUDGED.iter().filter(|&&second| second != 208) {
-            classes.expect(&second.to_string(), &own_ranges(&[second], 0, 24, 80));
+            classes.expect(&second.to_string(), &own_ranges(&[second], 8, 24, 80));
         }
         classes.expect("208 mode 4 and above", &[NONE]);
         for mode in 0..=2 {
-            classes.expect(&format!("208 mode {mode}"), &own_ranges(&[208, mode], 0, 24, 80));
+            classes.expect(&format!("208 mode {mode}"), &own_ranges(&[208, mode], 8, 24, 80));
         }
         for name in ["144", "145", "208 mode 0"] {
             classes.0.insert(format!("first bad: {name}, by the sum alone"), 0);
@@ -55,7 +55,7 @@ impl Parameters {
     /// A sequence from its second byte on, refused by 11 for `parameter`.
     pub fn refused(&mut self, parameter: u8, sequence: &[u8], s: &Settings) {
         let screen = usize::from(s.selected);
-        let ranges = own_ranges(sequence, s.mode, s.lines(screen), s.columns(screen));
+        let ranges = own_ranges(sequence, s.height(), s.lines(screen), s.columns(screen));
         let name = match *sequence {
             [208, mode @ 0..=2, ..] => format!("208 mode {mode}"),
             [208, ..] => "208 mode 4 and above".to_string(),
@@ -90,13 +90,13 @@ impl Parameters {
 
 /// The range of each parameter by itself, without the sums; of 67 and 247,
 /// which take single values, the one parameter is taken for bad.
-fn own_ranges(sequence: &[u8], mode: u8, lines: usize, columns: usize) -> Vec<(usize, usize)> {
+fn own_ranges(sequence: &[u8], height: usize, lines: usize, columns: usize) -> Vec<(usize, usize)> {
     match *sequence {
         [67 | 247, ..] => vec![NONE],
         [208, 0, ..] => vec![ANY, (8, 255), (8, 255)],
         [208, 1, ..] => vec![ANY, (16, 48)],
         [208, 2, ..] => vec![ANY, (8, 48), (1, 78), ANY],
         [208, ..] => vec![NONE],
-        _ => ranges(sequence[0], mode, lines, columns),
+        _ => ranges(sequence[0], height, lines, columns),
     }
 }

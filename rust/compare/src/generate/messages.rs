@@ -8,6 +8,7 @@ use reference::Settings;
 /// What the generator takes the measures to be while it writes a message.
 pub struct Belief {
     pub mode: u8,
+    pub display: u8,
     pub lines: [u8; 2],
     pub columns: [u8; 2],
     pub selected: usize,
@@ -17,10 +18,15 @@ impl Belief {
     pub fn of(settings: &Settings) -> Belief {
         Belief {
             mode: settings.mode,
+            display: settings.display,
             lines: [settings.lines1, settings.lines2],
             columns: [settings.columns1, settings.columns2],
             selected: settings.selected.into(),
         }
+    }
+
+    pub fn height(&self) -> usize {
+        height(self.mode, self.display)
     }
 
     pub fn lines(&self) -> usize {
@@ -59,7 +65,8 @@ fn part(random: &mut Random, belief: &mut Belief, bytes: &mut Vec<u8>) {
         4 => to_the_edge(random, belief, bytes),
         5 => marks(random, bytes),
         6 if random.one_in(2) => damage(random, bytes),
-        6 if random.one_in(3) => bytes.extend([27, 148, inside(random, 1, height(belief.mode))]),
+        6 if random.one_in(3) => bytes.extend([27, 148, inside(random, 1, belief.height())]),
+        6 if random.one_in(3) => key_display(random, belief, bytes),
         7 => escape_in_parameter(random, belief, bytes),
         _ => {
             let second = random.pick(&SECONDS);
@@ -111,6 +118,21 @@ fn to_the_edge(random: &mut Random, belief: &Belief, bytes: &mut Vec<u8>) {
 fn marks(random: &mut Random, bytes: &mut Vec<u8>) {
     for _ in 0..random.between(1, 6) {
         bytes.extend([27, 210, inside(random, 1, 8), inside(random, 1, 80), random.byte()]);
+    }
+}
+
+/// The other key display: with a mark in row 8 and the window at its end, or
+/// with the cursor in the window's last lines and something printed there.
+fn key_display(random: &mut Random, belief: &mut Belief, bytes: &mut Vec<u8>) {
+    if random.one_in(2) {
+        bytes.extend([27, 213]);
+    }
+    belief.display ^= 1;
+    bytes.extend([27, 211, belief.display]);
+    if random.one_in(2) {
+        bytes.extend([27, 149, 1, 27, 210, 8, inside(random, 1, belief.columns().min(9)), random.byte()]);
+        let line = random.between(belief.height() - 1, 8.max(belief.height())).min(belief.lines());
+        bytes.extend([27, 212, 27, 61, line as u8 + 31, 32, random.byte() | 32, random.byte() | 32]);
     }
 }
 

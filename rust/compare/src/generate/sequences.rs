@@ -1,7 +1,7 @@
 //! Single sequences, with their parameters in range or not.
 
 use super::messages::Belief;
-use super::settings::{height, inside};
+use super::settings::inside;
 use crate::random::Random;
 
 /// Every second byte of the list, written out here a second time.
@@ -24,21 +24,24 @@ pub fn sequence(random: &mut Random, belief: &mut Belief, second: u8, bytes: &mu
         247 => return bytes.push(random.pick(&[0, 2, 4, 6, 16, 18, 32, 34, 64, 66, 1, 8, 36, 65, 68, 255])),
         _ => {}
     }
-    let ranges = ranges(second, belief.mode, belief.lines(), belief.columns());
+    let ranges = ranges(second, belief.height(), belief.lines(), belief.columns());
     ranged(random, &ranges, bytes);
-    if second == 209 && bytes[bytes.len() - 1] <= 1 {
-        belief.selected = bytes[bytes.len() - 1].into();
+    match bytes[bytes.len() - 1] {
+        screen @ 0..=1 if second == 209 => belief.selected = screen.into(),
+        display @ 0..=1 if second == 211 => belief.display = display,
+        _ => {}
     }
 }
 
-/// The range of each parameter, on a screen of these lines and columns; 67
-/// and 247 take single values, and 208 is left to `mode_setting`.
-pub fn ranges(second: u8, mode: u8, lines: usize, columns: usize) -> Vec<(usize, usize)> {
+/// The range of each parameter, on a screen of these lines and columns and
+/// with windows of this height; 67 and 247 take single values, and 208 is
+/// left to `mode_setting`.
+pub fn ranges(second: u8, height: usize, lines: usize, columns: usize) -> Vec<(usize, usize)> {
     match second {
         37 => vec![(0, 255)],
         61 => vec![(32, lines + 31), (32, columns + 31)],
         144 | 145 => vec![(0, lines - 1), (1, lines)],
-        148 => vec![(1, height(mode))],
+        148 => vec![(1, height)],
         149 | 209 | 211 | 240 => vec![(0, 1)],
         198 => vec![(0, 255); 11],
         199 | 243 | 244 | 245 => vec![(0, 255); 4],

@@ -15,24 +15,30 @@ pub fn inside(random: &mut Random, low: usize, high: usize) -> u8 {
     number as u8
 }
 
-pub fn height(mode: u8) -> usize {
-    if mode == 1 {
-        16
-    } else {
-        8
+/// H, by mode and key display.
+pub fn height(mode: u8, display: u8) -> usize {
+    match (mode, display) {
+        (1, 0) => 14,
+        (1, _) => 16,
+        (_, 0) => 7,
+        _ => 8,
     }
 }
 
 /// Arbitrary sound settings.
 pub fn settings(random: &mut Random) -> Settings {
     let (mode, lines, columns) = measures(random);
+    let display = random.byte() & 1;
+    let height = height(mode, display);
     let place = |random: &mut Random, screen: usize| Place {
         line: inside(random, 1, lines[screen].into()),
         column: inside(random, 1, columns[screen].into()),
-        top: inside(random, 1, usize::from(lines[screen]) - height(mode) + 1),
+        top: inside(random, 1, usize::from(lines[screen]) - height + 1),
     };
     let mut patterns = [0; 248];
     random.fill(&mut patterns);
+    let mut texts = [0; 80];
+    random.fill(&mut texts);
     let whole = Settings {
         mode,
         lines1: lines[0],
@@ -43,13 +49,14 @@ pub fn settings(random: &mut Random) -> Settings {
         selected: random.byte() & 1,
         places: [place(random, 0), place(random, 1)],
         tracking: random.byte() & 1,
-        step: inside(random, 1, height(mode)),
+        step: inside(random, 1, height),
         secret: u8::from(random.one_in(6)),
         cursor: random.byte() & 1,
-        display: random.byte() & 1,
+        display,
         kind: random.byte() & 3,
         keys: keys(random),
         patterns,
+        texts,
         ..OPENING
     };
     with_stream(random, whole)
@@ -88,7 +95,7 @@ type Field = (&'static str, fn(&mut Settings) -> &mut u8);
 
 /// The fields that can be broken by themselves.
 #[rustfmt::skip]
-pub const FIELDS: [Field; 28] = [
+pub const FIELDS: [Field; 29] = [
     ("mode", |s| &mut s.mode), ("lines1", |s| &mut s.lines1), ("lines2", |s| &mut s.lines2),
     ("columns1", |s| &mut s.columns1), ("columns2", |s| &mut s.columns2),
     ("selected", |s| &mut s.selected),
@@ -102,6 +109,7 @@ pub const FIELDS: [Field; 28] = [
     ("strings", |s| &mut s.keys.strings), ("repeat", |s| &mut s.keys.repeat),
     ("delay", |s| &mut s.keys.delay), ("interval", |s| &mut s.keys.interval),
     ("shift", |s| &mut s.keys.shift), ("columns pair", |s| &mut s.columns1),
+    ("lines pair", |s| &mut s.lines1),
 ];
 
 /// One field changed: to just beyond its range, to one more or less, or to
@@ -126,15 +134,33 @@ pub fn unsound(random: &mut Random, sound: &Settings) -> (&'static str, Settings
         settings.columns1 = random.pick(&[0, 39, 79, 80]);
         settings.columns2 = random.pick(&[79, 40, 0, 255u8]).wrapping_sub(settings.columns1);
     }
+    if name == "lines pair" {
+        // one line too few, and nothing else wrong
+        let few = least_lines(settings.mode) - 1;
+        (settings.lines1, settings.lines2) = (few, if settings.mode == 0 { 8 } else { few });
+        for place in &mut settings.places {
+            (place.line, place.top) = (1, 1);
+        }
+    }
     (name, settings)
+}
+
+/// The least number of lines, which does not hang on the key line.
+fn least_lines(mode: u8) -> u8 {
+    if mode == 1 {
+        16
+    } else {
+        8
+    }
 }
 
 /// The first values outside the range of a field.
 fn beyond(name: &str, s: &Settings) -> [u8; 2] {
-    let last_top = |lines: u8| lines - height(s.mode) as u8 + 1;
+    let height = height(s.mode, s.display) as u8;
+    let last_top = |lines: u8| lines - height + 1;
     match name {
         "mode" => [3, 255],
-        "lines1" | "lines2" => [height(s.mode) as u8 - 1, 49],
+        "lines1" | "lines2" => [least_lines(s.mode) - 1, 49],
         "columns1" | "columns2" => [0, 79],
         "line 1" => [0, s.lines1 + 1],
         "line 2" => [0, s.lines2 + 1],
@@ -142,7 +168,7 @@ fn beyond(name: &str, s: &Settings) -> [u8; 2] {
         "column 2" => [0, s.columns2 + 1],
         "top 1" => [0, last_top(s.lines1) + 1],
         "top 2" => [0, last_top(s.lines2) + 1],
-        "step" => [0, height(s.mode) as u8 + 1],
+        "step" => [0, height + 1],
         "kind" => [4, 255],
         "charset" => [b'A', b'u'],
         "delay" | "interval" => [0, 128],

@@ -1,4 +1,5 @@
 -- `view_of`: the view of each mode.
+use mathlib.Core.Path.{refl}
 use native.Mathlib.Omega.{arith}
 use borrow.Author.Needs.{needs}
 use Rattle.paint.proofs.Views.{shows-halves, shows-sides, shows-whole}
@@ -9,31 +10,31 @@ returns : tie.Need-returns
 returns c =
     let entry = c .before .before .before .before in
     let s = entry .args .settings in
-    shows-sides s (entry .pre) (c .before .before .if1 .taken) (c .before .before .before .text-rows .ensures .0 s) (c .before .window .ensures) (c .window2 .ensures)
+    shows-sides s (entry .pre) (c .before .before .if1 .taken) (c .before .before .before .text-rows .ensures .0 s refl) (c .before .window .ensures) (c .window2 .ensures)
 
 returns-2 : tie.Need-returns-2
 returns-2 c =
     let entry = c .before .before .before .before in
     let s = entry .args .settings in
-    shows-whole s (entry .pre) (c .if2 .taken) (c .before .before .before .text-rows .ensures .0 s) (c .before .window3 .ensures)
+    shows-whole s (entry .pre) (c .if2 .taken) (c .before .before .before .text-rows .ensures .0 s refl) (c .before .window3 .ensures)
 
 mul-at : tie.Need-mul-at
 mul-at c =
     let entry = c .before .before .before .before in
     let s = entry .args .settings in
-    omega (arith, shows-halves s (entry .pre) (c .if2 .left) (c .before .before .if1 .left) (c .before .before .before .text-rows .ensures .0 s) (c .before .window3 .ensures) .framed)
+    omega (arith, shows-halves s (entry .pre) (c .if2 .left) (c .before .before .if1 .left) (c .before .before .before .text-rows .ensures .0 s refl) (c .before .window3 .ensures) .framed)
 
 add-at : tie.Need-add-at
 add-at c =
     let entry = c .before .before .before .before .before in
     let s = entry .args .settings in
-    omega (arith, shows-halves s (entry .pre) (c .before .if2 .left) (c .before .before .before .if1 .left) (c .before .before .before .before .text-rows .ensures .0 s) (c .before .before .window3 .ensures) .framed)
+    omega (arith, shows-halves s (entry .pre) (c .before .if2 .left) (c .before .before .before .if1 .left) (c .before .before .before .before .text-rows .ensures .0 s refl) (c .before .before .window3 .ensures) .framed)
 
 returns-3 : tie.Need-returns-3
 returns-3 c =
     let entry = c .before .before .before .before .before in
     let s = entry .args .settings in
-    shows-halves s (entry .pre) (c .before .if2 .left) (c .before .before .before .if1 .left) (c .before .before .before .before .text-rows .ensures .0 s) (c .before .before .window3 .ensures)
+    shows-halves s (entry .pre) (c .before .if2 .left) (c .before .before .before .if1 .left) (c .before .before .before .before .text-rows .ensures .0 s refl) (c .before .before .window3 .ensures)
 
 pub view-of-spec : {M : Type 1} → statement M
 view-of-spec =

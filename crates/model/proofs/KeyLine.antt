@@ -1,0 +1,98 @@
+-- P2: an accepted key call moves the picture only in row 8, so what is claimed of the shown screen after any call is true.
+use mathlib.Core.Path.{_∙_, _≡_, ap, refl, subst, sym}
+use Prim.Native.Nat.{_*_, _+_, _-_, _≤_, ℕ}
+use native.Mathlib.Omega.{arith}
+use mathlib.Core.Bool.{Bool, _&&_, _||_, cond, false, true}
+use mathlib.Core.List.{List, [], _∷_}
+use lib.Dec.{eqb}
+use borrow.Author.Tests.{ltb-true}
+use Rattle.model.specs.State.{State}
+use Rattle.model.specs.Screens.{base, cellAt, columnsOf, lineAt, placeOf, textRows}
+use Rattle.model.specs.Picture.{covered, halves, pictureAt, sides, textAt, under, windowAt}
+use Rattle.model.specs.Rules.{withSettings}
+use Rattle.model.specs.Items.{texted}
+use Rattle.model.specs.Calls.{Asked, Request, Terminal, accepted, closing, keyText, message, paints?, piece, request, served}
+use Rattle.model.specs.Claims.{Shown, ShownIn, aboveRow8, claimedBy}
+use Rattle.model.specs.Demand.{claimed, stands}
+use Rattle.model.proofs.Tests.{and-both, and-left, and-right, cond-at}
+use Rattle.model.proofs.Keep.{rows-low}
+use Rattle.model.proofs.Places.{under-text}
+use Rattle.model.proofs.CallLaws.{refused-leaves, shown-accepted}
+use Rattle.model.proofs.LineAfter.{leaves-texted}
+
+-- a key's text is not seen above row 8
+text-texted : (k : ℕ) (x : List ℕ) (st : State) (r c : ℕ) → textAt (texted k x st) r c ≡ textAt st r c
+unfolding texted withSettings textAt halves sides windowAt cellAt lineAt base columnsOf placeOf textRows
+text-texted k x st r c = refl
+
+under-texted : (k : ℕ) (x : List ℕ) (st : State) (r c : ℕ) → r ≤ 7 → under (texted k x st) r c ≡ under st r c
+under-texted k x st r c h =
+    under-text (texted k x st) r c (omega (arith, h, rows-low (texted k x st .settings))) ∙ text-texted k x st r c ∙ sym (under-text st r c (omega (arith, h, rows-low (st .settings))))
+
+pub picture-texted : (k : ℕ) (x : List ℕ) (st : State) (r c : ℕ) → r ≤ 7 → pictureAt (texted k x st) r c ≡ pictureAt st r c
+unfolding pictureAt covered texted withSettings
+picture-texted k x st r c h =
+    ap (λ (u : ℕ). elim (eqb (st .settings .secret) 1) as (λ b. ℕ) [ true ↦ 32 | false ↦ covered st r c u ]) (under-texted k x st r c h)
+
+-- an accepted key call leaves the places above row 8 as true as they were
+shown-key : (t : Terminal) (k : ℕ) (x : List ℕ) (c : ℕ → Bool) → ShownIn c t → ShownIn (λ p. c p && aboveRow8 p) (record { state = texted k x (t .state); shown = t .shown })
+shown-key t k x c h r j r₁ r₂ j₁ j₂ e =
+    let p : ℕ = 80 * (r - 1) + (j - 1) in
+    let l = ltb-true p _ (and-right (c p) (aboveRow8 p) e) in
+    h r j r₁ r₂ j₁ j₂ (and-left (c p) (aboveRow8 p) e) ∙ sym (picture-texted k x (t .state) r j (omega (arith, l)))
+
+-- what is claimed after any call is true
+module _ (t : Terminal) (room : ℕ) (c : ℕ → Bool) (h : ShownIn c t) where
+  after-painting : (a : Asked) → paints? a ≡ true → accepted t (request a room) ≡ true → ShownIn (claimedBy t (request a room) c) (served t (request a room))
+  after-painting a f e = λ r k r₁ r₂ k₁ k₂ z. shown-accepted t (request a room) e f .each r k r₁ r₂ k₁ k₂
+
+  after-refused : (a : Asked) → accepted t (request a room) ≡ false → ShownIn (claimedBy t (request a room) c) (served t (request a room))
+  unfolding claimedBy
+  after-refused a e =
+      let q : Request = request a room in
+      subst (ShownIn (claimedBy t q c)) (sym (refused-leaves t q e))
+      (subst (λ (b : Bool). ShownIn (λ p. cond b (paints? a || (c p && aboveRow8 p)) (c p)) t) (sym e) h)
+
+  after-key : (k : ℕ) (x : List ℕ) → accepted t (request (keyText k x) room) ≡ true → ShownIn (claimedBy t (request (keyText k x) room) c) (served t (request (keyText k x) room))
+  unfolding claimedBy
+  after-key k x e =
+      let q : Request = request (keyText k x) room in
+      subst (ShownIn (claimedBy t q c)) (sym (leaves-texted t k x room e))
+      (subst (λ (b : Bool). ShownIn (λ p. cond b (c p && aboveRow8 p) (c p)) (record { state = texted k x (t .state); shown = t .shown })) (sym e) (shown-key t k x c h))
+
+  shown-asked : (a : Asked) → ShownIn (claimedBy t (request a room) c) (served t (request a room))
+  shown-asked a = go (accepted t (request a room)) refl a refl
+    where
+      go : (b : Bool) → accepted t (request a room) ≡ b → (a′ : Asked) → a ≡ a′ → ShownIn (claimedBy t (request a room) c) (served t (request a room))
+      go false e a′ f = after-refused a e
+      go true e (message m) f = after-painting a (ap paints? f) e
+      go true e (piece m) f = after-painting a (ap paints? f) e
+      go true e closing f = after-painting a (ap paints? f) e
+      go true e (keyText k x) f =
+          subst (λ (y : Asked). ShownIn (claimedBy t (request y room) c) (served t (request y room))) (sym f) (after-key k x (subst (λ (y : Asked). accepted t (request y room) ≡ true) f e))
+
+pub shown-stands : (qs : List Request) (t : Terminal) (c : ℕ → Bool) → ShownIn c t → ShownIn (claimed t qs c) (stands t qs)
+unfolding stands claimed
+shown-stands [] t c h = h
+shown-stands (q ∷ qs) t c h = shown-stands qs (served t q) (claimedBy t q c) (shown-asked t (q .room) c h (q .asked))
+
+-- a place above row 8 that is claimed stays claimed
+claimed-step : (t : Terminal) (q : Request) (c : ℕ → Bool) (p : ℕ) → aboveRow8 p ≡ true → c p ≡ true → claimedBy t q c p ≡ true
+unfolding claimedBy
+claimed-step t q c p u e = cond-at (λ (b : Bool). b ≡ true) (accepted t q) _ _ (λ z. go (paints? (q .asked))) (λ z. e)
+  where
+    go : (b : Bool) → (b || (c p && aboveRow8 p)) ≡ true
+    go true = refl
+    go false = and-both (c p) (aboveRow8 p) e u
+
+claimed-above : (qs : List Request) (t : Terminal) (c : ℕ → Bool) (p : ℕ) → aboveRow8 p ≡ true → c p ≡ true → claimed t qs c p ≡ true
+unfolding claimed
+claimed-above [] t c p u e = e
+claimed-above (q ∷ qs) t c p u e = claimed-above qs (served t q) (claimedBy t q c) p u (claimed-step t q c p u e)
+
+-- so rows 1 to 7 stay true
+pub above-stands : (qs : List Request) (t : Terminal) → ShownIn aboveRow8 t → ShownIn aboveRow8 (stands t qs)
+above-stands qs t h = λ r k r₁ r₂ k₁ k₂ e. shown-stands qs t aboveRow8 h r k r₁ r₂ k₁ k₂ (claimed-above qs t aboveRow8 _ e e)
+
+pub shown-above : (t : Terminal) → Shown t → ShownIn aboveRow8 t
+shown-above t s = λ r k r₁ r₂ k₁ k₂ e. s .each r k r₁ r₂ k₁ k₂
