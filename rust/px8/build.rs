@@ -13,7 +13,7 @@ fn main() {
     // A new archive has to be linked anew; Cargo does not see that by itself.
     println!("cargo:rerun-if-changed={}", archive.display());
     if !archive.exists() {
-        println!("cargo:warning=no {}: make it with `rt staticlib board`", archive.display());
+        println!("cargo:warning=no {}: make it with `.ci/archive`", archive.display());
     }
     println!("cargo:rustc-link-search=native={}", folder.display());
     println!("cargo:rustc-link-lib=static=board");

@@ -81,7 +81,7 @@ fn take(
 ) -> Stream {
     let before = *shown;
     let given = stream.settings;
-    let outcome = board::px8_piece(given, piece, cells, layer, shown, printer);
+    let outcome = stream::px8_piece(given, piece, cells, layer, shown, printer);
     redrawn(stream.total, outcome, &before, shown)
 }
 
@@ -89,7 +89,7 @@ fn take(
 fn close(stream: Stream, cells: &mut [u8], layer: &mut [u8], shown: &mut [u8; SHOWN]) {
     let before = *shown;
     let given = stream.settings;
-    let outcome = board::px8_closing(given, cells, layer, shown);
+    let outcome = stream::px8_closing(given, cells, layer, shown);
     redrawn(stream.total, outcome, &before, shown);
     report::say(b"\x1b[10;01H");
 }

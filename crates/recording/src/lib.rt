@@ -97,7 +97,7 @@ pub fn play_piece(
     ensures { λ r. ⌜ Plays (Asked.piece (now (piece .entry))) (terminal (played .settings) (now (cells .entry)) (now (layer .entry)) (now (shown .entry))) (now (printer .entry)) (played .printer) (r .printer) (terminal (r .settings) (now (cells .exit)) (now (layer .exit)) (now (shown .exit))) (now (printer .exit)) ⌝ }
 {
     let before = played.settings;
-    let outcome = board::px8_piece(before, piece, cells, layer, shown, printer);
+    let outcome = stream::px8_piece(before, piece, cells, layer, shown, printer);
     told(number, played.printer, outcome, printer)
 }
 
@@ -112,7 +112,7 @@ pub fn play_closing(
     ensures { λ r. ⌜ Plays Asked.closing (terminal (played .settings) (now (cells .entry)) (now (layer .entry)) (now (shown .entry))) [] (played .printer) (r .printer) (terminal (r .settings) (now (cells .exit)) (now (layer .exit)) (now (shown .exit))) [] ⌝ }
 {
     let before = played.settings;
-    let outcome = board::px8_closing(before, cells, layer, shown);
+    let outcome = stream::px8_closing(before, cells, layer, shown);
     let none = [0u8; 0];
     told(number, played.printer, outcome, &none)
 }

@@ -26,9 +26,13 @@ fn symbols() -> Vec<(String, char)> {
     text.lines().filter_map(symbol).collect()
 }
 
+/// The archive has two objects with much code in common: the calls are all
+/// that is global in them, each once, so that neither uses the other's copy.
 #[test]
-fn the_calls_are_exported() {
-    let ours = symbols().into_iter().filter(|(name, kind)| name.starts_with("px8_") && *kind != 'U');
+fn only_the_calls_are_exported() {
+    let offered = |kind: char| kind.is_ascii_uppercase() && kind != 'U';
+    let mut ours: Vec<_> = symbols().into_iter().filter(|(_, kind)| offered(*kind)).collect();
+    ours.sort();
     let expected = [
         "px8_closing",
         "px8_compare",
@@ -41,7 +45,7 @@ fn the_calls_are_exported() {
         "px8_printed",
     ];
     let expected = expected.map(|name| (name.to_string(), 'T'));
-    assert_eq!(ours.collect::<BTreeSet<_>>(), BTreeSet::from(expected));
+    assert_eq!(ours, expected);
 }
 
 #[test]

@@ -4,8 +4,8 @@ use borrow.Author.Needs.{needs}
 use Rattle.model.specs.Calls.{piece, terminal}
 use Rattle.pieces.proofs.Pieces.{promised-not}
 use Rattle.pieces.proofs.Unsound.{line-refused}
-use Rattle.board.proofs.behind.Statement.{statement}
-use Rattle.board.proofs.behind.Tie as tie
+use Rattle.stream.proofs.behind.Statement.{statement}
+use Rattle.stream.proofs.behind.Tie as tie
 
 returns : tie.Need-returns
 returns c =

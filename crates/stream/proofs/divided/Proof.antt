@@ -12,23 +12,23 @@ use Rattle.pieces.proofs.Ends.{Ended, Rest, array-long, ended, rest-ended}
 use Rattle.pieces.proofs.Piecing.{addable, behind-few, both-near, both-served, first-fits, first-refused}
 use Rattle.pieces.proofs.Quiet.{by-quiet}
 use Rattle.pieces.proofs.Refusals.{Told, told, told-few, told-line}
-use Rattle.board.proofs.divided.Statement.{statement}
-use Rattle.board.proofs.divided.Tie as tie
+use Rattle.stream.proofs.divided.Statement.{statement}
+use Rattle.stream.proofs.divided.Tie as tie
 
 -- the places on the way back from the second message call
-abbrev rest-of : tie.After-px8-message2 → tie.After-whole-end2
+abbrev rest-of : tie.After-message2 → tie.After-whole-end2
 rest-of c = c .before .before .before .before .before .before
 
 abbrev if-of : tie.After-whole-end2 → tie.Else1
 if-of c = c .before .before
 
-abbrev one-of : tie.Else1 → tie.After-px8-message
+abbrev one-of : tie.Else1 → tie.After-message
 one-of c = c .before .before .before .before .before .before .before .before .before .before
 
-abbrev quieted-of : tie.After-px8-message → tie.After-quieted
+abbrev quieted-of : tie.After-message → tie.After-quieted
 quieted-of c = c .before .before .before .before .before .before
 
-abbrev end-of : tie.After-px8-message → tie.After-whole-end
+abbrev end-of : tie.After-message → tie.After-whole-end
 end-of c = quieted-of c .before
 
 abbrev start-of : tie.After-whole-end → tie.Start
@@ -76,8 +76,8 @@ slice-aggregate-whole-end c = sym (length-take-le _ _ (long (c .before)))
 array-share-prefix-bytes-2 : tie.Need-array-share-prefix-bytes-2
 array-share-prefix-bytes-2 c = omega (arith, known (c .before))
 
-slice-aggregate-px8-message : tie.Need-slice-aggregate-px8-message
-slice-aggregate-px8-message c = sym (length-take-le _ _ (omega (arith, known (c .before .before))))
+slice-aggregate-message : tie.Need-slice-aggregate-message
+slice-aggregate-message c = sym (length-take-le _ _ (omega (arith, known (c .before .before))))
 
 returns : tie.Need-returns
 returns c =
@@ -85,7 +85,7 @@ returns c =
     let start = start-of (end-of one) in
     let a = start .args in
     first-refused (a .settings) (a .piece .now) (a .cells .now) (a .layer .now) (a .shown .now) (a .printer .now) (size start) (allowed start) _ _ _ _ (known (end-of one)) (omega (arith, told-line (allowed start)))
-    _ _ _ _ _ _ (by-quiet (a .settings) (quieted-of one .quieted .ensures) (one .px8-message .ensures)) (c .before .if1 .taken)
+    _ _ _ _ _ _ (by-quiet (a .settings) (quieted-of one .quieted .ensures) (one .message .ensures)) (c .before .if1 .taken)
 
 sub-from : tie.Need-sub-from
 sub-from c = omega (arith, known (end-of (one-of c)) .high)
@@ -96,21 +96,21 @@ from-low c = let end = end-of (one-of c) in omega (arith, known end .low, start-
 add-to : tie.Need-add-to
 add-to c = omega (arith, after c .low, told-few (allowed (start-of (end-of (one-of (if-of c))))))
 
-part-px8-message-end : tie.Need-part-px8-message-end
-part-px8-message-end c = after c .low
+part-message-end : tie.Need-part-message-end
+part-message-end c = after c .low
 
-fits : (c : tie.After-px8-message) → c .px8-message .result .answer .printed ≤ length (c .px8-message .last .1 .1 .1 .1 .1 .0)
+fits : (c : tie.After-message) → c .message .result .answer .printed ≤ length (c .message .last .1 .1 .1 .1 .1 .0)
 fits c =
     let start = start-of (end-of c) in
     let a = start .args in
     first-fits (a .settings) (a .piece .now) (a .cells .now) (a .layer .now) (a .shown .now) (a .printer .now) (size start) (allowed start) _ _ _ _ (known (end-of c)) (omega (arith, told-line (allowed start)))
-    _ _ _ _ _ _ (by-quiet (a .settings) (quieted-of c .quieted .ensures) (c .px8-message .ensures))
+    _ _ _ _ _ _ (by-quiet (a .settings) (quieted-of c .quieted .ensures) (c .message .ensures))
 
-sub-px8-message-2 : tie.Need-sub-px8-message-2
-sub-px8-message-2 c = let rest = c .before .before .before .before in fits (one-of (if-of rest))
+sub-message-2 : tie.Need-sub-message-2
+sub-message-2 c = let rest = c .before .before .before .before in fits (one-of (if-of rest))
 
-part-px8-message-start-2 : tie.Need-part-px8-message-start-2
-part-px8-message-start-2 c = let rest = c .before .before .before .before in fits (one-of (if-of rest))
+part-message-start-2 : tie.Need-part-message-start-2
+part-message-start-2 c = let rest = c .before .before .before .before in fits (one-of (if-of rest))
 
 cast-together : tie.Need-cast-together
 cast-together c =
@@ -126,7 +126,7 @@ together-requires c κs =
     let start = start-of (end-of one) in
     let a = start .args in
     addable (a .settings) (a .piece .now) (a .cells .now) (a .layer .now) (a .shown .now) (a .printer .now) (size start) (allowed start) _ _ (known (end-of one)) (start .pre .1) _ (after rest)
-    _ _ _ _ _ _ (by-quiet (a .settings) (quieted-of one .quieted .ensures) (one .px8-message .ensures)) (if-of rest .if1 .left) _ _ _ _ _ _ (two .px8-message2 .ensures) (omega (arith, start .good .1 .1 .1 .1 .1))
+    _ _ _ _ _ _ (by-quiet (a .settings) (quieted-of one .quieted .ensures) (one .message .ensures)) (if-of rest .if1 .left) _ _ _ _ _ _ (two .message2 .ensures) (omega (arith, start .good .1 .1 .1 .1 .1))
 
 cast-taken : tie.Need-cast-taken
 cast-taken c =
@@ -173,7 +173,7 @@ counted-from-requires c κs =
     let both = c .before .before .before .together in
     let o : both .result .offset ≤ 4224 =
     both-near (a .settings) (a .piece .now) (a .cells .now) (a .layer .now) (a .shown .now) (a .printer .now) (size start) (allowed start) _ _ (known (end-of one)) (start .pre .1) _ (after rest)
-    _ _ _ _ _ _ (by-quiet (a .settings) (quieted-of one .quieted .ensures) (one .px8-message .ensures)) (if-of rest .if1 .left) _ _ _ _ _ _ (two .px8-message2 .ensures) _ (both .ensures) in
+    _ _ _ _ _ _ (by-quiet (a .settings) (quieted-of one .quieted .ensures) (one .message .ensures)) (if-of rest .if1 .left) _ _ _ _ _ _ (two .message2 .ensures) _ (both .ensures) in
     omega (arith, known (end-of one) .line, o)
 
 returns-2 : tie.Need-returns-2
@@ -184,17 +184,17 @@ returns-2 c =
     let start = start-of (end-of one) in
     let a = start .args in
     both-served (a .settings) (a .piece .now) (a .cells .now) (a .layer .now) (a .shown .now) (a .printer .now) (size start) (allowed start) _ _ (known (end-of one)) (start .pre .1) _ (after rest)
-    _ _ _ _ _ _ (by-quiet (a .settings) (quieted-of one .quieted .ensures) (one .px8-message .ensures)) (if-of rest .if1 .left) _ _ _ _ _ _ (two .px8-message2 .ensures)
+    _ _ _ _ _ _ (by-quiet (a .settings) (quieted-of one .quieted .ensures) (one .message .ensures)) (if-of rest .if1 .left) _ _ _ _ _ _ (two .message2 .ensures)
     _ _ _ (c .before .before .before .before .together .ensures) (c .counted-from .ensures) (c .before .lined .ensures)
 
 same-length-5 : tie.Need-same-length-5
-same-length-5 c = let two = c .before .before .before .before .before .before .before .before .before .before .before .before .before in omega (arith, two .px8-message2 .kept, one-of (if-of (rest-of two)) .px8-message .kept)
+same-length-5 c = let two = c .before .before .before .before .before .before .before .before .before .before .before .before .before in omega (arith, two .message2 .kept, one-of (if-of (rest-of two)) .message .kept)
 
 same-length-6 : tie.Need-same-length-6
-same-length-6 c = let two = c .before .before .before .before .before .before .before .before .before .before .before .before .before in omega (arith, two .px8-message2 .kept, one-of (if-of (rest-of two)) .px8-message .kept)
+same-length-6 c = let two = c .before .before .before .before .before .before .before .before .before .before .before .before .before in omega (arith, two .message2 .kept, one-of (if-of (rest-of two)) .message .kept)
 
 same-length-7 : tie.Need-same-length-7
-same-length-7 c = let two = c .before .before .before .before .before .before .before .before .before .before .before .before .before in omega (arith, two .px8-message2 .kept, one-of (if-of (rest-of two)) .px8-message .kept)
+same-length-7 c = let two = c .before .before .before .before .before .before .before .before .before .before .before .before .before in omega (arith, two .message2 .kept, one-of (if-of (rest-of two)) .message .kept)
 
 -- the printer buffer's is a part of the promise
 same-length-8 : tie.Need-same-length-8
@@ -212,7 +212,7 @@ divided-spec =
     (λ c κs. search needs)
     (λ c κs. search needs)
     array-share-prefix-bytes-2
-    slice-aggregate-px8-message
+    slice-aggregate-message
     (λ c κs. search needs)
     (λ c. search needs)
     (λ c. search needs)
@@ -227,9 +227,9 @@ divided-spec =
     add-to
     (λ c. search needs)
     (λ c. search needs)
-    part-px8-message-end
-    sub-px8-message-2
-    part-px8-message-start-2
+    part-message-end
+    sub-message-2
+    part-message-start-2
     (λ c. search needs)
     (λ c κs. search needs)
     cast-together

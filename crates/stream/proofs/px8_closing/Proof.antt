@@ -10,8 +10,8 @@ use Rattle.line.proofs.Arrays.{unmapped}
 use Rattle.pieces.specs.Parts.{closingNumber}
 use Rattle.pieces.proofs.Closing.{closing-by, closing-near, closing-not, closing-served, closing-sound}
 use Rattle.pieces.proofs.Quiet.{by-quiet}
-use Rattle.board.proofs.px8_closing.Statement.{statement}
-use Rattle.board.proofs.px8_closing.Tie as tie
+use Rattle.stream.proofs.px8_closing.Statement.{statement}
+use Rattle.stream.proofs.px8_closing.Tie as tie
 
 -- the array is as long as its type says
 size : (c : tie.Start) → length (c .args .settings .waiting) ≡ 12
@@ -29,7 +29,7 @@ module _ (c : tie.Else1) where
   line = let a = first c .args in closing-sound (a .settings) (a .cells .now) (a .layer .now) (a .shown .now) (size (first c)) zero
 
 -- where the message call stands: the place of number 0 before it
-abbrev told : tie.After-px8-message → tie.Else1
+abbrev told : tie.After-message → tie.Else1
 told c = c .before .before .before .before .before .before .before .before .before
 
 returns : tie.Need-returns
@@ -40,15 +40,15 @@ returns c =
 array-share-prefix-waiting : tie.Need-array-share-prefix-waiting
 array-share-prefix-waiting c = let there = c .before .before .before in omega (arith, line there .fits, size (first there))
 
-slice-aggregate-px8-message : tie.Need-slice-aggregate-px8-message
-slice-aggregate-px8-message c = let there = c .before .before .before .before in sym (length-take-le _ _ (omega (arith, line there .fits, size (first there))))
+slice-aggregate-message : tie.Need-slice-aggregate-message
+slice-aggregate-message c = let there = c .before .before .before .before in sym (length-take-le _ _ (omega (arith, line there .fits, size (first there))))
 
 returns-2 : tie.Need-returns-2
 returns-2 c =
     let asked = c .before .before .before .before .before .before .before .before .before .before in
     let start = first (told asked) in
     let a = start .args in
-    closing-by (a .settings) (a .cells .now) (a .layer .now) (a .shown .now) (size start) (zero (told asked)) _ _ _ _ _ _ (by-quiet (a .settings) (asked .before .before .before .before .before .before .quieted .ensures) (asked .px8-message .ensures)) (c .before .if2 .taken)
+    closing-by (a .settings) (a .cells .now) (a .layer .now) (a .shown .now) (size start) (zero (told asked)) _ _ _ _ _ _ (by-quiet (a .settings) (asked .before .before .before .before .before .before .quieted .ensures) (asked .message .ensures)) (c .before .if2 .taken)
 
 cast-start : tie.Need-cast-start
 cast-start c = let asked = c .before .before .before .before .before .before .before .before .before .before in omega (arith, line (told asked) .fits)
@@ -61,17 +61,17 @@ counted-from-requires c κs =
     let asked = c .before .before .before .before .before .before .before .before .before .before .before .before .before in
     let start = first (told asked) in
     let a = start .args in
-    closing-near (a .settings) (a .cells .now) (a .layer .now) (a .shown .now) (size start) (zero (told asked)) _ _ _ _ _ _ (by-quiet (a .settings) (asked .before .before .before .before .before .before .quieted .ensures) (asked .px8-message .ensures))
+    closing-near (a .settings) (a .cells .now) (a .layer .now) (a .shown .now) (size start) (zero (told asked)) _ _ _ _ _ _ (by-quiet (a .settings) (asked .before .before .before .before .before .before .quieted .ensures) (asked .message .ensures))
 
 same-length-7 : tie.Need-same-length-7
-same-length-7 c = let asked = c .before .before .before .before .before .before .before .before .before .before .before .before .before .before in search (needs, asked .px8-message)
+same-length-7 c = let asked = c .before .before .before .before .before .before .before .before .before .before .before .before .before .before in search (needs, asked .message)
 
 returns-3 : tie.Need-returns-3
 returns-3 c =
     let asked = c .before .before .before .before .before .before .before .before .before .before .before .before .before .before in
     let start = first (told asked) in
     let a = start .args in
-    closing-served (a .settings) (a .cells .now) (a .layer .now) (a .shown .now) (size start) (zero (told asked)) _ _ _ _ _ _ (by-quiet (a .settings) (asked .before .before .before .before .before .before .quieted .ensures) (asked .px8-message .ensures)) (c .before .before .before .before .before .if2 .left) _ _ (c .counted-from .ensures) (c .before .lined .ensures)
+    closing-served (a .settings) (a .cells .now) (a .layer .now) (a .shown .now) (size start) (zero (told asked)) _ _ _ _ _ _ (by-quiet (a .settings) (asked .before .before .before .before .before .before .quieted .ensures) (asked .message .ensures)) (c .before .before .before .before .before .if2 .left) _ _ (c .counted-from .ensures) (c .before .lined .ensures)
 
 pub px8-closing-spec : {M : Type 1} → statement M
 px8-closing-spec =
@@ -86,7 +86,7 @@ px8-closing-spec =
     (λ c. search needs)
     (λ c κs. search needs)
     array-share-prefix-waiting
-    slice-aggregate-px8-message
+    slice-aggregate-message
     (λ c. search needs)
     (λ c κs. search needs)
     (λ c. search needs)

@@ -11,14 +11,14 @@ use Rattle.pieces.proofs.Ends.{Ended, array-long, ended}
 use Rattle.pieces.proofs.Piecing.{first-near, first-refused, one-served, rest-few}
 use Rattle.pieces.proofs.Quiet.{by-quiet}
 use Rattle.pieces.proofs.Refusals.{Told, told, told-line}
-use Rattle.board.proofs.joined.Statement.{statement}
-use Rattle.board.proofs.joined.Tie as tie
+use Rattle.stream.proofs.joined.Statement.{statement}
+use Rattle.stream.proofs.joined.Tie as tie
 
 -- the places on the way back from the message call
-abbrev quieted-of : tie.After-px8-message → tie.After-quieted
+abbrev quieted-of : tie.After-message → tie.After-quieted
 quieted-of c = c .before .before .before .before .before .before
 
-abbrev end-of : tie.After-px8-message → tie.After-whole-end
+abbrev end-of : tie.After-message → tie.After-whole-end
 end-of c = quieted-of c .before
 
 abbrev start-of : tie.After-whole-end → tie.Start
@@ -57,8 +57,8 @@ slice-aggregate-whole-end c = sym (length-take-le _ _ (long (c .before)))
 array-share-prefix-bytes-2 : tie.Need-array-share-prefix-bytes-2
 array-share-prefix-bytes-2 c = omega (arith, known (c .before))
 
-slice-aggregate-px8-message : tie.Need-slice-aggregate-px8-message
-slice-aggregate-px8-message c = sym (length-take-le _ _ (omega (arith, known (c .before .before))))
+slice-aggregate-message : tie.Need-slice-aggregate-message
+slice-aggregate-message c = sym (length-take-le _ _ (omega (arith, known (c .before .before))))
 
 returns : tie.Need-returns
 returns c =
@@ -66,7 +66,7 @@ returns c =
     let start = start-of (end-of one) in
     let a = start .args in
     first-refused (a .settings) (a .piece .now) (a .cells .now) (a .layer .now) (a .shown .now) (a .printer .now) (size start) (allowed start) _ _ _ _ (known (end-of one)) (omega (arith, told-line (allowed start), start .pre))
-    _ _ _ _ _ _ (by-quiet (a .settings) (quieted-of one .quieted .ensures) (one .px8-message .ensures)) (c .before .if1 .taken)
+    _ _ _ _ _ _ (by-quiet (a .settings) (quieted-of one .quieted .ensures) (one .message .ensures)) (c .before .if1 .taken)
 
 cast-taken : tie.Need-cast-taken
 cast-taken c = let one = c .before .before .before .before .before .before .before .before .before .before in omega (arith, start-of (end-of one) .pre)
@@ -102,13 +102,13 @@ counted-from-requires c κs =
     let start = start-of (end-of one) in
     let a = start .args in
     let k = known (end-of one) in
-    let o : one .px8-message .result .answer .offset ≤ 64 =
+    let o : one .message .result .answer .offset ≤ 64 =
     first-near (a .settings) (a .piece .now) (a .cells .now) (a .layer .now) (a .shown .now) (a .printer .now) (size start) (allowed start) _ _ _ _ k (omega (arith, k .line, start .pre))
-    _ _ _ _ _ _ (by-quiet (a .settings) (quieted-of one .quieted .ensures) (one .px8-message .ensures)) in
+    _ _ _ _ _ _ (by-quiet (a .settings) (quieted-of one .quieted .ensures) (one .message .ensures)) in
     omega (arith, k .line, o)
 
 same-length-5 : tie.Need-same-length-5
-same-length-5 c = let one = c .before .before .before .before .before .before .before .before .before .before .before .before .before .before .before in omega (arith, one .px8-message .kept)
+same-length-5 c = let one = c .before .before .before .before .before .before .before .before .before .before .before .before .before .before .before in omega (arith, one .message .kept)
 
 returns-2 : tie.Need-returns-2
 returns-2 c =
@@ -117,7 +117,7 @@ returns-2 c =
     let a = start .args in
     let served = c .before .before .before .before .before .if1 .left in
     one-served (a .settings) (a .piece .now) (a .cells .now) (a .layer .now) (a .shown .now) (a .printer .now) (size start) (allowed start) _ _ _ (known (end-of one)) (omega (arith, told-line (allowed start), start .pre))
-    _ _ _ _ _ _ (by-quiet (a .settings) (quieted-of one .quieted .ensures) (one .px8-message .ensures)) served _ _ (c .counted-from .ensures) (c .before .lined .ensures)
+    _ _ _ _ _ _ (by-quiet (a .settings) (quieted-of one .quieted .ensures) (one .message .ensures)) served _ _ (c .counted-from .ensures) (c .before .lined .ensures)
 
 pub joined-spec : {M : Type 1} → statement M
 joined-spec =
@@ -131,7 +131,7 @@ joined-spec =
     (λ c κs. search needs)
     (λ c κs. search needs)
     array-share-prefix-bytes-2
-    slice-aggregate-px8-message
+    slice-aggregate-message
     (λ c κs. search needs)
     (λ c. search needs)
     (λ c. search needs)

@@ -5,8 +5,8 @@ use lib.Seq.{length-take-le}
 use borrow.Author.Needs.{needs}
 use borrow.Author.Tests.{not-false}
 use Rattle.pieces.proofs.PlainPiece.{Plain, plain-end, plain-near, plain-refused, plain-rest, plain-served, plain-whole}
-use Rattle.board.proofs.px8_piece.Statement.{statement}
-use Rattle.board.proofs.px8_piece.Tie as tie
+use Rattle.stream.proofs.px8_piece.Statement.{statement}
+use Rattle.stream.proofs.px8_piece.Tie as tie
 
 -- once the end of its whole items is found
 abbrev first : tie.After-whole-end → tie.Start
@@ -16,17 +16,17 @@ plain : (c : tie.After-whole-end) → let a = first c .args in Plain (a .setting
 plain c = let p = c .before .before .plain .ensures (not-false _ (c .before .if1 .left)) in record { none = p .0; few = p .1 .0; low = p .1 .1; ends = c .whole-end .ensures }
 
 -- where the message call stands: the place of that end
-abbrev found : tie.After-px8-message → tie.After-whole-end
+abbrev found : tie.After-message → tie.After-whole-end
 found c = c .before .before .before .before .before .before
 
-slice-aggregate-px8-message : tie.Need-slice-aggregate-px8-message
-slice-aggregate-px8-message c = sym (length-take-le _ _ (omega (arith, plain-end (plain (c .before)))))
+slice-aggregate-message : tie.Need-slice-aggregate-message
+slice-aggregate-message c = sym (length-take-le _ _ (omega (arith, plain-end (plain (c .before)))))
 
 returns-2 : tie.Need-returns-2
 returns-2 c =
     let asked = c .before .before .before .before .before .before .before .before .before .before in
     let a = first (found asked) .args in
-    plain-refused (plain (found asked)) (a .cells .now) (a .layer .now) (a .shown .now) (a .printer .now) _ _ _ _ _ _ (asked .px8-message .ensures) (omega (arith, c .if2))
+    plain-refused (plain (found asked)) (a .cells .now) (a .layer .now) (a .shown .now) (a .printer .now) _ _ _ _ _ _ (asked .message .ensures) (omega (arith, c .if2))
 
 cast-taken : tie.Need-cast-taken
 cast-taken c = let asked = c .before .before .before .before .before .before .before .before .before .before in omega (arith, plain (found asked) .few)
@@ -38,7 +38,7 @@ counted-from-requires : tie.Need-counted-from-requires
 counted-from-requires c κs =
     let asked = c .before .before .before .before .before .before .before .before .before .before .before in
     let a = first (found asked) .args in
-    omega (arith, plain-near (plain (found asked)) (a .cells .now) (a .layer .now) (a .shown .now) (a .printer .now) _ _ _ _ _ _ (asked .px8-message .ensures))
+    omega (arith, plain-near (plain (found asked)) (a .cells .now) (a .layer .now) (a .shown .now) (a .printer .now) _ _ _ _ _ _ (asked .message .ensures))
 
 lined-requires : tie.Need-lined-requires
 lined-requires c κs =
@@ -48,7 +48,7 @@ lined-requires c κs =
 same-length-9 : tie.Need-same-length-9
 same-length-9 c =
     let asked = c .before .before .before .before .before .before .before .before .before .before .before .before .before .before .before in
-    omega (arith, asked .px8-message .kept)
+    omega (arith, asked .message .kept)
 
 returns-3 : tie.Need-returns-3
 returns-3 c =
@@ -56,7 +56,7 @@ returns-3 c =
     let answered = counted .before .before in
     let asked = answered .before .before .before .before .before .before .before .before .before .before in
     let a = first (found asked) .args in
-    plain-served (plain (found asked)) (a .cells .now) (a .layer .now) (a .shown .now) (a .printer .now) _ _ _ _ _ _ (asked .px8-message .ensures) (omega (arith, answered .if2)) _ _ (counted .counted-from .ensures) (c .lined .ensures)
+    plain-served (plain (found asked)) (a .cells .now) (a .layer .now) (a .shown .now) (a .printer .now) _ _ _ _ _ _ (asked .message .ensures) (omega (arith, answered .if2)) _ _ (counted .counted-from .ensures) (c .lined .ensures)
 
 returns-4 : tie.Need-returns-4
 returns-4 c =
@@ -64,7 +64,7 @@ returns-4 c =
     let answered = counted .before .before in
     let asked = answered .before .before .before .before .before .before .before .before .before .before in
     let a = first (found asked) .args in
-    plain-whole (plain (found asked)) (a .cells .now) (a .layer .now) (a .shown .now) (a .printer .now) _ _ _ _ _ _ (asked .px8-message .ensures) (omega (arith, answered .if2)) (omega (arith, c .before .if3)) _ (counted .counted-from .ensures)
+    plain-whole (plain (found asked)) (a .cells .now) (a .layer .now) (a .shown .now) (a .printer .now) _ _ _ _ _ _ (asked .message .ensures) (omega (arith, answered .if2)) (omega (arith, c .before .if3)) _ (counted .counted-from .ensures)
 
 pub px8-piece-spec : {M : Type 1} → statement M
 px8-piece-spec =
@@ -78,7 +78,7 @@ px8-piece-spec =
     (λ c. search needs)
     (λ c. search needs)
     (λ c κs. search needs)
-    slice-aggregate-px8-message
+    slice-aggregate-message
     (λ c κs. search needs)
     (λ c. search needs)
     (λ c. search needs)
