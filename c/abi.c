@@ -1,8 +1,8 @@
 /*
  * Holds the header and the archive together: every field of the settings is
  * set by a sequence, a piece or a key text of its own and read back through the
- * header's structures, as are the answer's fields; streams and the key line give
- * what document 02 says of them, and refused calls leave every byte alone.
+ * header's structures, as are the answer's fields; streams, the key line and long
+ * lines give what document 02 says of them, and refused calls leave every byte alone.
  *
  *   gcc -std=c99 -o abi abi.c libboard.a && ./abi
  *
@@ -113,6 +113,7 @@ static void opening_settings(px8_settings s)
     check(all(s.patterns, PX8_PATTERNS, 0), "opening: patterns");
     check(all(s.waiting, PX8_WAITING_MOST, 0) && s.held == 0 && s.count == 0, "opening: stream");
     check(all(s.texts, PX8_TEXTS, PX8_BLANK), "opening: texts");
+    check(all(s.marks, PX8_LINE_MARKS, 0), "opening: marks");
 }
 
 static void opening(void)
@@ -131,11 +132,13 @@ static void opening(void)
 
 /* ---- every field of the settings ---- */
 
-/* Before the padding all bytes count; behind it there are the count and the texts. */
+/* Before the padding all bytes count; behind it there are the count, the texts and
+ * the marks. */
 static int same_settings(px8_settings one, px8_settings other)
 {
     return memcmp(&one, &other, offsetof(px8_settings, held) + 1) == 0 && one.count == other.count &&
-           memcmp(one.texts, other.texts, PX8_TEXTS) == 0;
+           memcmp(one.texts, other.texts, PX8_TEXTS) == 0 &&
+           memcmp(one.marks, other.marks, PX8_LINE_MARKS) == 0;
 }
 
 /* Sends the bytes to a terminal just opened: the settings afterwards must be
@@ -270,6 +273,25 @@ static void texts(void)
               "texts");
         s = outcome.settings;
     }
+}
+
+/* The mark of each line but the last, on both screens, by a byte printed in its
+ * last column. */
+static void marks(void)
+{
+    uint8_t bytes[] = {27, 209, 0, 27, 149, 1, 27, 61, 0, 111, 'A'};
+    int screen, line;
+    for (screen = 0; screen < 2; screen++)
+        for (line = 1; line < 24; line++) {
+            px8_settings s = open_desk().settings;
+            bytes[2] = (uint8_t)screen;
+            bytes[8] = (uint8_t)(31 + line);
+            s.selected = (uint8_t)screen;
+            s.tracking = 0;
+            s.places[screen].line = (uint8_t)(line + 1);
+            s.marks[PX8_MARK_AT(screen, line)] = 1;
+            check_settings(s, bytes, sizeof bytes, "marks");
+        }
 }
 
 /* ---- the answer and the stores ---- */
@@ -523,6 +545,58 @@ static void layer(void)
     check(at.shown[place] == '*' && at.cells[place] == PX8_BLANK, "layer: shown, not stored");
 }
 
+/* ---- long lines ---- */
+
+/* Prints so many lines full of 'A', then sends the bytes: just these lines of screen 1
+ * run on. */
+static px8_settings check_runs(size_t full, const char *bytes, size_t length, const char *runs,
+                               const char *what)
+{
+    static uint8_t text[PX8_WIDTH * 8];
+    uint8_t expected[PX8_LINE_MARKS] = {0};
+    px8_outcome out;
+    memset(text, 'A', sizeof text);
+    for (; *runs; runs++)
+        expected[PX8_MARK_AT(0, *runs)] = 1;
+    fill_desk();
+    out = send_message(open_desk().settings, text, PX8_WIDTH * full);
+    out = send_message(out.settings, (const uint8_t *)bytes, length);
+    check(out.answer.number == PX8_SERVED && out.answer.refused == 0 &&
+              memcmp(out.settings.marks, expected, sizeof expected) == 0 && guards_stay(),
+          what);
+    return out.settings;
+}
+
+#define RUNS(full, bytes, runs) check_runs(full, bytes, sizeof bytes - 1, runs, "long lines: " #bytes)
+
+static void long_lines(void)
+{
+    px8_settings settings;
+    RUNS(1, "A\33=  \33T", "");
+    check(all(at.cells, PX8_CELLS, PX8_BLANK), "long lines: erased");
+    settings = RUNS(0, "\33=7oA", "\27");
+    check(at.cells[PX8_WIDTH * 23 - 1] == 'A' && settings.places[0].line == 24, "long lines: lifted");
+    RUNS(0, "\33=7oAB\33=6o\33T", "");
+    check(all(at.cells, PX8_CELLS, PX8_BLANK), "long lines: erased to the last");
+    RUNS(2, "\33\221\0\3", "");
+    RUNS(2, "\33\221\0\4", "\2");
+    RUNS(2, "\33\220\1\27", "");
+    RUNS(5, "\33\221\2\4", "\1\4");
+    RUNS(3, "\33\220\2\1", "\1");
+    RUNS(5, "\33\220\1\2", "\4\5");
+    RUNS(2, "rest\33=! \33T", "\1");
+    check(all(at.cells, PX8_WIDTH, 'A') && all(at.cells + PX8_WIDTH, PX8_CELLS - PX8_WIDTH, PX8_BLANK),
+          "long lines: from the second line");
+    RUNS(3, "\33=\67 \n", "\1\2");
+    RUNS(0, "\33\320\2\10\1#AB", "\1\2");
+    RUNS(5, "\33=\42!\33Y", "\1\2");
+    RUNS(5, "\33\321\1\33*", "\1\2\3\4\5");
+    RUNS(5, "\33*", "");
+    RUNS(5, "\14", "");
+    RUNS(5, "\33\320\0\30\30", "");
+    RUNS(5, "\33= /over\r\10\n", "\1\2\3\4\5");
+}
+
 static void printed(void)
 {
     static const uint8_t buffer[3] = {1, 2, 3};
@@ -707,6 +781,24 @@ static void unsound_key_lines(void)
     check_unsound(settings, "unsound: 7 lines with the key line");
 }
 
+/* A mark other than 0 or 1, on a screen's last line or past it. */
+static void unsound_marks(void)
+{
+    const struct { int at; uint8_t mark; } wrong[] = {
+        {PX8_MARK_AT(0, 1), 2},  {PX8_MARK_AT(0, 24), 1}, {PX8_MARK_AT(0, 25), 1}, {PX8_MARK_AT(0, 48), 1},
+        {PX8_MARK_AT(1, 5), 255}, {PX8_MARK_AT(1, 24), 1}, {PX8_MARK_AT(1, 48), 1}};
+    size_t n;
+    px8_settings settings;
+    for (n = 0; n < sizeof wrong / sizeof wrong[0]; n++) {
+        settings = open_desk().settings;
+        settings.marks[wrong[n].at] = wrong[n].mark;
+        check_unsound(settings, "unsound: a mark");
+    }
+    settings = open_desk().settings;
+    settings.marks[PX8_MARK_AT(0, 23)] = settings.marks[PX8_MARK_AT(1, 23)] = 1;
+    check(close_stream(settings).answer.number == PX8_SERVED, "sound: the line before the last");
+}
+
 /* Lengths of 0 with null pointers are served where any length is. */
 static void empty_buffers(void)
 {
@@ -824,6 +916,7 @@ int main(void)
     patterns();
     waiting();
     texts();
+    marks();
     answer();
     parameters();
     stream_escapes();
@@ -835,6 +928,7 @@ int main(void)
     key_line();
     key_line_in_modes();
     key_line_windows();
+    long_lines();
     layer();
     printed();
     refused_openings();
@@ -844,6 +938,7 @@ int main(void)
     refused_streams();
     refused_key_texts();
     unsound_key_lines();
+    unsound_marks();
     empty_buffers();
     compared();
     repeats();

@@ -80,9 +80,14 @@ extern "C" {
 #define PX8_KEYS 10           /* keys with a text in the key line */
 #define PX8_KEY_TEXT 8        /* codes of a key's text */
 #define PX8_TEXTS 80          /* bytes of the key texts, PX8_KEYS * PX8_KEY_TEXT */
+#define PX8_LINES_MOST 48     /* lines of a screen at most */
+#define PX8_LINE_MARKS 96     /* bytes of the lines' marks, 2 * PX8_LINES_MOST */
 #define PX8_TRACE_MOST 60000  /* the longest trace that is taken */
 #define PX8_STROKE 9          /* bytes of a record of a trace */
 #define PX8_CODE 5            /* bytes of a code that a trace sends */
+
+/* Byte of line 1 to 48 of screen 1 (0) or 2 (1) in the lines' marks. */
+#define PX8_MARK_AT(screen, line) (PX8_LINES_MOST * (screen) + (line) - 1)
 
 /* Byte of row 1 to 8, column 1 to 80 in the shown screen and in the marks. */
 #define PX8_AT(row, column) (PX8_WIDTH * ((row) - 1) + (column) - 1)
@@ -194,6 +199,9 @@ typedef struct px8_settings {
     uint32_t count;      /* bytes of the stream so far, 0 to PX8_COUNT_MOST */
     uint8_t texts[PX8_TEXTS]; /* any bytes: key k, 1 to 10, has the eight from
                           * 8 * (k - 1) on, which stand in columns 8k-7 to 8k of row 8 */
+    uint8_t marks[PX8_LINE_MARKS]; /* 1 where a line runs on into the next (see "long
+                          * lines" below), else 0; by PX8_MARK_AT. From a screen's last
+                          * line on they are 0 */
 } px8_settings;
 
 /*
@@ -201,7 +209,7 @@ typedef struct px8_settings {
  * 32, screen 1 selected (0), both places 1, 1, 1, tracking 1, step 1, secret
  * 0, cursor 1, display 1, kind 0; LEDs 0, charset U, strings 1, repeat 1,
  * delay 32, interval 16, shift 0, arrows 0; patterns 0; waiting 0, held 0,
- * count 0; texts 32.
+ * count 0; texts 32; marks 0.
  */
 
 /* ---- stores ----
@@ -228,12 +236,13 @@ typedef struct px8_settings {
  * selected screen, of R lines; numbers outside the ranges are refusal 11.
  *
  *   ESC 37 n            prints n, 0 to 255
- *   ESC 42              blanks the screen, cursor home, top 1, no marks
+ *   ESC 42              blanks the screen, cursor home, top 1, no marks, no line runs on
  *   ESC 50, 51          cursor off, on
  *   ESC 61 m+31 n+31    cursor to line m, 1 to R, and column n, 1 to columns
  *   ESC 67 c            character set, one of U F G E D W I S N
  *   ESC 80              printed copy
- *   ESC 84, 89          blanks from the cursor to the end of its line, of the screen
+ *   ESC 84, 89          blanks from the cursor to the end of its logical line, of
+ *                         the screen
  *   ESC 123, 125        secret on, off
  *   ESC 144 a m         lines a+1 to a+m move up by one; a 0 to R-1, m 1 to R,
  *   ESC 145 a m           a+m at most R; or down by one
@@ -245,7 +254,7 @@ typedef struct px8_settings {
  *   ESC 198, 199        no operation, with 11 and 4 bytes that are not judged
  *   ESC 208 0 n1 n2     mode 0, ESC 208 1 n1 mode 1, ESC 208 2 n1 m p mode 2 with
  *                         boundary p: blanks all cells, no marks, places 1, 1, 1,
- *                         screen 1 selected, step 1, tracking on
+ *                         screen 1 selected, step 1, tracking on, no line runs on
  *   ESC 209 n           selects screen 1 (0) or 2 (1)
  *   ESC 210 x y p       marks row x, 1 to 8, column y, 1 to 80, with code p
  *   ESC 211 n           key display: 0 row 8 is the key line, 1 not
@@ -263,6 +272,18 @@ typedef struct px8_settings {
  * changes the display, with code 12, with a lifted screen and with a window that
  * moves. While tracking is on, a window that misses the cursor's line after
  * printing, codes 8, 10, 13 or ESC 61 moves.
+ *
+ * Long lines. Printing in the last column marks the line that it leaves as one that
+ * runs on, and nothing else does: no other code, no cell. A logical line is a line that
+ * runs on, those after it that do, and the first that does not. ESC 84 blanks from the
+ * cursor through the first line at or after its own that does not run on, and ends
+ * these marks; ESC 89 those of the cursor's line and of all below. The mark of the line
+ * above the cursor stays. A lifted screen carries its marks along, and so do 144 and
+ * 145; after these the line above the region, its blank line and its last two lines (or
+ * its only one) do not run on. ESC 42 and code 12 end the marks of the screen, 208 of
+ * both; printing over a line, codes 8, 10, 13, 61 and 209 leave them. A screen's last
+ * line never runs on. (The marks of the layer, which "marks" are elsewhere, have
+ * nothing to do with them.)
  *
  * The key line. With display 0 the screens have rows 1 to 7 alone: a window is 7
  * lines high, in mode 1 14, whose right half begins seven lines after the left. In
@@ -523,7 +544,7 @@ PX8_HOLDS(offsetof(px8_keys, interval) == 7);
 PX8_HOLDS(offsetof(px8_keys, shift) == 8);
 PX8_HOLDS(offsetof(px8_keys, arrows) == 9);
 
-PX8_HOLDS(sizeof(px8_settings) == 388);
+PX8_HOLDS(sizeof(px8_settings) == 484);
 PX8_HOLDS(offsetof(px8_settings, mode) == 0);
 PX8_HOLDS(offsetof(px8_settings, lines1) == 1);
 PX8_HOLDS(offsetof(px8_settings, lines2) == 2);
@@ -544,6 +565,7 @@ PX8_HOLDS(offsetof(px8_settings, waiting) == 288);
 PX8_HOLDS(offsetof(px8_settings, held) == 300);
 PX8_HOLDS(offsetof(px8_settings, count) == 304);
 PX8_HOLDS(offsetof(px8_settings, texts) == 308);
+PX8_HOLDS(offsetof(px8_settings, marks) == 388);
 
 PX8_HOLDS(sizeof(size_t) == 8);
 PX8_HOLDS(sizeof(px8_answer) == 32);
@@ -556,9 +578,9 @@ PX8_HOLDS(offsetof(px8_answer, parameter) == 17);
 PX8_HOLDS(offsetof(px8_answer, offset) == 20);
 PX8_HOLDS(offsetof(px8_answer, printed) == 24);
 
-PX8_HOLDS(sizeof(px8_outcome) == 424);
+PX8_HOLDS(sizeof(px8_outcome) == 520);
 PX8_HOLDS(offsetof(px8_outcome, settings) == 0);
-PX8_HOLDS(offsetof(px8_outcome, answer) == 392);
+PX8_HOLDS(offsetof(px8_outcome, answer) == 488);
 
 PX8_HOLDS(sizeof(px8_difference) == 4);
 PX8_HOLDS(offsetof(px8_difference, row) == 0);
@@ -575,9 +597,9 @@ PX8_HOLDS(offsetof(px8_first, number) == 0);
 PX8_HOLDS(offsetof(px8_first, found) == 1);
 PX8_HOLDS(offsetof(px8_first, difference) == 2);
 
-PX8_HOLDS(sizeof(px8_opened) == 392);
+PX8_HOLDS(sizeof(px8_opened) == 488);
 PX8_HOLDS(offsetof(px8_opened, settings) == 0);
-PX8_HOLDS(offsetof(px8_opened, number) == 388);
+PX8_HOLDS(offsetof(px8_opened, number) == 484);
 
 PX8_HOLDS(sizeof(px8_repeats) == 16);
 PX8_HOLDS(offsetof(px8_repeats, number) == 0);

@@ -13,7 +13,7 @@
 #define STACK (256 * 1024)
 #define FILL 0xA5
 #define MOST 4096        /* what the README says a call takes at most, */
-#define STREAM_MOST 7168 /* and a piece and a closing, which are made of message calls */
+#define STREAM_MOST 8192 /* and a piece and a closing, which are made of message calls */
 
 static uint8_t cells[PX8_CELLS], layer[PX8_LAYER], shown[PX8_SHOWN], printer[2 * PX8_COPY];
 static px8_settings settings;

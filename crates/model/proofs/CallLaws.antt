@@ -15,6 +15,7 @@ use Rattle.model.specs.State.{State, opened, openedSettings}
 use Rattle.model.specs.Checks.{inRanges?, member, passes}
 use Rattle.model.specs.Screens.{base, cellAt, columnsOf, height, lineAt, linesOf, placeOf, textRows}
 use Rattle.model.specs.Line.{heldIn, limit, padded}
+use Rattle.model.specs.Marks.{markOf}
 use Rattle.model.specs.Sound.{Good, Inside, Sound, arrayRanges, keyRanges, mode0, plainRanges}
 use Rattle.model.specs.Picture.{covered, painting, picture, pictureAt, textAt, under, windowAt}
 use Rattle.model.specs.Reading.{Read, remaining}
@@ -26,6 +27,7 @@ use Rattle.model.specs.Demand.{Opening, Resumed}
 use Rattle.model.proofs.Tests.{and-both, and-left, and-right, cond-at, differ, elim-at, ranges-true}
 use Rattle.model.proofs.ByteLaws.{getD-listFrom, length-listFrom}
 use Rattle.model.proofs.LineLaws.{sound-padded, sound-piece, sound-quiet, true-line}
+use Rattle.model.proofs.MarkLaws.{none-marked}
 use Rattle.model.proofs.SoundLaws.{sound-true, true-sound}
 use Rattle.model.proofs.Events.{AllLegal, legal-append, legal-reads}
 use Rattle.model.proofs.Gathering.{none-unfinished}
@@ -234,7 +236,7 @@ shown-opened : Shown openedTerminal
 shown-opened = subst Shown (λ i. record { state = opened; shown = sym opened-blank i }) (shown-painting opened)
 
 resumed-opened : Resumed openedTerminal
-unfolding linesOf columnsOf height textRows placeOf inRanges? passes member keyRanges plainRanges arrayRanges
+unfolding linesOf columnsOf height textRows placeOf inRanges? passes member keyRanges plainRanges arrayRanges markOf
 resumed-opened = record {
   sound = record {
     arrays = ranges-true (arrayRanges openedSettings) refl;
@@ -245,6 +247,7 @@ resumed-opened = record {
     step-high = omega arith;
     plain = ranges-true (plainRanges openedSettings) refl;
     line = sound-quiet;
+    marked = λ k. none-marked (linesOf openedSettings k) k;
   };
   cells-are = length-replicate {A = ℕ} 3840 32;
   layer-is = length-replicate {A = ℕ} 1280 0;

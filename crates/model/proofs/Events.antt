@@ -14,6 +14,7 @@ use Rattle.model.specs.declared.Item.the-variants.{Control, Printed, Ref
 use Rattle.model.specs.Bytes.{put}
 use Rattle.model.specs.State.{State}
 use Rattle.model.specs.Screens.{base, cellAt, columnsOf, height, lineAt, linesOf, placeOf, size, textRows}
+use Rattle.model.specs.Marks.{markOf}
 use Rattle.model.specs.Line.{LineSound, line?, padded}
 use Rattle.model.specs.Sound.{Good, arrayRanges, keyRanges, plainRanges}
 use Rattle.model.specs.Sequences.{codeOf}
@@ -73,7 +74,7 @@ legal-append (e ∷ es) fs a p q = (p .0, legal-append es fs (happened e a) (p .
 
 -- a line that is left: nothing else moves
 good-lined : (w : List ℕ) (n : ℕ) (a : State) → Good a → line? (padded w) (length w) n ≡ true → Good (lined w n a)
-unfolding lined withSettings arrayRanges plainRanges keyRanges linesOf columnsOf height textRows placeOf
+unfolding lined withSettings arrayRanges plainRanges keyRanges linesOf columnsOf height textRows placeOf markOf
 good-lined w n a g e =
     let l : LineSound (padded w) (length w) n = line-true (padded w) (length w) n e in
     let z : length (padded w) ≡ 12 = length-padded w (l .fits) in
@@ -88,6 +89,7 @@ good-lined w n a g e =
         step-high = g .sound .step-high;
         plain = g .sound .plain;
         line = l;
+        marked = g .sound .marked;
       };
       cells-are = g .cells-are;
       layer-are = g .layer-are;
@@ -95,11 +97,11 @@ good-lined w n a g e =
 
 same-lined : (k : ℕ) (w : List ℕ) (n : ℕ) (a : State) → SameScreen k a (lined w n a)
 unfolding lined withSettings linesOf columnsOf height textRows placeOf base size
-same-lined k w n a = record { same-base = refl; same-lines = refl; same-columns = refl; same-height = refl; same-place = refl; same-cells = refl }
+same-lined k w n a = record { same-base = refl; same-lines = refl; same-columns = refl; same-height = refl; same-place = refl; same-cells = refl; same-marks = refl }
 
 -- a key's text: nothing else moves
 good-texted : (k : ℕ) (x : List ℕ) (a : State) → Good a → keyable k x ≡ true → Good (texted k x a)
-unfolding texted withSettings arrayRanges plainRanges keyRanges linesOf columnsOf height textRows placeOf keyable
+unfolding texted withSettings arrayRanges plainRanges keyRanges linesOf columnsOf height textRows placeOf markOf keyable
 good-texted k x a g e =
     let t : List ℕ = a .settings .texts in
     let e₂ = and-right (leb 1 k) (leb k 10 && eqb (length x) 8) e in
@@ -109,7 +111,7 @@ good-texted k x a g e =
     length-put ((k - 1) * 8) x t (omega (arith, n, leb-true 1 k (and-left (leb 1 k) _ e), leb-true k 10 (and-left (leb k 10) _ e₂), eqb-true (length x) 8 (and-right (leb k 10) _ e₂))) in
     record {
       sound = record {
-        arrays = (h .0, (h .1 .0, (h .1 .1 .0, (h .1 .1 .1 .0, (h .1 .1 .1 .1 .0, ((omega (arith, z, n), omega (arith, z, n)), tt))))));
+        arrays = (h .0, (h .1 .0, (h .1 .1 .0, (h .1 .1 .1 .0, (h .1 .1 .1 .1 .0, ((omega (arith, z, n), omega (arith, z, n)), h .1 .1 .1 .1 .1 .1))))));
         shaped = g .sound .shaped;
         selected = g .sound .selected;
         inside = g .sound .inside;
@@ -117,6 +119,7 @@ good-texted k x a g e =
         step-high = g .sound .step-high;
         plain = g .sound .plain;
         line = g .sound .line;
+        marked = g .sound .marked;
       };
       cells-are = g .cells-are;
       layer-are = g .layer-are;
@@ -124,7 +127,7 @@ good-texted k x a g e =
 
 same-texted : (j k : ℕ) (x : List ℕ) (a : State) → SameScreen j a (texted k x a)
 unfolding texted withSettings linesOf columnsOf height textRows placeOf base size
-same-texted j k x a = record { same-base = refl; same-lines = refl; same-columns = refl; same-height = refl; same-place = refl; same-cells = refl }
+same-texted j k x a = record { same-base = refl; same-lines = refl; same-columns = refl; same-height = refl; same-place = refl; same-cells = refl; same-marks = refl }
 
 -- one event
 obeyed-event : (e : Event) (a : State) → Good a → legalEvent? e (limitsOf (a .settings)) ≡ true → Obeyed a (happened e a) (setsMode e) (movesWindow e)
@@ -210,15 +213,21 @@ same-window s = record { top = ap (λ (p : Place). p .top) (s .same-place); tall
 
 -- and a screen that is the same but for its window
 pub unchanged : {k : ℕ} {a b : State} → Spared k a b → Unchanged k a b
-unfolding cellAt lineAt size
+unfolding cellAt lineAt size markOf
 unchanged {k} {a} {b} s = record {
   lines = s .same-lines;
   columns = s .same-columns;
   cells = same-cell;
   cursor-line = s .same-line;
   cursor-column = s .same-column;
+  marks = same-mark;
 }
   where
+    same-mark : (l : ℕ) → 1 ≤ l → l ≤ 48 → markOf (b .settings) k l ≡ markOf (a .settings) k l
+    same-mark l p q =
+        sym (getD-part (b .settings .marks) (48 * k) 48 (l - 1) (omega arith)) ∙ ap (λ (xs : List ℕ). getD xs (l - 1) 0) (s .same-marks)
+        ∙ getD-part (a .settings .marks) (48 * k) 48 (l - 1) (omega arith)
+
     same-cell : (l c : ℕ) → On (a .settings) k l c → getD (b .cells) (cellAt (b .settings) k l c) 0 ≡ getD (a .cells) (cellAt (a .settings) k l c) 0
     same-cell l c o =
         let i : ℕ = (l - 1) * columnsOf (a .settings) k + (c - 1) in

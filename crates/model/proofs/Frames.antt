@@ -7,6 +7,7 @@ use lib.ListN.{length, take, drop}
 use Rattle.model.specs.declared.Limits.{Limits}
 use Rattle.model.specs.State.{State}
 use Rattle.model.specs.Screens.{linesOf, columnsOf, placeOf, height, base, size}
+use Rattle.model.specs.Marks.{marksOf}
 use Rattle.model.specs.Line.{line?, padded}
 use Rattle.model.specs.Judging.{legalItem?}
 use Rattle.model.specs.Items.{Event, itemRead, lineLeft, keySet}
@@ -16,7 +17,7 @@ use Rattle.model.specs.Calls.{keyable}
 abbrev pub cellsOf : State → ℕ → List ℕ
 cellsOf st k = take (size (st .settings) k) (drop (base (st .settings) k) (st .cells))
 
--- screen k is the same in both: where it lies, its cursor and window, its cells
+-- screen k is the same in both: where it lies, its cursor and window, its cells and marks
 pub record SameScreen (k : ℕ) (a b : State) : Type 0 where
   pub same-base : base (b .settings) k ≡ base (a .settings) k
   pub same-lines : linesOf (b .settings) k ≡ linesOf (a .settings) k
@@ -24,8 +25,9 @@ pub record SameScreen (k : ℕ) (a b : State) : Type 0 where
   pub same-height : height (b .settings) ≡ height (a .settings)
   pub same-place : placeOf (b .settings) k ≡ placeOf (a .settings) k
   pub same-cells : cellsOf b k ≡ cellsOf a k
+  pub same-marks : marksOf (b .settings) k ≡ marksOf (a .settings) k
 
--- the same but for its window: where it lies, its cursor, its cells
+-- the same but for its window: where it lies, its cursor, its cells and marks
 pub record Spared (k : ℕ) (a b : State) : Type 0 where
   pub same-base : base (b .settings) k ≡ base (a .settings) k
   pub same-lines : linesOf (b .settings) k ≡ linesOf (a .settings) k
@@ -33,6 +35,7 @@ pub record Spared (k : ℕ) (a b : State) : Type 0 where
   pub same-line : placeOf (b .settings) k .line ≡ placeOf (a .settings) k .line
   pub same-column : placeOf (b .settings) k .column ≡ placeOf (a .settings) k .column
   pub same-cells : cellsOf b k ≡ cellsOf a k
+  pub same-marks : marksOf (b .settings) k ≡ marksOf (a .settings) k
 
 -- the parameters of an event are in their ranges, a line that is left is sound, a key and its text are not 17
 abbrev pub legalEvent? : Event → Limits → Bool

@@ -1,7 +1,6 @@
 -- Every item keeps the state good; every item but a mode setting leaves the screen that is not selected as it was, 211 all but its window.
 use mathlib.Core.Path.{_∙_, _≡_, refl}
-use Prim.Native.Nat.{_*_, _+_, _-_, _<_, _≤_, suc, zero, ℕ}
-use native.Mathlib.Nat.{add-mul, suc-mul}
+use Prim.Native.Nat.{_*_, _-_, _<_, _≤_, suc, zero, ℕ}
 use native.Mathlib.Omega.{arith}
 use mathlib.Core.Bool.{Bool, _||_, false, true}
 use mathlib.Core.List.{List, [], _∷_}
@@ -12,10 +11,11 @@ use Rattle.model.specs.declared.Item.the-variants.{Control, Printed, Ref
 use Rattle.model.specs.declared.Sequence.{Sequence as Seq}
 use Rattle.model.specs.declared.Sequence.the-variants.{Arrows1, Arrows2, Arrows3, CapsOff, CapsOn, Charset, Clear, Copy, CursorKind, CursorOff, CursorOn, Display, DrawDot, EraseLine, EraseRest, InsOff, InsOn, DrawLine, LinesDown, LinesUp, Mark, Mode0, Mode1, Mode2, Nothing, NumOff, NumOn, Pattern, PrintCode, Put, Repeat, RepeatDelay, RepeatInterval, SecretOff, SecretOn, Select, Shift, Step, StringsOff, StringsOn, Tracking, WindowBottom, WindowCursor, WindowDown, WindowTop, WindowUp}
 use Rattle.model.specs.declared.Settings.{Settings}
-use Rattle.model.specs.Bytes.{listFrom, put, scrolledDown, scrolledUp}
+use Rattle.model.specs.Bytes.{listFrom, put}
 use Rattle.model.specs.State.{State, putAt, withDisplay, withMode, withStored}
 use Rattle.model.specs.Checks.{InRanges, Passes, range}
-use Rattle.model.specs.Screens.{base, columnsHere, columnsOf, height, here, linesHere, linesOf, placeOf, size, textRows}
+use Rattle.model.specs.Screens.{base, columnsHere, columnsOf, height, here, linesOf, placeOf, size, textRows}
+use Rattle.model.specs.Marks.{markOf, marksDown, marksUp}
 use Rattle.model.specs.Sound.{Good, Inside, Shaped, Sound, arrayRanges, keyRanges, mode0, mode1, mode2, plainRanges}
 use Rattle.model.specs.Judging.{legal?, legalItem?, limitsOf, ranges}
 use Rattle.model.specs.Rules.{applyItem, centred, displaying, emptied, flagged, keyLine, modeSet, obeyed, placed, withArrows, withKeys, withKindPatterns, withLayer, withLed, withSettings}
@@ -23,8 +23,9 @@ use Rattle.model.specs.Claims.{isDisplay, isMode}
 use Rattle.model.proofs.Frames.{SameScreen, Spared}
 use Rattle.model.proofs.Tests.{cond-at, differ, ranges-true}
 use Rattle.model.proofs.ByteLaws.{length-down, length-listFrom, length-put, length-up}
-use Rattle.model.proofs.Keep.{Kept, height-high, height-low, kept-emptied, kept-flags, kept-layer, kept-refl, kept-stored-only, kept-trans, line-inside, same-emptied, same-trans, shaped-columns, shaped-height, spared, spared-refl}
-use Rattle.model.proofs.Steps.{fits, height-fits, kept-at, kept-blank, kept-cleared, kept-control, kept-held, kept-lines, kept-printed, kept-top, kept-trackedFar, length-mark}
+use Rattle.model.proofs.MarkLaws.{end-high, end-low, none-marked, sound-ends-down, sound-ends-up}
+use Rattle.model.proofs.Keep.{Kept, height-high, height-low, kept-emptied, kept-flags, kept-layer, kept-refl, kept-stored-only, kept-trans, same-emptied, same-trans, shaped-columns, shaped-height, spared, spared-refl}
+use Rattle.model.proofs.Steps.{fits, height-fits, kept-at, kept-cleared, kept-control, kept-erased, kept-held, kept-printed, kept-shifted, kept-top, kept-trackedFar, length-mark, lines-here, sound-marks}
 
 -- what an item does: the state stays good; all but a mode setting leave each cell and the cursor of the screen that is not selected as they
 -- were, and all but that and 211 its window too
@@ -53,9 +54,9 @@ good-flags a g tr st se cu p q r u v = let z = kept-flags a g (a .settings .sele
 
 -- settings of a mode just set
 sound-mode : (s : Settings) (m l1 l2 c1 c2 b : ℕ) → Sound s → Shaped m l1 l2 c1 c2 → Sound (withMode s m l1 l2 c1 c2 b)
-unfolding linesOf columnsOf placeOf plainRanges arrayRanges keyRanges
+unfolding linesOf columnsOf placeOf plainRanges arrayRanges keyRanges markOf
 sound-mode s m l1 l2 c1 c2 b h z = record {
-  arrays = (omega arith, h .arrays .1);
+  arrays = let z = h .arrays in (omega arith, (z .1 .0, (z .1 .1 .0, (z .1 .1 .1 .0, (z .1 .1 .1 .1 .0, (z .1 .1 .1 .1 .1 .0, (omega arith, tt)))))));
   shaped = z;
   selected = omega arith;
   inside = all;
@@ -63,6 +64,7 @@ sound-mode s m l1 l2 c1 c2 b h z = record {
   step-high = omega (arith, height-low (withMode s m l1 l2 c1 c2 b));
   plain = search (h .plain, tracks) depth 30;
   line = h .line;
+  marked = λ k. none-marked (linesOf (withMode s m l1 l2 c1 c2 b) k) k;
 }
   where
     tracks : Passes (range 0 1 1)
@@ -79,7 +81,7 @@ keys g = g .sound .plain .1 .1 .1 .1
 
 -- settings under another key display: both tops and the step are held
 sound-display : (n : ℕ) (s : Settings) → Sound s → Passes (range 0 n 1) → Sound (displaying n s)
-unfolding displaying linesOf columnsOf placeOf plainRanges arrayRanges keyRanges height textRows
+unfolding displaying linesOf columnsOf placeOf plainRanges arrayRanges keyRanges height textRows markOf
 sound-display n s h e =
     let t : Settings = withDisplay s n (s .places) (s .step) in
     record {
@@ -91,6 +93,7 @@ sound-display n s h e =
       step-high = omega arith;
       plain = search (h .plain, e) depth 30;
       line = h .line;
+      marked = h .marked;
     }
   where
     all : (k : ℕ) → k < 2 → Inside (displaying n s) k
@@ -110,8 +113,8 @@ obeyed-display n a g e = cond-at (λ (b : State). Obeyed a b false true) (eqb n 
     })
   where
     all : (k : ℕ) → k < 2 → Spared k a (emptied (withSettings (displaying n (a .settings)) a))
-    all zero l = record { same-base = refl; same-lines = refl; same-columns = refl; same-line = refl; same-column = refl; same-cells = refl }
-    all (suc zero) l = record { same-base = refl; same-lines = refl; same-columns = refl; same-line = refl; same-column = refl; same-cells = refl }
+    all zero l = record { same-base = refl; same-lines = refl; same-columns = refl; same-line = refl; same-column = refl; same-cells = refl; same-marks = refl }
+    all (suc zero) l = record { same-base = refl; same-lines = refl; same-columns = refl; same-line = refl; same-column = refl; same-cells = refl; same-marks = refl }
     all (suc (suc k)) l = absurd (omega arith)
 
 -- one of three flags set
@@ -174,18 +177,12 @@ obeyed-all ms (Put l c) a g e =
     of-kept (kept-trans k (kept-trackedFar _ (k .good)))
 obeyed-all ms (Charset n) a g e = of-kept (kept-stored-only a g _ _ _ (search (keys g, e) depth 30) (g .sound .arrays))
 obeyed-all ms Copy a g e = of-kept (kept-refl a g)
-obeyed-all ms EraseLine a g e = of-kept (kept-blank a g _ (omega (arith, fits a g, line-inside (columnsHere a) (here a .line) (linesHere a) (fits a g .line-low) (fits a g .line-high))))
-obeyed-all ms EraseRest a g e = of-kept (kept-blank a g _ (omega (arith, fits a g, rest (columnsHere a) (here a .line) (linesHere a) (fits a g .line-low) (fits a g .line-high))))
-  where
-    rest : (w l n : ℕ) → 1 ≤ l → l ≤ n → (l - 1) * w + w + (n - l) * w ≤ n * w
-    rest w l n p q =
-        let e₁ : suc (l - 1) ≡ l = omega arith in
-        let e₂ : l + (n - l) ≡ n = omega arith in
-        rw (← suc-mul (l - 1) w, e₁, ← add-mul l (n - l) w, e₂) (omega arith)
+obeyed-all ms EraseLine a g e = of-kept (kept-erased a g _ (end-low _ _ _ (fits a g .line-low) (fits a g .line-high)) (end-high _ _ _ (fits a g .line-low) (fits a g .line-high)))
+obeyed-all ms EraseRest a g e = of-kept (kept-erased a g _ (fits a g .line-high) (omega arith))
 obeyed-all ms SecretOn a g e = good-flags a g _ _ _ _ (g .sound .plain .0) (g .sound .step-low) (g .sound .step-high) (omega arith) (g .sound .plain .1 .1 .0)
 obeyed-all ms SecretOff a g e = good-flags a g _ _ _ _ (g .sound .plain .0) (g .sound .step-low) (g .sound .step-high) (omega arith) (g .sound .plain .1 .1 .0)
-obeyed-all ms (LinesUp x m) a g e = of-kept (kept-lines a g _ _ (scrolledUp (columnsHere a)) (length-up (columnsHere a)) (omega arith))
-obeyed-all ms (LinesDown x m) a g e = of-kept (kept-lines a g _ _ (scrolledDown (columnsHere a)) (length-down (columnsHere a)) (omega arith))
+obeyed-all ms (LinesUp x m) a g e = of-kept (kept-shifted a g x m _ (marksUp x m) (length-up (columnsHere a)) (omega arith) (sound-ends-up _ _ (sound-marks a g) x m (omega arith) (lines-here a g)))
+obeyed-all ms (LinesDown x m) a g e = of-kept (kept-shifted a g x m _ (marksDown x m) (length-down (columnsHere a)) (omega arith) (sound-ends-down _ _ (sound-marks a g) x m (omega arith)))
 obeyed-all ms (Step n) a g e = good-flags a g _ _ _ _ (g .sound .plain .0) (e .0 .0) (e .0 .1) (g .sound .plain .1 .0) (g .sound .plain .1 .1 .0)
 obeyed-all ms (Tracking n) a g e = good-flags a g _ _ _ _ (omega arith) (g .sound .step-low) (g .sound .step-high) (g .sound .plain .1 .0) (g .sound .plain .1 .1 .0)
 obeyed-all ms WindowUp a g e = of-kept (kept-held a g _)

@@ -16,6 +16,7 @@ use Rattle.model.specs.Bytes.{onPart}
 use Rattle.model.specs.State.{State, nowhere, withStored}
 use Rattle.model.specs.Checks.{InRanges, Passes, range}
 use Rattle.model.specs.Screens.{base, columnsHere, columnsOf, height, here, linesHere, linesOf, placeOf, size, textRows}
+use Rattle.model.specs.Marks.{markOf}
 use Rattle.model.specs.Sound.{Fits, Good, Inside, Shaped, Sound, arrayRanges, keyRanges, mode0, mode1, mode2, plainRanges}
 use Rattle.model.specs.Rules.{emptied, flagged, placed, withCells, withLayer, withSettings}
 use Rattle.model.proofs.Frames.{SameScreen, Spared, cellsOf}
@@ -99,16 +100,16 @@ pub record Kept (a b : State) : Type 0 where
   pub other : (k : ℕ) → k < 2 → (k ≡ a .settings .selected → ⊥) → SameScreen k a b
 
 pub same-refl : (k : ℕ) (a : State) → SameScreen k a a
-same-refl k a = record { same-base = refl; same-lines = refl; same-columns = refl; same-height = refl; same-place = refl; same-cells = refl }
+same-refl k a = record { same-base = refl; same-lines = refl; same-columns = refl; same-height = refl; same-place = refl; same-cells = refl; same-marks = refl }
 
 pub same-trans : {k : ℕ} {a b c : State} → SameScreen k a b → SameScreen k b c → SameScreen k a c
-same-trans p q = record { same-base = cc; same-lines = cc; same-columns = cc; same-height = q .same-height ∙ p .same-height; same-place = cc; same-cells = q .same-cells ∙ p .same-cells }
+same-trans p q = record { same-base = cc; same-lines = cc; same-columns = cc; same-height = q .same-height ∙ p .same-height; same-place = cc; same-cells = q .same-cells ∙ p .same-cells; same-marks = q .same-marks ∙ p .same-marks }
 
 pub spared-refl : (k : ℕ) (a : State) → Spared k a a
-spared-refl k a = record { same-base = refl; same-lines = refl; same-columns = refl; same-line = refl; same-column = refl; same-cells = refl }
+spared-refl k a = record { same-base = refl; same-lines = refl; same-columns = refl; same-line = refl; same-column = refl; same-cells = refl; same-marks = refl }
 
 pub spared-trans : {k : ℕ} {a b c : State} → Spared k a b → Spared k b c → Spared k a c
-spared-trans p q = record { same-base = cc; same-lines = cc; same-columns = cc; same-line = q .same-line ∙ p .same-line; same-column = q .same-column ∙ p .same-column; same-cells = q .same-cells ∙ p .same-cells }
+spared-trans p q = record { same-base = cc; same-lines = cc; same-columns = cc; same-line = q .same-line ∙ p .same-line; same-column = q .same-column ∙ p .same-column; same-cells = q .same-cells ∙ p .same-cells; same-marks = q .same-marks ∙ p .same-marks }
 
 -- a screen that is the same is the same but for its window
 pub spared : {k : ℕ} {a b : State} → SameScreen k a b → Spared k a b
@@ -119,6 +120,7 @@ spared s = record {
   same-line = ap (λ (p : Place). p .line) (s .same-place);
   same-column = ap (λ (p : Place). p .column) (s .same-place);
   same-cells = s .same-cells;
+  same-marks = s .same-marks;
 }
 
 pub kept-refl : (a : State) → Good a → Kept a a
@@ -144,7 +146,7 @@ module _ (a : State) (g : Good a) where
   place-other p k n = getD-set-other (a .settings .places) (a .settings .selected) k p nowhere n
 
   pub kept-placed : (p : Place) → Fits (linesHere a) (columnsHere a) (height (a .settings)) p → Kept a (placed p a)
-  unfolding placed plainRanges arrayRanges linesOf columnsOf height textRows base size
+  unfolding placed plainRanges arrayRanges linesOf columnsOf height textRows base size markOf
   kept-placed p f = record {
     good = record {
       sound = record {
@@ -156,6 +158,7 @@ module _ (a : State) (g : Good a) where
         step-high = g .sound .step-high;
         plain = g .sound .plain;
         line = g .sound .line;
+        marked = g .sound .marked;
       };
       cells-are = g .cells-are;
       layer-are = g .layer-are;
@@ -163,7 +166,7 @@ module _ (a : State) (g : Good a) where
     same-selected = refl;
     same-shape = λ k. (refl, refl);
     same-tracking = refl;
-    other = λ k l n. record { same-base = refl; same-lines = refl; same-columns = refl; same-height = refl; same-place = place-other p k n; same-cells = refl };
+    other = λ k l n. record { same-base = refl; same-lines = refl; same-columns = refl; same-height = refl; same-place = place-other p k n; same-cells = refl; same-marks = refl };
   }
     where
       fits : (k : ℕ) → k < 2 → Dec (k ≡ a .settings .selected) → Inside (placed p a .settings) k
@@ -178,7 +181,7 @@ module _ (a : State) (g : Good a) where
     same-selected = refl;
     same-shape = λ k. (refl, refl);
     same-tracking = refl;
-    other = λ k l n. record { same-base = refl; same-lines = refl; same-columns = refl; same-height = refl; same-place = refl; same-cells = refl };
+    other = λ k l n. record { same-base = refl; same-lines = refl; same-columns = refl; same-height = refl; same-place = refl; same-cells = refl; same-marks = refl };
   }
 
   pub kept-emptied : Kept a (emptied a)
@@ -193,7 +196,7 @@ module _ (a : State) (g : Good a) where
     same-selected = refl;
     same-shape = λ k. (refl, refl);
     same-tracking = refl;
-    other = λ k l n. record { same-base = refl; same-lines = refl; same-columns = refl; same-height = refl; same-place = refl; same-cells = f k l n };
+    other = λ k l n. record { same-base = refl; same-lines = refl; same-columns = refl; same-height = refl; same-place = refl; same-cells = f k l n; same-marks = refl };
   }
 
   pub kept-part : (from count : ℕ) (f : List ℕ → List ℕ) → ((ys : List ℕ) → length (f ys) ≡ length ys)
@@ -229,31 +232,31 @@ module _ (a : State) (g : Good a) where
 
   -- what is only stored
   pub kept-stored-only : (kind : ℕ) (ks : Keys) (ps : List ℕ) → InRanges (keyRanges kind ks) → InRanges (arrayRanges (withStored (a .settings) kind ks ps)) → Kept a (withSettings (withStored (a .settings) kind ks ps) a)
-  unfolding withSettings plainRanges keyRanges linesOf columnsOf height textRows placeOf base size
+  unfolding withSettings plainRanges keyRanges linesOf columnsOf height textRows placeOf base size markOf
   kept-stored-only kind ks ps h l = record {
     good = record {
-      sound = record { arrays = l; shaped = g .sound .shaped; selected = g .sound .selected; inside = g .sound .inside; step-low = g .sound .step-low; step-high = g .sound .step-high; plain = search (g .sound .plain, h) depth 30; line = g .sound .line };
+      sound = record { arrays = l; shaped = g .sound .shaped; selected = g .sound .selected; inside = g .sound .inside; step-low = g .sound .step-low; step-high = g .sound .step-high; plain = search (g .sound .plain, h) depth 30; line = g .sound .line; marked = g .sound .marked };
       cells-are = g .cells-are;
       layer-are = g .layer-are;
     };
     same-selected = refl;
     same-shape = λ k. (refl, refl);
     same-tracking = refl;
-    other = λ k l n. record { same-base = refl; same-lines = refl; same-columns = refl; same-height = refl; same-place = refl; same-cells = refl };
+    other = λ k l n. record { same-base = refl; same-lines = refl; same-columns = refl; same-height = refl; same-place = refl; same-cells = refl; same-marks = refl };
   }
 
   -- flags and numbers, and the selected screen
   pub kept-flags : (sel tr st se cu : ℕ) → sel < 2 → Passes (range 0 tr 1) → 1 ≤ st → st ≤ height (a .settings) → Passes (range 0 se 1) → Passes (range 0 cu 1)
       → Good (flagged sel tr st se cu a) × ((k : ℕ) → SameScreen k a (flagged sel tr st se cu a))
-  unfolding flagged withSettings plainRanges arrayRanges keyRanges linesOf columnsOf height textRows placeOf base size
+  unfolding flagged withSettings plainRanges arrayRanges keyRanges linesOf columnsOf height textRows placeOf base size markOf
   kept-flags sel tr st se cu o p q r u v = (
-    record { sound = record { arrays = g .sound .arrays; shaped = g .sound .shaped; selected = o; inside = g .sound .inside; step-low = q; step-high = r; plain = search (g .sound .plain, p, u, v) depth 30; line = g .sound .line }; cells-are = g .cells-are; layer-are = g .layer-are },
-    λ k. record { same-base = refl; same-lines = refl; same-columns = refl; same-height = refl; same-place = refl; same-cells = refl },
+    record { sound = record { arrays = g .sound .arrays; shaped = g .sound .shaped; selected = o; inside = g .sound .inside; step-low = q; step-high = r; plain = search (g .sound .plain, p, u, v) depth 30; line = g .sound .line; marked = g .sound .marked }; cells-are = g .cells-are; layer-are = g .layer-are },
+    λ k. record { same-base = refl; same-lines = refl; same-columns = refl; same-height = refl; same-place = refl; same-cells = refl; same-marks = refl },
   )
 
 pub same-emptied : (k : ℕ) (a : State) → SameScreen k a (emptied a)
 unfolding emptied withLayer
-same-emptied k a = record { same-base = refl; same-lines = refl; same-columns = refl; same-height = refl; same-place = refl; same-cells = refl }
+same-emptied k a = record { same-base = refl; same-lines = refl; same-columns = refl; same-height = refl; same-place = refl; same-cells = refl; same-marks = refl }
 
 -- the geometry of lines: a and m lines of w columns in a screen of n lines
 pub lines-inside : (w a m n : ℕ) → a + m ≤ n → a * w + m * w ≤ n * w

@@ -5,12 +5,14 @@ pub mod Cases
 pub mod ByteLaws
 pub mod Gathering
 pub mod LineLaws
+pub mod MarkLaws
 pub mod SoundLaws
 pub mod Loop
 pub mod Patterns
 pub mod Lined
 pub mod Frames
 pub mod Keep
+pub mod Marking
 pub mod Steps
 pub mod ItemLaws
 pub mod Following
@@ -21,6 +23,7 @@ pub mod LineAfter
 pub mod Promises
 pub mod Message
 pub mod Lines
+pub mod Logical
 pub mod Places
 pub mod ShownPlace
 pub mod KeyLine

@@ -11,11 +11,12 @@ use Rattle.model.specs.declared.Sequence.{Sequence as Seq}
 use Rattle.model.specs.declared.Sequence.the-variants.{Arrows1, Arrows2, Arrows3, CapsOff, CapsOn, Charset, Clear, Copy, CursorKind, CursorOff, CursorOn, Display, DrawDot, DrawLine, EraseLine, EraseRest, InsOff, InsOn, LinesDown, LinesUp, Mark, Mode0, Mode1, Mode2, Nothing, NumOff, NumOn, Pattern, PrintCode, Put, Repeat, RepeatDelay, RepeatInterval, SecretOff, SecretOn, Select, Shift, Step, StringsOff, StringsOn, Tracking, WindowBottom, WindowCursor, WindowDown, WindowTop, WindowUp}
 use Rattle.model.specs.State.{State, putAt, topAt}
 use Rattle.model.specs.Screens.{base, cellAt, columnsHere, columnsOf, height, here, lineAt, linesHere, linesOf, placeOf, textRows}
+use Rattle.model.specs.Marks.{markOf}
 use Rattle.model.specs.Picture.{copied, copiedRows, covered, halves, picture, pictureAt, sides, textAt, under, windowAt}
 use Rattle.model.specs.Sequences.{codeOf}
 use Rattle.model.specs.Reading.{Read, byteOf}
 use Rattle.model.specs.Judging.{limitsOf}
-use Rattle.model.specs.Rules.{applyItem, blankFrom, centred, cleared, control, displaying, down, emptied, flagged, held, keyLine, missed, modeSet, nearest, obeyed, onLines, placed, printed, right, shownAt, stored, toColumn, topped, tracked, trackedFar, withCells, withKeys, withKindPatterns, withLayer, withSettings}
+use Rattle.model.specs.Rules.{applyItem, blankFrom, centred, cleared, control, displaying, down, emptied, erased, flagged, held, keyLine, lifted, missed, modeSet, nearest, obeyed, onLines, onward, placed, printed, remarked, right, runsOn, shifted, shownAt, stored, toColumn, topped, tracked, trackedFar, withCells, withKeys, withKindPatterns, withLayer, withSettings}
 use Rattle.model.specs.Items.{applyAll, copies, copyOf, eventsOf, happened, lined, obeyedBy, printerBytes, read, readsOf}
 
 module _ (w : List ℕ) (n : ℕ) where
@@ -41,22 +42,30 @@ module _ (w : List ℕ) (n : ℕ) where
       ap (λ (x : State). cond b x (lined w n st)) (topped-lined (centred st) st) ∙ cond-lined b (topped (centred st) st) st
 
   down-lined : (st : State) → down (lined w n st) ≡ lined w n (down st)
-  unfolding down onLines emptied withLayer withCells placed lined withSettings placeOf linesOf columnsOf base
+  unfolding down lifted remarked onLines emptied withLayer withCells placed lined withSettings placeOf linesOf columnsOf base markOf
   down-lined st = cond-lined (ltb (here st .line) (linesHere st)) _ _
+
+  runsOn-lined : (st : State) → runsOn (lined w n st) ≡ lined w n (runsOn st)
+  unfolding runsOn remarked lined withSettings placeOf markOf
+  runsOn-lined st = refl
+
+  onward-lined : (st : State) → onward (lined w n st) ≡ lined w n (onward st)
+  unfolding onward toColumn placed lined withSettings placeOf
+  onward-lined st = ap runsOn (down-lined (toColumn 1 st)) ∙ runsOn-lined (down (toColumn 1 st))
 
   right-lined : (st : State) → right (lined w n st) ≡ lined w n (right st)
   unfolding right toColumn placed lined withSettings placeOf columnsOf
   right-lined st =
       let b : Bool = ltb (here st .column) (columnsHere st) in
       let to : State = toColumn (here st .column + 1) st in
-      ap (λ (x : State). cond b (lined w n to) x) (down-lined (toColumn 1 st)) ∙ cond-lined b to (down (toColumn 1 st))
+      ap (λ (x : State). cond b (lined w n to) x) (onward-lined st) ∙ cond-lined b to (onward st)
 
   printed-lined : (c : ℕ) (st : State) → printed c (lined w n st) ≡ lined w n (printed c st)
   unfolding printed stored shownAt lined withSettings placeOf textRows cellAt lineAt base columnsOf
   printed-lined c st = ap tracked (right-lined (stored c st)) ∙ tracked-lined (right (stored c st))
 
   control-lined : (c : ℕ) (st : State) → control c (lined w n st) ≡ lined w n (control c st)
-  unfolding control toColumn cleared onLines emptied withLayer withCells placed lined withSettings placeOf linesOf columnsOf base
+  unfolding control toColumn cleared remarked onLines emptied withLayer withCells placed lined withSettings placeOf linesOf columnsOf base markOf
   control-lined c st = go (eqb c 8) (eqb c 10) (eqb c 13) (eqb c 12)
     where
       go : (p q r s : Bool) → let l = lined w n st in
@@ -74,7 +83,7 @@ module _ (w : List ℕ) (n : ℕ) where
 
   -- every sequence: most name the other settings one by one
   obeyed-lined : (ms : ℕ → ℕ) (q : Seq) (st : State) → obeyed ms q (lined w n st) ≡ lined w n (obeyed ms q st)
-  unfolding obeyed cleared onLines blankFrom modeSet flagged withKeys withKindPatterns emptied withLayer withCells placed held centred lined withSettings placeOf linesOf columnsOf height textRows base cellAt lineAt
+  unfolding obeyed cleared remarked erased shifted onLines blankFrom modeSet flagged withKeys withKindPatterns emptied withLayer withCells placed held centred lined withSettings placeOf linesOf columnsOf height textRows base cellAt lineAt markOf
   obeyed-lined ms (PrintCode c) st = printed-lined c st
   obeyed-lined ms Clear st = refl
   obeyed-lined ms CursorOff st = refl

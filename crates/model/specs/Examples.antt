@@ -2,13 +2,15 @@
 -- rest those that say something of the rules; and rows of ours where the table is silent. Then a list for each request of document 02 that one
 -- message shows; several calls one after the other are in Runs.
 use Prim.Native.Nat.{ℕ, suc, zero, _+_, _-_, _*_}
-use mathlib.Core.Bool.{Bool, true, false, _&&_}
+use mathlib.Core.Bool.{Bool, true, false, _&&_, cond}
 use mathlib.Core.List.{List, [], _∷_, _++_}
 use lib.ListN.{length, getD, take, drop, replicate}
 use lib.Dec.{eqb}
 use Rattle.model.specs.declared.Answer.{Answer}
 use Rattle.model.specs.Bytes.{listFrom}
+use Rattle.model.specs.Checks.{member}
 use Rattle.model.specs.Line.{padded}
+use Rattle.model.specs.Marks.{marksOf}
 use Rattle.model.specs.Screens.{linesOf, columnsOf, placeOf, cellAt}
 use Rattle.model.specs.Calls.{Terminal, Request, request, message, served, answerOf, printedBy}
 use Rattle.model.specs.Opening.{openedTerminal}
@@ -39,6 +41,7 @@ pub data Fact : Type 0 where
   refusedBy : ℕ → Fact  -- the call's number; all counts 0
   waits : List ℕ → ℕ → Fact  -- the bytes that wait, the others of the array 0, and the stream's count
   text : ℕ → List ℕ → Fact  -- a key by its number, from 1, and its 8 codes
+  runOn : ℕ → List ℕ → Fact  -- a screen, and its lines that run on: these and no other (P5)
   keySettings : ℕ → ℕ → ℕ → ℕ → ℕ → ℕ → Fact  -- set, key strings, repeat, its two numbers, shift
   displayed : ℕ → ℕ → ℕ → ℕ → Fact  -- cursor on, its type, key display, boundary
 
@@ -85,6 +88,7 @@ holds (pattern c r b) d w bs = eqb (getD (d .state .settings .patterns) ((c - 22
 holds (refusedBy n) d w bs = eqb (w .number) n && eqb (w .taken) 0 && eqb (w .accepted) 0 && eqb (w .refused) 0 && eqb (w .first) 0 && eqb (w .offset) 0 && eqb (w .printed) 0 && eqb (length bs) 0
 holds (waits v n) d w bs = let s = d .state .settings in same? (s .waiting) (padded v) && eqb (s .held) (length v) && eqb (s .count) n
 holds (text k x) d w bs = same? (take 8 (drop ((k - 1) * 8) (d .state .settings .texts))) x
+holds (runOn k ls) d w bs = same? (marksOf (d .state .settings) (k - 1)) (listFrom (λ l. cond (member l ls) 1 0) 1 48)
 holds (keySettings c s r a b h) d w bs = let k = d .state .settings .keys in eqb (k .charset) c && eqb (k .strings) s && eqb (k .repeat) r && eqb (k .delay) a && eqb (k .interval) b && eqb (k .shift) h
 holds (displayed o n e p) d w bs = let s = d .state .settings in eqb (s .cursor) o && eqb (s .kind) n && eqb (s .display) e && eqb (s .boundary) p
 
@@ -286,8 +290,8 @@ added =
     ∷ example (127 ∷ 255 ∷ 27 ∷ 37 ∷ 0 ∷ 27 ∷ 37 ∷ 255 ∷ []) (counts 8 2 0 0 ∷ cell 1 1 1 127 ∷ cell 1 1 2 255 ∷ shows 1 3 0 ∷ cell 1 1 4 255 ∷ [])
     -- printing in the last place lifts
     ∷ example (27 ∷ 61 ∷ 55 ∷ 111 ∷ 65 ∷ []) (cursorAt 24 1 ∷ cell 1 23 80 65 ∷ cell 1 24 80 32 ∷ top 17 ∷ [])
-    -- 84 and 89 reach the line's and the screen's last cell
-    ∷ example (27 ∷ 61 ∷ 32 ∷ 111 ∷ 65 ∷ 66 ∷ 27 ∷ 61 ∷ 32 ∷ 32 ∷ 27 ∷ 84 ∷ []) (cell 1 1 80 32 ∷ cell 1 2 1 66 ∷ [])
+    -- 84 and 89 reach the line's and the screen's last cell (145 has unmarked line 2: P5)
+    ∷ example (27 ∷ 61 ∷ 32 ∷ 111 ∷ 65 ∷ 27 ∷ 145 ∷ 0 ∷ 2 ∷ 27 ∷ 61 ∷ 34 ∷ 32 ∷ 66 ∷ 27 ∷ 61 ∷ 33 ∷ 32 ∷ 27 ∷ 84 ∷ []) (counts 20 5 0 0 ∷ cell 1 2 80 32 ∷ cell 1 3 1 66 ∷ [])
     ∷ example (27 ∷ 61 ∷ 54 ∷ 111 ∷ 65 ∷ 27 ∷ 145 ∷ 0 ∷ 24 ∷ 27 ∷ 61 ∷ 32 ∷ 32 ∷ 27 ∷ 89 ∷ []) (counts 15 4 0 0 ∷ blankCells ∷ [])
     -- 212 from the last window; 148 and 151 by all of mode 1's window
     ∷ example (27 ∷ 213 ∷ 27 ∷ 212 ∷ []) (top 1 ∷ [])

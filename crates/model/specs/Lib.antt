@@ -1,6 +1,7 @@
 pub mod Bytes
 pub mod State
 pub mod Screens
+pub mod Marks
 pub mod Checks
 pub mod Sequences
 pub mod Reading
@@ -19,3 +20,4 @@ pub mod Stream
 pub mod Parameters
 pub mod Examples
 pub mod Runs
+pub mod LineRuns

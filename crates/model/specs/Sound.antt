@@ -1,5 +1,6 @@
 -- Document 01, "Numbers returned", 3: "Settings are sound exactly when each lies in the range that the rules below give,
--- cursors and windows are inside their screens, and step is 1 to H." The stream's line (P1) is in Line. As a claim (Sound) and as a test (sound?).
+-- cursors and windows are inside their screens, and step is 1 to H." The stream's line (P1) is in Line, a screen's
+-- marks (P5) in Marks. As a claim (Sound) and as a test (sound?).
 use mathlib.Core.Path.{_≡_}
 use Prim.Native.Nat.{ℕ, _+_, _-_, _≤_, _<_}
 use mathlib.Core.Bool.{Bool, _&&_, cond}
@@ -12,6 +13,7 @@ use Rattle.model.specs.declared.Settings.{Settings}
 use Rattle.model.specs.Checks.{Check, range, among, inRanges?, InRanges}
 use Rattle.model.specs.State.{State}
 use Rattle.model.specs.Line.{LineSound, line?}
+use Rattle.model.specs.Marks.{markOf, Marked, marked?}
 use Rattle.model.specs.Screens.{linesOf, columnsOf, placeOf, height}
 
 -- "cursor line 1 to lines, cursor column 1 to columns, top 1 to lines−H+1"
@@ -53,10 +55,11 @@ unfoldable pub plainRanges : Settings → List Check
 plainRanges s = range 0 (s .tracking) 1 ∷ range 0 (s .secret) 1 ∷ range 0 (s .cursor) 1 ∷ range 0 (s .display) 1 ∷ keyRanges (s .kind) (s .keys)
 
 -- the arrays are as long as their types say: two screens, three LEDs, twelve arrow codes, 31 patterns of 8 rows, twelve waiting bytes, ten key texts of
--- 8 codes (P2), which are free
+-- 8 codes (P2), which are free, and 48 marks of each screen (P5)
 unfoldable pub arrayRanges : Settings → List Check
 arrayRanges s =
-    range 2 (length (s .places)) 2 ∷ range 3 (length (s .keys .leds)) 3 ∷ range 12 (length (s .keys .arrows)) 12 ∷ range 248 (length (s .patterns)) 248 ∷ range 12 (length (s .waiting)) 12 ∷ range 80 (length (s .texts)) 80 ∷ []
+    range 2 (length (s .places)) 2 ∷ range 3 (length (s .keys .leds)) 3 ∷ range 12 (length (s .keys .arrows)) 12 ∷ range 248 (length (s .patterns)) 248 ∷ range 12 (length (s .waiting)) 12 ∷ range 80 (length (s .texts)) 80
+    ∷ range 96 (length (s .marks)) 96 ∷ []
 
 -- "Settings are sound exactly when"
 pub record Sound (s : Settings) : Type 0 where
@@ -68,6 +71,7 @@ pub record Sound (s : Settings) : Type 0 where
   pub step-high : s .step ≤ height s
   pub plain : InRanges (plainRanges s)
   pub line : LineSound (s .waiting) (s .held) (s .count)
+  pub marked : (k : ℕ) → k < 2 → Marked (linesOf s k) (markOf s k)
 
 -- what stands, fit to be served and painted: sound settings, and "Cells: 3,840 bytes. Layer: 1,280 bytes"
 pub record Good (st : State) : Type 0 where
@@ -96,9 +100,14 @@ otherRanges selected step height = range 0 selected 1 ∷ range 1 step height �
 unfoldable pub inside? : Settings → ℕ → Bool
 inside? s k = inRanges? (insideRanges (linesOf s k) (columnsOf s k) (height s) (placeOf s k))
 
+-- the marks of screen k
+unfoldable pub marks? : Settings → ℕ → Bool
+marks? s k = marked? 48 (linesOf s k) (markOf s k)
+
 -- the test of soundness
 unfoldable pub sound? : Settings → Bool
 sound? s =
     inRanges? (arrayRanges s)
     && (inRanges? (shapeRanges (s .mode) (s .lines1) (s .lines2) (s .columns1) (s .columns2))
-    && (inRanges? (otherRanges (s .selected) (s .step) (height s)) && (inRanges? (plainRanges s) && (inside? s 0 && (inside? s 1 && line? (s .waiting) (s .held) (s .count))))))
+    && (inRanges? (otherRanges (s .selected) (s .step) (height s)) && (inRanges? (plainRanges s)
+    && (inside? s 0 && (inside? s 1 && (line? (s .waiting) (s .held) (s .count) && (marks? s 0 && marks? s 1)))))))

@@ -1,4 +1,4 @@
-// What stands: the settings in seven lines, a line of sums, and the rows.
+// What stands: the settings in nine lines, a line of sums, and the rows.
 ghost use mathlib.Core.Path.{_≡_};
 ghost use Rattle.report.specs.Adler.{adler32};
 use crate::adler::adler32;
@@ -30,6 +30,8 @@ pub fn say_standing(
     say_keys(keys, settings.display);
     let waiting = settings.waiting;
     say_stream(settings.count, &waiting, settings.held);
+    let marks = settings.marks;
+    say_runs(&marks);
     say_number(b"sums cells ", adler32(1, cells) as u64);
     say_number(b" layer ", adler32(1, layer) as u64);
     say_number(b" patterns ", patterns_sum(&patterns) as u64);
@@ -117,4 +119,28 @@ fn say_stream(count: u32, waiting: &[u8; 12], held: u8) {
         i += 1;
     }
     say(b"\n");
+}
+
+// `runs 1 L L ..` and `runs 2 L L ..`: of each screen the lines that run on, none after the number where none does.
+fn say_runs(marks: &[u8; 96]) {
+    say(b"runs 1");
+    let mut i: usize = 0;
+    while i < 48 {
+        say_line(i as u8 + 1, marks[i]);
+        i += 1;
+    }
+    say(b"\nruns 2");
+    let mut k: usize = 48;
+    while k < 96 {
+        say_line(k as u8 - 47, marks[k]);
+        k += 1;
+    }
+    say(b"\n");
+}
+
+// A line's number, if it is marked.
+fn say_line(line: u8, mark: u8) {
+    if mark != 0 {
+        say_byte(b" ", line);
+    }
 }

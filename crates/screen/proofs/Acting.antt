@@ -23,6 +23,7 @@ framed-placed {s} q e = record {
   lines-are = e .lines-are;
   columns-are = e .columns-are;
   base-is = e .base-is;
+  first-is = e .first-is;
   rows-are = e .rows-are;
   height-is = e .height-is;
   shift-is = e .shift-is;

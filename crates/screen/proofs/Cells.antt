@@ -7,8 +7,7 @@ use Rattle.model.specs.declared.Place.{Place}
 use Rattle.model.proofs.Keep.{lines-inside}
 use Rattle.screen.specs.declared.Frame.{Frame}
 use Rattle.screen.specs.Frame.{Stands}
-use Rattle.screen.specs.Acts.{Reads}
-use Rattle.screen.specs.Here.{cellIn, restOfLine, restOfScreen}
+use Rattle.screen.specs.Here.{cellIn}
 
 -- the product of two bytes
 pub product : {a b x y : ℕ} → a ≡ x → b ≡ y → x < 256 → y < 256 → (a * b ≡ x * y) × (a * b < 65536)
@@ -26,13 +25,10 @@ module _ {f : Frame} {p : Place} (h : Stands f p) where
   pub cell-room : cellIn f p + ((f .lines - p .line) * f .columns + (f .columns + 1 - p .column)) ≤ 3840
   cell-room = omega (arith, h .among, h .fits, rest (f .columns) (p .line) (f .lines) (h .fits .line-low) (h .fits .line-high))
 
+  -- and through the end of a line below it, or its own
+  pub through-room : (n : ℕ) → n ≤ f .lines → cellIn f p + ((n - p .line) * f .columns + (f .columns + 1 - p .column)) ≤ 3840
+  through-room n k = let less : n - p .line ≤ f .lines - p .line = omega arith in omega (arith, cell-room, mul-le-mul-right (f .columns) less)
+
   -- lines of the screen, at least one
   pub lines-room : (from count : ℕ) → 1 ≤ count → from + count ≤ f .lines → (f .base + from * f .columns + count * f .columns ≤ 3840) × (f .columns ≤ count * f .columns)
   lines-room from count a b = (omega (arith, h .among, lines-inside (f .columns) from count (f .lines) b), omega (arith, mul-le-mul-right (f .columns) a))
-
--- 84 and 89: how many cells
-pub line-rest : {f : Frame} {p : Place} {n : ℕ} → f .columns + 1 - p .column ≡ n → Reads restOfLine f p n
-line-rest k st e i = rw (i, ← e .columns-are) k
-
-pub screen-rest : {f : Frame} {p : Place} {n : ℕ} → (f .lines - p .line) * f .columns + (f .columns + 1 - p .column) ≡ n → Reads restOfScreen f p n
-screen-rest k st e i = rw (i, ← e .columns-are, ← e .lines-are) k

@@ -1,6 +1,6 @@
 -- The frame of sound settings, and that they are ready for it.
 use mathlib.Core.Path.{_≡_, refl}
-use Prim.Native.Nat.{_+_, _<_, _≤_, ℕ}
+use Prim.Native.Nat.{_*_, _+_, _<_, _≤_, ℕ}
 use native.Mathlib.Omega.{arith}
 use mathlib.Core.Bool.{Bool, _&&_, cond, false, true}
 use lib.Dec.{eqb}
@@ -33,6 +33,7 @@ module _ {s : Settings} (h : Sound s) where
   stands-of e = record {
     among = rw (e .base-is, e .lines-are, e .columns-are) (within s h (s .selected) (h .selected));
     columns-low = rw (e .columns-are) (wide s h (s .selected) (h .selected));
+    marks-among = omega (arith, e .first-is, h .selected);
     lines-high = rw (e .lines-are) (lines-high (s .selected));
     height-low = rw (e .height-is) (omega (arith, height-low s));
     height-high = rw (e .height-is, e .lines-are) (tall s h (s .selected) (h .selected));
@@ -40,12 +41,12 @@ module _ {s : Settings} (h : Sound s) where
     fits = rw (e .lines-are, e .columns-are, e .height-is) (h .inside (s .selected) (h .selected));
   }
 
-  pub frame : {f : Frame} → f .lines ≡ linesOf s (s .selected) → f .columns ≡ columnsOf s (s .selected) → f .base ≡ base s (s .selected)
+  pub frame : {f : Frame} → f .lines ≡ linesOf s (s .selected) → f .columns ≡ columnsOf s (s .selected) → f .base ≡ base s (s .selected) → f .first ≡ 48 * s .selected
       → f .height ≡ height s → f .shift ≡ cond (eqb (s .mode) 2 && eqb (s .selected) 1) (s .columns1 + 1) 0
       → f .rows ≡ textRows s → f .step ≡ s .step → f .tracking ≡ s .tracking → FrameOf s f
   unfolding arrayRanges
-  frame {f} a b c d e g i j =
-      let k : Framed s f = record { two-places = omega (arith, h .arrays .0); selected-low = h .selected; lines-are = a; columns-are = b; base-is = c; rows-are = g; height-is = d; shift-is = e; step-is = i; tracking-is = j } in
+  frame {f} a b c o d e g i j =
+      let k : Framed s f = record { two-places = omega (arith, h .arrays .0); selected-low = h .selected; lines-are = a; columns-are = b; base-is = c; first-is = o; rows-are = g; height-is = d; shift-is = e; step-is = i; tracking-is = j } in
       record { framed = k; stands = stands-of k }
 
 -- which columns of the picture are another screen's

@@ -1,4 +1,6 @@
 pub mod Acting
+pub mod LogicalLaws
+pub mod Carried
 pub mod Frames
 pub mod Cells
 pub mod Shown

@@ -1,5 +1,5 @@
 -- The cursor: storing where it stands, and moving it.
-use mathlib.Core.Path.{_∙_, _≡_, sym}
+use mathlib.Core.Path.{_∙_, _≡_}
 use Prim.Native.Nat.{_+_, _-_, _<_, _≤_, max, ℕ}
 use native.Mathlib.Omega.{arith}
 use mathlib.Core.Bool.{Bool}
@@ -8,15 +8,17 @@ use lib.ListN.{length-set, set}
 use lib.Dec.{ltb}
 use borrow.Author.Tests.{le-ltb, lt-ltb, ne-eqb}
 use Rattle.model.specs.declared.Place.{Place}
-use Rattle.model.specs.Bytes.{scrolledUp}
 use Rattle.model.specs.State.{State, putAt, state}
 use Rattle.model.specs.Screens.{columnsHere, here, linesHere}
-use Rattle.model.specs.Rules.{control, down, onLines, placed, right, stored, toColumn, unmark}
+use Rattle.model.specs.Marks.{runningOn}
+use Rattle.model.specs.Rules.{control, down, lifted, onward, placed, remarked, right, runsOn, stored, toColumn, unmark}
 use Rattle.screen.specs.declared.Frame.{Frame}
 use Rattle.screen.specs.Frame.{Ready}
-use Rattle.screen.specs.Acts.{Acts, Reads}
+use Rattle.screen.specs.Acts.{Acts, ActsWith, Reads}
+use Rattle.screen.specs.Logical.{Remarks}
 use Rattle.screen.specs.Here.{cellIn, shownHere}
-use Rattle.screen.proofs.Acting.{at-value, likewise, stays, still, when-false, when-true}
+use Rattle.screen.proofs.Acting.{at-value, likewise, stays, still, when-true}
+use Rattle.screen.proofs.Carried.{at-value-with, remarked-acts, then-with, when-false-with}
 use Rattle.screen.proofs.Steps.{cell-is, cursor-acts, here-is, unmarked-layer}
 
 -- tests: the cursor's line is above the last, its column before the last
@@ -57,11 +59,9 @@ module _ {f : Frame} {p : Place} {c l : List ℕ} where
       when-true _ (line-test (lt-ltb (p .line) (f .lines) k))
       (cursor-acts h (λ (x : Place). x .line + 1) (λ (x : Place). x .column) (omega arith) (omega arith) (h .stands .fits .column-low) (h .stands .fits .column-high) j)
 
-  pub down-lifts : {c′ l′ : List ℕ} → f .lines ≤ p .line → Acts (λ (st : State). onLines 0 (f .lines) (scrolledUp (columnsHere st)) st) f p p c l c′ l′ → Acts down f p p c l c′ l′
+  pub down-lifts : {m c′ l′ m′ : List ℕ} → f .lines ≤ p .line → ActsWith lifted f p p c l m c′ l′ m′ → ActsWith down f p p c l m c′ l′ m′
   unfolding down
-  down-lifts k a =
-      when-false _ (line-test (le-ltb (p .line) (f .lines) k))
-      (at-value (λ (n : ℕ) (st : State). onLines 0 n (scrolledUp (columnsHere st)) st) (λ st e i. sym (e .lines-are)) a)
+  down-lifts k a = when-false-with _ (line-test (le-ltb (p .line) (f .lines) k)) a
 
   pub right-steps : {r : Place} → Ready f p c l → p .column < f .columns → r ≡ putAt (p .line) (p .column + 1) p → Acts right f p r c l c l
   unfolding right
@@ -69,9 +69,14 @@ module _ {f : Frame} {p : Place} {c l : List ℕ} where
       when-true _ (column-test (lt-ltb (p .column) (f .columns) k))
       (at-value (λ (x : Place) (st : State). toColumn (x .column + 1) st) here-is (column-acts h (p .column + 1) (omega arith) (omega arith) j))
 
-  pub right-wraps : {r : Place} {c′ l′ : List ℕ} → f .columns ≤ p .column → Acts (λ (st : State). down (toColumn 1 st)) f p r c l c′ l′ → Acts right f p r c l c′ l′
+  pub right-wraps : {r : Place} {m c′ l′ m′ : List ℕ} → f .columns ≤ p .column → ActsWith onward f p r c l m c′ l′ m′ → ActsWith right f p r c l m c′ l′ m′
   unfolding right
-  right-wraps k a = when-false _ (column-test (le-ltb (p .column) (f .columns) k)) a
+  right-wraps k a = when-false-with _ (column-test (le-ltb (p .column) (f .columns) k)) a
+
+  -- P5: the line above the cursor's is marked after the step
+  pub onward-marks : {r : Place} {m c′ l′ m₁ m₂ : List ℕ} → ActsWith (λ (st : State). down (toColumn 1 st)) f p r c l m c′ l′ m₁ → Remarks (f .first) (runningOn (r .line - 1)) m₁ m₂ → ActsWith onward f p r c l m c′ l′ m₂
+  unfolding onward runsOn
+  onward-marks {r} a w = then-with a (at-value-with (λ (x : Place) (st : State). remarked (runningOn (x .line - 1)) st) here-is (remarked-acts (a .ready) (runningOn (r .line - 1)) (a .marks-are) w))
 
   -- "other codes do nothing"
   pub no-code : (n : ℕ) → Ready f p c l → (n ≡ 8 → ⊥) → (n ≡ 10 → ⊥) → (n ≡ 13 → ⊥) → (n ≡ 12 → ⊥) → Acts (control n) f p p c l c l

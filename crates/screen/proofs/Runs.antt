@@ -16,9 +16,9 @@ use Rattle.model.proofs.Tests.{and-left, and-right}
 use Rattle.screen.specs.declared.Frame.{Frame}
 use Rattle.screen.specs.declared.run.Run.{Run}
 use Rattle.screen.specs.Frame.{Ready}
-use Rattle.screen.specs.Acts.{Acts}
+use Rattle.screen.specs.Acts.{ActsWith}
 use Rattle.screen.specs.Run.{Part, Printing, Ran, WholeRun, allPrint?, printedAll, prints?}
-use Rattle.screen.proofs.Acting.{likewise, still, then}
+use Rattle.screen.proofs.Carried.{likewise-with, still-with, then-with}
 
 -- bytes behind others
 printed-more : (xs ys : List ℕ) (st : State) → printedAll (xs ++ ys) st ≡ printedAll ys (printedAll xs st)
@@ -88,33 +88,33 @@ module _ (m : List ℕ) (at : ℕ) where
       go false e = sym e
 
 -- the bytes from an offset up to `at` were printed
-pub record Along (m : List ℕ) (f : Frame) (from : ℕ) (p : Place) (c l : List ℕ) (at : ℕ) (q : Place) (c′ l′ : List ℕ) : Type 0 where
+pub record Along (m : List ℕ) (f : Frame) (from : ℕ) (p : Place) (c l k : List ℕ) (at : ℕ) (q : Place) (c′ l′ k′ : List ℕ) : Type 0 where
   pub low : from ≤ at
-  pub acts : Acts (printedAll (take (at - from) (drop from m))) f p q c l c′ l′
+  pub acts : ActsWith (printedAll (take (at - from) (drop from m))) f p q c l k c′ l′ k′
 
-module _ {m : List ℕ} {f : Frame} {p : Place} {c l : List ℕ} where
-  pub along-none : (from : ℕ) → Ready f p c l → Along m f from p c l from p c l
+module _ {m : List ℕ} {f : Frame} {p : Place} {c l k : List ℕ} where
+  pub along-none : (from : ℕ) → Ready f p c l → length k ≡ 96 → Along m f from p c l k from p c l k
   unfolding printedAll
-  along-none from r = record { low = omega arith; acts = let z : from - from ≡ 0 = omega arith in likewise (λ s e k. rw z) (still r) }
+  along-none from r n = record { low = omega arith; acts = let z : from - from ≡ 0 = omega arith in likewise-with (λ s e i j. rw z) (still-with r n) }
 
   -- a part of one byte, of as many as stay in the line
-  module _ {at to : ℕ} {r : Run} {c₁ l₁ : List ℕ} where
-    pub part-one : {b : ℕ} → at < to → to ≤ length m → r .at ≡ at + 1 → b ≡ getD m at 0 → Acts (printed b) f p (r .place) c l c₁ l₁ → Part m at to f p r c l c₁ l₁
+  module _ {at to : ℕ} {r : Run} {c₁ l₁ k₁ : List ℕ} where
+    pub part-one : {b : ℕ} → at < to → to ≤ length m → r .at ≡ at + 1 → b ≡ getD m at 0 → ActsWith (printed b) f p (r .place) c l k c₁ l₁ k₁ → Part m at to f p r c l k c₁ l₁ k₁
     unfolding printedAll
-    part-one h k e i a = record {
+    part-one h j e i a = record {
       some = omega arith;
       most = omega arith;
-      acts = let n : r .at - at ≡ 1 = omega (arith, e) in likewise (λ s x y. rw (n, drop-cons m at 0 (omega arith))) (rw i at a);
+      acts = let n : r .at - at ≡ 1 = omega (arith, e) in likewise-with (λ s x y z. rw (n, drop-cons m at 0 (omega arith))) (rw i at a);
     }
 
-    pub part-many : {n : ℕ} → 1 ≤ n → at + n ≤ to → r .at ≡ at + n → Acts (printedAll (take n (drop at m))) f p (r .place) c l c₁ l₁ → Part m at to f p r c l c₁ l₁
-    part-many {n} h k e a = let z : r .at - at ≡ n = omega (arith, e) in record { some = omega arith; most = omega arith; acts = rw z a }
+    pub part-many : {n : ℕ} → 1 ≤ n → at + n ≤ to → r .at ≡ at + n → ActsWith (printedAll (take n (drop at m))) f p (r .place) c l k c₁ l₁ k₁ → Part m at to f p r c l k c₁ l₁ k₁
+    part-many {n} h j e a = let z : r .at - at ≡ n = omega (arith, e) in record { some = omega arith; most = omega arith; acts = rw z a }
 
-  pub along-part : {from at to : ℕ} {q : Place} {r : Run} {c₁ l₁ c₂ l₂ : List ℕ} → Along m f from p c l at q c₁ l₁ → Part m at to f q r c₁ l₁ c₂ l₂ → Along m f from p c l (r .at) (r .place) c₂ l₂
+  pub along-part : {from at to : ℕ} {q : Place} {r : Run} {c₁ l₁ k₁ c₂ l₂ k₂ : List ℕ} → Along m f from p c l k at q c₁ l₁ k₁ → Part m at to f q r c₁ l₁ k₁ c₂ l₂ k₂ → Along m f from p c l k (r .at) (r .place) c₂ l₂ k₂
   along-part {from} {at} {r = r} a w = record {
     low = omega (arith, a .low, w .some);
-    acts = likewise (λ s i k. rw (bytes-more m from at (r .at) (a .low) (omega (arith, w .some))) (printed-more _ _ _)) (then (a .acts) (w .acts));
+    acts = likewise-with (λ s i j o. rw (bytes-more m from at (r .at) (a .low) (omega (arith, w .some))) (printed-more _ _ _)) (then-with (a .acts) (w .acts));
   }
 
-  pub along-all : {at to : ℕ} {r : Run} {c₁ l₁ : List ℕ} → WholeRun m at to → r .at ≡ to → Along m f at p c l (r .at) (r .place) c₁ l₁ → Ran m at f p r c l c₁ l₁
+  pub along-all : {at to : ℕ} {r : Run} {c₁ l₁ k₁ : List ℕ} → WholeRun m at to → r .at ≡ to → Along m f at p c l k (r .at) (r .place) c₁ l₁ k₁ → Ran m at f p r c l k c₁ l₁ k₁
   along-all {at} h e a = record { run = subst (WholeRun m at) (sym e) h; acts = a .acts }

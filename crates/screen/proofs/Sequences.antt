@@ -13,18 +13,18 @@ use Rattle.model.proofs.Sequence.{the-type}
 use Rattle.model.proofs.Tests.{differ}
 use Rattle.model.proofs.Cases.{none-passes}
 use Rattle.screen.specs.declared.Frame.{Frame}
-use Rattle.screen.specs.Acts.{Acts}
+use Rattle.screen.specs.Acts.{ActsWith}
 use Rattle.model.specs.OnScreen.{onScreen?, onScreenCodes}
 use Rattle.screen.specs.Obeys.{Obeys}
 
-module _ {q : Seq} {f : Frame} {p r : Place} {c l c′ l′ : List ℕ} where
+module _ {q : Seq} {f : Frame} {p r : Place} {c l m c′ l′ m′ : List ℕ} where
   -- one that acts on the screen
-  pub obeys : {q′ : Seq} → q ≡ q′ → onScreen? q′ ≡ true → ((m : ℕ → ℕ) → Acts (obeyed m q′) f p r c l c′ l′) → Obeys q f p r c l c′ l′
-  obeys e h a = record { on = λ k m. rw e (a m); off = λ k. absurd (differ (sym h ∙ ap onScreen? (sym e) ∙ k)) }
+  pub obeys : {q′ : Seq} → q ≡ q′ → onScreen? q′ ≡ true → ((n : ℕ → ℕ) → ActsWith (obeyed n q′) f p r c l m c′ l′ m′) → Obeys q f p r c l m c′ l′ m′
+  obeys e h a = record { on = λ k n. rw e (a n); off = λ k. absurd (differ (sym h ∙ ap onScreen? (sym e) ∙ k)) }
 
 -- one that does not
-pub idles : {q : Seq} {f : Frame} {p : Place} {c l : List ℕ} → onScreen? q ≡ false → Obeys q f p p c l c l
-idles h = record { on = λ k. absurd (differ (sym k ∙ h)); off = λ k. (refl, refl, refl) }
+pub idles : {q : Seq} {f : Frame} {p : Place} {c l m : List ℕ} → onScreen? q ≡ false → Obeys q f p p c l m c l m
+idles h = record { on = λ k. absurd (differ (sym k ∙ h)); off = λ k. (refl, refl, refl, refl) }
 
 -- the variants, by their position, that stay for the last arm
 abbrev others : List ℕ

@@ -18,7 +18,7 @@ use Rattle.screen.proofs.Rows.{unmark-empty}
 
 -- another place of the same frame
 pub moved : {f : Frame} {p r : Place} → Stands f p → Fits (f .lines) (f .columns) (f .height) r → Stands f r
-moved h k = record { among = h .among; columns-low = h .columns-low; lines-high = h .lines-high; height-low = h .height-low; height-high = h .height-high; step-high = h .step-high; fits = k }
+moved h k = record { among = h .among; columns-low = h .columns-low; marks-among = h .marks-among; lines-high = h .lines-high; height-low = h .height-low; height-high = h .height-high; step-high = h .step-high; fits = k }
 
 pub put-stands : {f : Frame} {p r : Place} {line column : ℕ} → Stands f p → 1 ≤ line → line ≤ f .lines → 1 ≤ column → column ≤ f .columns → r ≡ putAt line column p → Stands f r
 put-stands h a b c d k = rw k (moved h (record { line-low = a; line-high = b; column-low = c; column-high = d; top-low = h .fits .top-low; top-high = h .fits .top-high }))

@@ -6,7 +6,7 @@ use mathlib.Core.List.{List}
 use lib.ListN.{length, set}
 use Rattle.model.specs.declared.Place.{Place}
 use Rattle.model.specs.declared.Settings.{Settings}
-use Rattle.model.specs.State.{State, state, withPlaces}
+use Rattle.model.specs.State.{State, state, withMarks, withPlaces}
 use Rattle.model.specs.Screens.{placeOf, here}
 use Rattle.screen.specs.declared.Frame.{Frame}
 use Rattle.screen.specs.Frame.{Framed, Ready}
@@ -15,10 +15,20 @@ use Rattle.screen.specs.Frame.{Framed, Ready}
 abbrev pub withPlace : Settings → Place → Settings
 withPlace s r = withPlaces s (set (s .places) (s .selected) r)
 
--- from place p, cells and layer to place r, cells′ and layer′, as the rule does, and ready for the next
+-- from place p, cells and layer to place r, cells′ and layer′, as the rule does, and ready for the next; the marks stay
 pub record Acts (rule : State → State) (f : Frame) (p r : Place) (cells layer cells′ layer′ : List ℕ) : Type 0 where
   pub does : (s : Settings) → Framed s f → placeOf s (s .selected) ≡ p → rule (state s cells layer) ≡ state (withPlace s r) cells′ layer′
   pub ready : Ready f r cells′ layer′
+
+-- and other marks (P5)
+abbrev pub withHere : Settings → Place → List ℕ → Settings
+withHere s r marks = withMarks (withPlace s r) marks
+
+-- the same of a function that is lent the marks as well, from marks to marks′
+pub record ActsWith (rule : State → State) (f : Frame) (p r : Place) (cells layer marks cells′ layer′ marks′ : List ℕ) : Type 0 where
+  pub does : (s : Settings) → Framed s f → placeOf s (s .selected) ≡ p → s .marks ≡ marks → rule (state s cells layer) ≡ state (withHere s r marks′) cells′ layer′
+  pub ready : Ready f r cells′ layer′
+  pub marks-are : length marks′ ≡ 96
 
 -- the same of a function that is lent the layer alone: the cells stay, whatever they are
 abbrev pub ActsAbove : (State → State) → Frame → Place → Place → List ℕ → List ℕ → Type 0

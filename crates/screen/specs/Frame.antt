@@ -21,18 +21,20 @@ pub record Framed (s : Settings) (f : Frame) : Type 0 where
   pub lines-are : f .lines ≡ linesOf s (s .selected)
   pub columns-are : f .columns ≡ columnsOf s (s .selected)
   pub base-is : f .base ≡ base s (s .selected)
+  pub first-is : f .first ≡ 48 * s .selected
   pub rows-are : f .rows ≡ textRows s
   pub height-is : f .height ≡ height s
   pub shift-is : f .shift ≡ cond (eqb (s .mode) 2 && eqb (s .selected) 1) (s .columns1 + 1) 0
   pub step-is : f .step ≡ s .step
   pub tracking-is : f .tracking ≡ s .tracking
 
--- the screen of f lies among the cells, its window is no taller than it, and p is a place of it
+-- the screen of f lies among the cells and its marks among the marks, its window is no taller than it, and p is a place of it
 pub record Stands (f : Frame) (p : Place) : Type 0 where
   pub among : f .base + f .lines * f .columns ≤ 3840
   pub columns-low : 1 ≤ f .columns
+  pub marks-among : f .first + 48 ≤ 96
   pub lines-high : f .lines ≤ 48
-  pub height-low : 1 ≤ f .height
+  pub height-low : 2 ≤ f .height
   pub height-high : f .height ≤ f .lines
   pub step-high : f .step ≤ f .height
   pub fits : Fits (f .lines) (f .columns) (f .height) p

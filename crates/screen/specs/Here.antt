@@ -20,14 +20,6 @@ cellIn f p = f .base + (p .line - 1) * f .columns + (p .column - 1)
 abbrev pub shownHere : State → ℕ
 shownHere st = shownAt (st .settings) (here st .line) (here st .column)
 
--- 84: the cells "from the cursor to the end of its line"
-abbrev pub restOfLine : State → ℕ
-restOfLine st = columnsHere st + 1 - here st .column
-
--- 89: "to the end of the screen"
-abbrev pub restOfScreen : State → ℕ
-restOfScreen st = (linesHere st - here st .line) * columnsHere st + (columnsHere st + 1 - here st .column)
-
 -- "While tracking is on, .. a window that misses the cursor's line"
 abbrev pub lost : State → Bool
 lost st = eqb (st .settings .tracking) 1 && missed st

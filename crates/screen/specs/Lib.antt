@@ -1,5 +1,6 @@
 pub mod Frame
 pub mod Acts
+pub mod Logical
 pub mod Here
 pub mod Obeys
 pub mod Run

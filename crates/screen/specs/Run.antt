@@ -10,7 +10,7 @@ use Rattle.model.specs.State.{State}
 use Rattle.model.specs.Rules.{printed, unmark}
 use Rattle.screen.specs.declared.Frame.{Frame}
 use Rattle.screen.specs.declared.run.Run.{Run}
-use Rattle.screen.specs.Acts.{Acts}
+use Rattle.screen.specs.Acts.{ActsWith}
 
 -- bytes printed one after the other
 unfoldable pub printedAll : List ℕ → State → State
@@ -38,15 +38,15 @@ pub record WholeRun (m : List ℕ) (at to : ℕ) : Type 0 where
   pub ends : prints? m to ≡ false
 
 -- a whole run is printed
-pub record Ran (m : List ℕ) (at : ℕ) (f : Frame) (p : Place) (r : Run) (cells layer cells′ layer′ : List ℕ) : Type 0 where
+pub record Ran (m : List ℕ) (at : ℕ) (f : Frame) (p : Place) (r : Run) (cells layer marks cells′ layer′ marks′ : List ℕ) : Type 0 where
   pub run : WholeRun m at (r .at)
-  pub acts : Acts (printedAll (take (r .at - at) (drop at m))) f p (r .place) cells layer cells′ layer′
+  pub acts : ActsWith (printedAll (take (r .at - at) (drop at m))) f p (r .place) cells layer marks cells′ layer′ marks′
 
 -- of the bytes of m from an offset up to another the first are printed, at least one
-pub record Part (m : List ℕ) (at to : ℕ) (f : Frame) (p : Place) (r : Run) (cells layer cells′ layer′ : List ℕ) : Type 0 where
+pub record Part (m : List ℕ) (at to : ℕ) (f : Frame) (p : Place) (r : Run) (cells layer marks cells′ layer′ marks′ : List ℕ) : Type 0 where
   pub some : at < r .at
   pub most : r .at ≤ to
-  pub acts : Acts (printedAll (take (r .at - at) (drop at m))) f p (r .place) cells layer cells′ layer′
+  pub acts : ActsWith (printedAll (take (r .at - at) (drop at m))) f p (r .place) cells layer marks cells′ layer′ marks′
 
 -- "emptying writes 0 in both": so many places in a row
 unfoldable pub unmarked : ℕ → ℕ → List ℕ → List ℕ

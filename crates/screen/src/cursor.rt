@@ -1,16 +1,18 @@
 // The cursor of the selected screen: storing where it stands, and moving it.
 use super::Frame;
 use super::lines;
+use super::logical;
 use super::marks;
 use super::places;
 use super::wide;
 use model::Place;
 use model::SHOWN;
 ghost use mathlib.Core.Path.{_≡_};
-ghost use Prim.Native.Nat.{_-_, max};
-ghost use Rattle.model.specs.Rules.{stored, down, right};
+ghost use lib.ListN.{length};
+ghost use Prim.Native.Nat.{_-_, _≤_, max};
+ghost use Rattle.model.specs.Rules.{stored, down, onward, right};
 ghost use Rattle.screen.specs.Frame.{Stands, Ready};
-ghost use Rattle.screen.specs.Acts.{Acts, Reads};
+ghost use Rattle.screen.specs.Acts.{Acts, ActsWith, Reads};
 ghost use Rattle.screen.specs.Here.{shownHere};
 
 // The place that shows the cursor's cell, or 640 for none. Only in mode 1 is the window taller than the rows: the lines behind
@@ -49,28 +51,53 @@ pub(crate) fn before(column: u8) -> u8
     if 1 < column { column - 1 } else { 1 }
 }
 
-// "One line down"; below the last line the screen is lifted.
-pub(crate) fn down(frame: Frame, place: Place, cells: &mut [u8], layer: &mut [u8]) -> Place
+// "One line down"; below the last line the screen is lifted. Either way there is a line above the cursor's.
+pub(crate) fn down(
+    frame: Frame,
+    place: Place,
+    cells: &mut [u8],
+    layer: &mut [u8],
+    marks: &mut [u8],
+) -> Place
     requires { ⌜ Ready frame place (now cells) (now layer) ⌝ }
-    ensures { λ r. ⌜ Acts down frame place r (now (cells .entry)) (now (layer .entry)) (now (cells .exit)) (now (layer .exit)) ⌝ }
+    requires { ⌜ length (now marks) ≡ 96 ⌝ }
+    ensures { λ r. ⌜ (ActsWith down frame place r (now (cells .entry)) (now (layer .entry)) (now (marks .entry)) (now (cells .exit)) (now (layer .exit)) (now (marks .exit))) × (2 ≤ r .line) ⌝ }
 {
     if place.line < frame.lines {
         places::put_at(place, place.line + 1, place.column)
     } else {
-        lines::scroll(frame, place, lines::UP, 0, frame.lines, cells, layer);
+        lines::lift(frame, place, cells, layer, marks);
         place
     }
 }
 
 // "Moves right. From the last column it goes to column 1 of the next line."
-pub(crate) fn right(frame: Frame, place: Place, cells: &mut [u8], layer: &mut [u8]) -> Place
+pub(crate) fn right(
+    frame: Frame,
+    place: Place,
+    cells: &mut [u8],
+    layer: &mut [u8],
+    marks: &mut [u8],
+) -> Place
     requires { ⌜ Ready frame place (now cells) (now layer) ⌝ }
-    ensures { λ r. ⌜ Acts right frame place r (now (cells .entry)) (now (layer .entry)) (now (cells .exit)) (now (layer .exit)) ⌝ }
+    requires { ⌜ length (now marks) ≡ 96 ⌝ }
+    ensures { λ r. ⌜ ActsWith right frame place r (now (cells .entry)) (now (layer .entry)) (now (marks .entry)) (now (cells .exit)) (now (layer .exit)) (now (marks .exit)) ⌝ }
 {
     if place.column < frame.columns {
         places::put_at(place, place.line, place.column + 1)
     } else {
-        let first = places::put_at(place, place.line, 1);
-        down(frame, first, cells, layer)
+        onward(frame, place, cells, layer, marks)
     }
+}
+
+// The step to column 1 of the next line, and "the mark on the line left": after the step, or a lift, that is the line above.
+fn onward(frame: Frame, place: Place, cells: &mut [u8], layer: &mut [u8], marks: &mut [u8]) -> Place
+    requires { ⌜ Ready frame place (now cells) (now layer) ⌝ }
+    requires { ⌜ length (now marks) ≡ 96 ⌝ }
+    ensures { λ r. ⌜ ActsWith onward frame place r (now (cells .entry)) (now (layer .entry)) (now (marks .entry)) (now (cells .exit)) (now (layer .exit)) (now (marks .exit)) ⌝ }
+{
+    let first = places::put_at(place, place.line, 1);
+    let next = down(frame, first, cells, layer, marks);
+    logical::run_on(frame, next.line - 1, marks);
+    next
 }

@@ -1,7 +1,8 @@
-// Everything that acts on the selected screen alone: its cells, the layer, its cursor and window. What it needs of the settings
-// is a frame, which a caller keeps beside the selected screen's place, so that a printed byte copies no settings.
+// Everything that acts on the selected screen alone: its cells, the layer, its cursor and window, the marks of its lines. What it needs of the settings
+// is a frame, which a caller keeps beside the selected screen's place and the marks, so that a printed byte copies no settings.
 pub mod cursor;
 mod lines;
+mod logical;
 mod marks;
 mod places;
 pub mod run;
@@ -13,6 +14,7 @@ use model::Settings;
 ghost use mathlib.Core.Path.{_≡_};
 ghost use Prim.Native.Nat.{_+_, _*_, _-_, _<_, min};
 ghost use lib.Dec.{eqb};
+ghost use lib.ListN.{length};
 ghost use mathlib.Core.Bool.{cond, true};
 ghost use Rattle.model.specs.Sound.{Sound};
 ghost use Rattle.model.specs.Checks.{InRanges};
@@ -21,15 +23,16 @@ ghost use Rattle.model.specs.State.{State, putAt};
 ghost use Rattle.model.specs.Screens.{here};
 ghost use Rattle.model.specs.Rules.{printed, control, placed, trackedFar};
 ghost use Rattle.screen.specs.Frame.{Stands, LayerOf, Ready, FrameOf, limitsIn};
-ghost use Rattle.screen.specs.Acts.{Acts, ActsAbove};
+ghost use Rattle.screen.specs.Acts.{ActsAbove, ActsWith};
 ghost use Rattle.model.specs.OnScreen.{onScreen?};
 ghost use Rattle.screen.specs.Obeys.{Obeys};
 
-// Of the selected screen: its first cell, its lines and columns; the rows of the shown screen that show text and the window's height H; by
+// Of the selected screen: its first cell, its first mark, its lines and columns; the rows of the shown screen that show text and the window's height H; by
 // how many columns the picture shows it further right (mode 2, screen 2); the step of the window, and whether it tracks the cursor.
 // `bare` is no setting: it says that the layer is known to be empty, so that it need not be emptied again.
 pub struct Frame {
     pub base: usize,
+    pub first: usize,
     pub lines: u8,
     pub columns: u8,
     pub rows: u8,
@@ -48,6 +51,7 @@ pub fn frame_of(settings: Settings, bare: bool) -> Frame
     if settings.selected == 0 {
         Frame {
             base: 0,
+            first: 0,
             lines: settings.lines1,
             columns: settings.columns1,
             rows: tables::text_rows(settings.display),
@@ -60,6 +64,7 @@ pub fn frame_of(settings: Settings, bare: bool) -> Frame
     } else {
         Frame {
             base: times(settings.lines1, settings.columns1),
+            first: 48,
             lines: settings.lines2,
             columns: settings.columns2,
             rows: tables::text_rows(settings.display),
@@ -73,19 +78,35 @@ pub fn frame_of(settings: Settings, bare: bool) -> Frame
 }
 
 // A printed byte, and ESC 37: it is stored, and the cursor moves right.
-pub fn print(frame: Frame, place: Place, code: u8, cells: &mut [u8], layer: &mut [u8]) -> Place
+pub fn print(
+    frame: Frame,
+    place: Place,
+    code: u8,
+    cells: &mut [u8],
+    layer: &mut [u8],
+    marks: &mut [u8],
+) -> Place
     requires { ⌜ Ready frame place (now cells) (now layer) ⌝ }
-    ensures { λ r. ⌜ Acts (printed code) frame place r (now (cells .entry)) (now (layer .entry)) (now (cells .exit)) (now (layer .exit)) ⌝ }
+    requires { ⌜ length (now marks) ≡ 96 ⌝ }
+    ensures { λ r. ⌜ ActsWith (printed code) frame place r (now (cells .entry)) (now (layer .entry)) (now (marks .entry)) (now (cells .exit)) (now (layer .exit)) (now (marks .exit)) ⌝ }
 {
     cursor::store(frame, place, code, cells, layer);
-    let next = cursor::right(frame, place, cells, layer);
+    let next = cursor::right(frame, place, cells, layer, marks);
     window::track(frame, next, layer)
 }
 
 // A control code: 8 one column back, 10 one line down, 13 to column 1, 12 as ESC 42; other codes do nothing.
-pub fn control(frame: Frame, place: Place, code: u8, cells: &mut [u8], layer: &mut [u8]) -> Place
+pub fn control(
+    frame: Frame,
+    place: Place,
+    code: u8,
+    cells: &mut [u8],
+    layer: &mut [u8],
+    marks: &mut [u8],
+) -> Place
     requires { ⌜ Ready frame place (now cells) (now layer) ⌝ }
-    ensures { λ r. ⌜ Acts (control code) frame place r (now (cells .entry)) (now (layer .entry)) (now (cells .exit)) (now (layer .exit)) ⌝ }
+    requires { ⌜ length (now marks) ≡ 96 ⌝ }
+    ensures { λ r. ⌜ ActsWith (control code) frame place r (now (cells .entry)) (now (layer .entry)) (now (marks .entry)) (now (cells .exit)) (now (layer .exit)) (now (marks .exit)) ⌝ }
 {
     match code {
         8 => {
@@ -93,42 +114,50 @@ pub fn control(frame: Frame, place: Place, code: u8, cells: &mut [u8], layer: &m
             window::track(frame, next, layer)
         }
         10 => {
-            let next = cursor::down(frame, place, cells, layer);
+            let next = cursor::down(frame, place, cells, layer, marks);
             window::track(frame, next, layer)
         }
         13 => {
             let next = places::put_at(place, place.line, 1);
             window::track(frame, next, layer)
         }
-        12 => lines::clear(frame, place, cells, layer),
+        12 => lines::clear(frame, place, cells, layer, marks),
         _ => place,
     }
 }
 
 // An accepted sequence that acts on the selected screen alone. Any other leaves all as it is.
-pub fn act(frame: Frame, place: Place, q: Sequence, cells: &mut [u8], layer: &mut [u8]) -> Place
+pub fn act(
+    frame: Frame,
+    place: Place,
+    q: Sequence,
+    cells: &mut [u8],
+    layer: &mut [u8],
+    marks: &mut [u8],
+) -> Place
     requires { ⌜ Ready frame place (now cells) (now layer) ⌝ }
+    requires { ⌜ length (now marks) ≡ 96 ⌝ }
     requires { ⌜ legal? q (limitsIn frame) ≡ true ⌝ }
-    ensures { λ r. ⌜ Obeys q frame place r (now (cells .entry)) (now (layer .entry)) (now (cells .exit)) (now (layer .exit)) ⌝ }
+    ensures { λ r. ⌜ Obeys q frame place r (now (cells .entry)) (now (layer .entry)) (now (marks .entry)) (now (cells .exit)) (now (layer .exit)) (now (marks .exit)) ⌝ }
 {
     match q {
-        Sequence::PrintCode(code) => print(frame, place, code, cells, layer),
-        Sequence::Clear => lines::clear(frame, place, cells, layer),
+        Sequence::PrintCode(code) => print(frame, place, code, cells, layer, marks),
+        Sequence::Clear => lines::clear(frame, place, cells, layer, marks),
         Sequence::Put { line, column } => put(frame, place, line, column, layer),
         Sequence::EraseLine => {
-            lines::erase_line(frame, place, cells, layer);
+            lines::erase_line(frame, place, cells, layer, marks);
             place
         }
         Sequence::EraseRest => {
-            lines::erase_rest(frame, place, cells, layer);
+            lines::erase_rest(frame, place, cells, layer, marks);
             place
         }
         Sequence::LinesUp { from, count } => {
-            lines::scroll(frame, place, lines::UP, from, count, cells, layer);
+            lines::shift(frame, place, lines::UP, from, count, cells, layer, marks);
             place
         }
         Sequence::LinesDown { from, count } => {
-            lines::scroll(frame, place, lines::DOWN, from, count, cells, layer);
+            lines::shift(frame, place, lines::DOWN, from, count, cells, layer, marks);
             place
         }
         Sequence::WindowUp => window::turn(frame, place, window::less(frame, place), layer),

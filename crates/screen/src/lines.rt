@@ -1,5 +1,6 @@
 // The lines of the selected screen: moved, cleared and blanked. Each empties the layer.
 use super::Frame;
+use super::logical;
 use super::marks;
 use super::places;
 use super::times;
@@ -8,13 +9,16 @@ use model::Place;
 ghost use mathlib.Core.Path.{_≡_};
 ghost use mathlib.Core.Bool.{cond};
 ghost use Prim.Native.Nat.{_+_, _≤_};
+ghost use lib.ListN.{length};
 ghost use Rattle.model.specs.Bytes.{scrolledUp, scrolledDown};
 ghost use Rattle.model.specs.State.{State};
-ghost use Rattle.model.specs.Screens.{columnsHere};
-ghost use Rattle.model.specs.Rules.{onLines, cleared, blankFrom};
+ghost use Rattle.model.specs.Screens.{columnsHere, here, linesHere};
+ghost use Rattle.model.specs.Marks.{endOf};
+ghost use Rattle.model.specs.Rules.{blankFrom, cleared, erased, lifted, marksHere, onLines, shifted};
 ghost use Rattle.screen.specs.Frame.{Ready, Stands};
-ghost use Rattle.screen.specs.Acts.{Acts};
-ghost use Rattle.screen.specs.Here.{cellIn, restOfLine, restOfScreen};
+ghost use Rattle.screen.specs.Acts.{Acts, ActsWith};
+ghost use Rattle.screen.specs.Here.{cellIn};
+ghost use Rattle.screen.specs.Logical.{carried};
 
 // The cursor's cell.
 pub(crate) fn cell(frame: Frame, place: Place) -> usize
@@ -29,9 +33,8 @@ pub(crate) const UP: bool = false;
 
 pub(crate) const DOWN: bool = true;
 
-// "Within lines a+1 to a+m, contents move up or down by one": line a+1 is lost and line a+m is blank, or the other way round. A lift is
-// the whole screen, up.
-pub(crate) fn scroll(
+// "Within lines a+1 to a+m, contents move up or down by one": line a+1 is lost and line a+m is blank, or the other way round.
+fn scroll(
     frame: Frame,
     place: Place,
     down: bool,
@@ -55,13 +58,52 @@ pub(crate) fn scroll(
     }
 }
 
-// 42: "blanks the screen, cursor home, top 1, layer empty".
-pub(crate) fn clear(frame: Frame, place: Place, cells: &mut [u8], layer: &mut [u8]) -> Place
+// A lift: the whole screen goes up, and its marks with it.
+pub(crate) fn lift(frame: Frame, place: Place, cells: &mut [u8], layer: &mut [u8], marks: &mut [u8])
     requires { ⌜ Ready frame place (now cells) (now layer) ⌝ }
-    ensures { λ r. ⌜ Acts cleared frame place r (now (cells .entry)) (now (layer .entry)) (now (cells .exit)) (now (layer .exit)) ⌝ }
+    requires { ⌜ length (now marks) ≡ 96 ⌝ }
+    ensures { λ _. ⌜ ActsWith lifted frame place place (now (cells .entry)) (now (layer .entry)) (now (marks .entry)) (now (cells .exit)) (now (layer .exit)) (now (marks .exit)) ⌝ }
+{
+    scroll(frame, place, UP, 0, frame.lines, cells, layer);
+    logical::carry(frame, UP, 0, frame.lines, marks);
+}
+
+// 144, 145: "marks move with lines; the blank line, the line above the region (if any) and the region's last two lines .. end unmarked".
+pub(crate) fn shift(
+    frame: Frame,
+    place: Place,
+    down: bool,
+    from: u8,
+    count: u8,
+    cells: &mut [u8],
+    layer: &mut [u8],
+    marks: &mut [u8],
+)
+    requires { ⌜ Ready frame place (now cells) (now layer) ⌝ }
+    requires { ⌜ length (now marks) ≡ 96 ⌝ }
+    requires { ⌜ (1 ≤ count) × (from + count ≤ frame .lines) ⌝ }
+    ensures { λ _. ⌜ ActsWith (λ (st : State). shifted from count (cond down scrolledDown scrolledUp (columnsHere st)) (carried down from count) st) frame place place (now (cells .entry)) (now (layer .entry)) (now (marks .entry)) (now (cells .exit)) (now (layer .exit)) (now (marks .exit)) ⌝ }
+{
+    scroll(frame, place, down, from, count, cells, layer);
+    logical::carry(frame, down, from, count, marks);
+    logical::unmark_ends(frame, from, count, marks);
+}
+
+// 42: "blanks the screen, cursor home, top 1, layer empty"; its marks are cleared.
+pub(crate) fn clear(
+    frame: Frame,
+    place: Place,
+    cells: &mut [u8],
+    layer: &mut [u8],
+    marks: &mut [u8],
+) -> Place
+    requires { ⌜ Ready frame place (now cells) (now layer) ⌝ }
+    requires { ⌜ length (now marks) ≡ 96 ⌝ }
+    ensures { λ r. ⌜ ActsWith cleared frame place r (now (cells .entry)) (now (layer .entry)) (now (marks .entry)) (now (cells .exit)) (now (layer .exit)) (now (marks .exit)) ⌝ }
 {
     store::blank(cells, frame.base, times(frame.lines, frame.columns));
     marks::empty(frame, layer);
+    logical::unmark(frame, 1, frame.lines, marks);
     places::home_place()
 }
 
@@ -76,21 +118,53 @@ fn blank_from(frame: Frame, place: Place, count: usize, cells: &mut [u8], layer:
     marks::empty(frame, layer);
 }
 
-// 84: "blanks from the cursor to the end of its line".
-pub(crate) fn erase_line(frame: Frame, place: Place, cells: &mut [u8], layer: &mut [u8])
+// 84, 89: from the cursor through the end of a line, its own or below it, and the marks of these lines are cleared.
+fn erase_through(
+    frame: Frame,
+    place: Place,
+    to: u8,
+    cells: &mut [u8],
+    layer: &mut [u8],
+    marks: &mut [u8],
+)
     requires { ⌜ Ready frame place (now cells) (now layer) ⌝ }
-    ensures { λ _. ⌜ Acts (λ (st : State). blankFrom (restOfLine st) st) frame place place (now (cells .entry)) (now (layer .entry)) (now (cells .exit)) (now (layer .exit)) ⌝ }
+    requires { ⌜ length (now marks) ≡ 96 ⌝ }
+    requires { ⌜ (place .line ≤ to) × (to ≤ frame .lines) ⌝ }
+    ensures { λ _. ⌜ ActsWith (erased to) frame place place (now (cells .entry)) (now (layer .entry)) (now (marks .entry)) (now (cells .exit)) (now (layer .exit)) (now (marks .exit)) ⌝ }
 {
-    let count = wide(frame.columns) + 1 - wide(place.column);
+    let below = times(to - place.line, frame.columns);
+    let count = below + (wide(frame.columns) + 1 - wide(place.column));
     blank_from(frame, place, count, cells, layer);
+    logical::unmark(frame, place.line, to, marks);
+}
+
+// 84: "blanks through the first unmarked line at or after the cursor's".
+pub(crate) fn erase_line(
+    frame: Frame,
+    place: Place,
+    cells: &mut [u8],
+    layer: &mut [u8],
+    marks: &mut [u8],
+)
+    requires { ⌜ Ready frame place (now cells) (now layer) ⌝ }
+    requires { ⌜ length (now marks) ≡ 96 ⌝ }
+    ensures { λ _. ⌜ ActsWith (λ (st : State). erased (endOf (marksHere st) (linesHere st) (here st .line)) st) frame place place (now (cells .entry)) (now (layer .entry)) (now (marks .entry)) (now (cells .exit)) (now (layer .exit)) (now (marks .exit)) ⌝ }
+{
+    let to = logical::end_of(frame, place.line, marks);
+    erase_through(frame, place, to, cells, layer, marks);
 }
 
 // 89: "to the end of the screen".
-pub(crate) fn erase_rest(frame: Frame, place: Place, cells: &mut [u8], layer: &mut [u8])
+pub(crate) fn erase_rest(
+    frame: Frame,
+    place: Place,
+    cells: &mut [u8],
+    layer: &mut [u8],
+    marks: &mut [u8],
+)
     requires { ⌜ Ready frame place (now cells) (now layer) ⌝ }
-    ensures { λ _. ⌜ Acts (λ (st : State). blankFrom (restOfScreen st) st) frame place place (now (cells .entry)) (now (layer .entry)) (now (cells .exit)) (now (layer .exit)) ⌝ }
+    requires { ⌜ length (now marks) ≡ 96 ⌝ }
+    ensures { λ _. ⌜ ActsWith (λ (st : State). erased (linesHere st) st) frame place place (now (cells .entry)) (now (layer .entry)) (now (marks .entry)) (now (cells .exit)) (now (layer .exit)) (now (marks .exit)) ⌝ }
 {
-    let below = times(frame.lines - place.line, frame.columns);
-    let count = below + (wide(frame.columns) + 1 - wide(place.column));
-    blank_from(frame, place, count, cells, layer);
+    erase_through(frame, place, frame.lines, cells, layer, marks);
 }

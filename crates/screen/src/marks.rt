@@ -51,7 +51,7 @@ pub(crate) fn empty_from(frame: Frame, shown: usize, count: usize, layer: &mut [
 }
 
 // So many bytes from an index on.
-fn zero(layer: &mut [u8], from: usize, count: usize)
+pub(crate) fn zero(layer: &mut [u8], from: usize, count: usize)
     requires { ⌜ from + count ≤ length (now layer) ⌝ }
     ensures { λ _. ⌜ now (layer .exit) ≡ put from (replicate count 0) (now (layer .entry)) ⌝ }
 {

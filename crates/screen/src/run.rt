@@ -101,14 +101,16 @@ fn print_part(
     end: usize,
     cells: &mut [u8],
     layer: &mut [u8],
+    marks: &mut [u8],
 ) -> Run
     requires { ⌜ Ready frame place (now cells) (now layer) ⌝ }
+    requires { ⌜ length (now marks) ≡ 96 ⌝ }
     requires { ⌜ (at < end) × (end ≤ length (now message)) ⌝ }
-    ensures { λ r. ⌜ Part (now (message .entry)) at end frame place r (now (cells .entry)) (now (layer .entry)) (now (cells .exit)) (now (layer .exit)) ⌝ }
+    ensures { λ r. ⌜ Part (now (message .entry)) at end frame place r (now (cells .entry)) (now (layer .entry)) (now (marks .entry)) (now (cells .exit)) (now (layer .exit)) (now (marks .exit)) ⌝ }
 {
     let count = least(end - at, wide(frame.columns - place.column));
     if (count < 1) | window::misses(frame, place) {
-        let next = print(frame, place, message[at], cells, layer);
+        let next = print(frame, place, message[at], cells, layer, marks);
         Run {
             place: next,
             at: at + 1,
@@ -130,16 +132,18 @@ pub fn print_run(
     at: usize,
     cells: &mut [u8],
     layer: &mut [u8],
+    marks: &mut [u8],
 ) -> Run
     requires { ⌜ Ready frame place (now cells) (now layer) ⌝ }
+    requires { ⌜ length (now marks) ≡ 96 ⌝ }
     requires { ⌜ prints? (now message) at ≡ true ⌝ }
-    ensures { λ r. ⌜ Ran (now (message .entry)) at frame place r (now (cells .entry)) (now (layer .entry)) (now (cells .exit)) (now (layer .exit)) ⌝ }
+    ensures { λ r. ⌜ Ran (now (message .entry)) at frame place r (now (cells .entry)) (now (layer .entry)) (now (marks .entry)) (now (cells .exit)) (now (layer .exit)) (now (marks .exit)) ⌝ }
 {
     let end = run_end(message, at);
     let mut p = place;
     let mut i = at;
     while i < end {
-        let part = print_part(frame, p, message, i, end, cells, layer);
+        let part = print_part(frame, p, message, i, end, cells, layer, marks);
         p = part.place;
         i = part.at;
     }

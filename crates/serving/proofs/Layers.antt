@@ -16,7 +16,7 @@ use Rattle.model.specs.Checks.{member}
 use Rattle.model.specs.Sequences.{codeOf}
 use Rattle.model.specs.State.{State}
 use Rattle.model.specs.OnScreen.{onScreen?, staysOnScreen?}
-use Rattle.model.specs.Rules.{applyItem, blankFrom, cleared, control, emptied, flagged, keyLine, modeSet, obeyed, onLines, placed, withKeys, withKindPatterns, withLayer, withSettings}
+use Rattle.model.specs.Rules.{applyItem, blankFrom, cleared, control, emptied, erased, flagged, keyLine, modeSet, obeyed, onLines, placed, remarked, shifted, withKeys, withKindPatterns, withLayer, withSettings}
 use Rattle.model.proofs.Item.{the-type as item-type}
 use Rattle.model.proofs.Sequence.{the-type}
 use Rattle.model.proofs.Cases.{none-passes}
@@ -48,7 +48,7 @@ empty = replicate 1280 0
 -- selected screen, under a frame that says so
 left : (q : Seq) (b : Bool) (m : ℕ → ℕ) (st : State) → bareThen (Sequence q) b ≡ true → (b ≡ true → (onScreen? q ≡ false → st .layer ≡ empty) × (onScreen? q ≡ true → obeyed m q st .layer ≡ empty))
     → obeyed m q st .layer ≡ empty
-unfolding onScreen? member obeyed cleared placed onLines blankFrom emptied withLayer modeSet flagged keyLine withKeys withKindPatterns withSettings
+unfolding onScreen? member obeyed cleared placed remarked erased shifted onLines blankFrom emptied withLayer modeSet flagged keyLine withKeys withKindPatterns withSettings
 left (PrintCode a) bare m st z y = y z .1 refl
 left Clear bare m st z y = refl
 left CursorOff bare m st z y = y z .0 refl
@@ -99,7 +99,7 @@ left (Shift a) bare m st z y = y z .0 refl
 -- the same of any item
 pub bare-left : (i : Item) (b : Bool) (m : ℕ → ℕ) (st : State) → bareThen i b ≡ true → (b ≡ true → (staysOnScreen? i ≡ false → st .layer ≡ empty) × (staysOnScreen? i ≡ true → applyItem m i st .layer ≡ empty))
     → applyItem m i st .layer ≡ empty
-unfolding applyItem control cleared placed onLines emptied withLayer
+unfolding applyItem control cleared placed remarked withSettings onLines emptied withLayer
 bare-left (Printed c) b m st e h = h e .1 refl
 bare-left (Control c) b m st e h = go (eqb c 12) refl e
   where

@@ -1,6 +1,6 @@
 -- The loop's invariant over its own variables, and its turns: a run of printed bytes, another item of the selected screen, and an item
--- that does not stay there. Each takes what the functions that the turn calls ensure. What stands is the settings with the place that is kept
--- beside them.
+-- that does not stay there. Each takes what the functions that the turn calls ensure. What stands is the settings with the place and the marks
+-- that are kept beside them.
 use mathlib.Core.Path.{_∙_, _≡_, ap, refl, subst, sym}
 use Prim.Native.Nat.{_+_, _-_, _^_, _<_, _≤_, ℕ}
 use native.Mathlib.Omega.{arith}
@@ -16,7 +16,7 @@ use Rattle.model.specs.declared.Outcome.{Outcome}
 use Rattle.model.specs.declared.Place.{Place}
 use Rattle.model.specs.declared.Settings.{Settings}
 use Rattle.model.specs.Bytes.{put}
-use Rattle.model.specs.State.{State, state, withPlaces}
+use Rattle.model.specs.State.{State, state, withMarks, withPlaces}
 use Rattle.model.specs.Checks.{member}
 use Rattle.model.specs.Screens.{placeOf}
 use Rattle.model.specs.Sound.{Good}
@@ -29,15 +29,16 @@ use Rattle.model.specs.Items.{copyOf, printerBytes}
 use Rattle.model.specs.OnScreen.{onScreen?, onScreenCodes, staysOnScreen?}
 use Rattle.model.proofs.Tests.{cond-at, differ}
 use Rattle.model.proofs.ItemLaws.{obeyed-item}
+use Rattle.model.proofs.Marking.{marks-96}
 use Rattle.model.proofs.Printing.{fits-room}
 use Rattle.reader.specs.declared.Reading.{Reading}
 use Rattle.reader.specs.Reading.{ReadAt}
 use Rattle.screen.specs.declared.Frame.{Frame}
 use Rattle.screen.specs.declared.run.Run.{Run}
 use Rattle.screen.specs.Frame.{FrameOf, Framed, Ready, Stands, limitsIn}
-use Rattle.screen.specs.Acts.{withPlace}
+use Rattle.screen.specs.Acts.{withHere}
 use Rattle.screen.specs.Run.{printedAll}
-use Rattle.screen.proofs.Acting.{carried, framed-placed, same-place}
+use Rattle.screen.proofs.Carried.{carried-here, framed-here, same-here}
 use Rattle.screen.proofs.Frames.{limits-are}
 use Rattle.serving.specs.declared.Counts.{Counts}
 use Rattle.serving.specs.Counting.{Countable, answerAt, countsWith, noCounts}
@@ -79,7 +80,7 @@ away (Refused n p) h = refl
 
 -- a frame that says otherwise of the layer
 abbrev bared : Frame → Bool → Frame
-bared f b = record { base = f .base; lines = f .lines; columns = f .columns; rows = f .rows; height = f .height; shift = f .shift; step = f .step; tracking = f .tracking; bare = b }
+bared f b = record { base = f .base; first = f .first; lines = f .lines; columns = f .columns; rows = f .rows; height = f .height; shift = f .shift; step = f .step; tracking = f .tracking; bare = b }
 
 framed-bared : {s : Settings} {f : Frame} (b : Bool) → Framed s f → Framed s (bared f b)
 framed-bared b e = record {
@@ -88,6 +89,7 @@ framed-bared b e = record {
   lines-are = e .lines-are;
   columns-are = e .columns-are;
   base-is = e .base-is;
+  first-is = e .first-is;
   rows-are = e .rows-are;
   height-is = e .height-is;
   shift-is = e .shift-is;
@@ -97,23 +99,23 @@ framed-bared b e = record {
 
 ready-bared : {f : Frame} {p : Place} {c l : List ℕ} (b : Bool) → Ready f p c l → (b ≡ true → l ≡ replicate 1280 0) → Ready (bared f b) p c l
 ready-bared b h k = let d = h .stands in record {
-  stands = record { among = d .among; columns-low = d .columns-low; lines-high = d .lines-high; height-low = d .height-low; height-high = d .height-high; step-high = d .step-high; fits = d .fits };
+  stands = record { among = d .among; columns-low = d .columns-low; marks-among = d .marks-among; lines-high = d .lines-high; height-low = d .height-low; height-high = d .height-high; step-high = d .step-high; fits = d .fits };
   cells-are = h .cells-are;
   layer-are = record { size = h .layer-are .size; empty = k };
 }
 
 module _ (m cells₀ layer₀ printer₀ : List ℕ) (s₀ : Settings) where
-  pub record Loop (cells layer printer : List ℕ) (s : Settings) (p : Place) (f : Frame) (c : Counts) (at : ℕ) : Type 0 where
-    pub going : Going m (state s₀ cells₀ layer₀) printer₀ at (state (withPlace s p) cells layer) c printer
+  pub record Loop (cells layer printer : List ℕ) (s : Settings) (p : Place) (marks : List ℕ) (f : Frame) (c : Counts) (at : ℕ) : Type 0 where
+    pub going : Going m (state s₀ cells₀ layer₀) printer₀ at (state (withHere s p marks) cells layer) c printer
     pub framed : Framed s f
     pub ready : Ready f p cells layer
     pub short : length m ≤ 4096
 
   pub begin : {f : Frame} {p : Place} {b : Bool} → {shown₀ : List ℕ} → Servable s₀ m cells₀ layer₀ shown₀ → (FrameOf s₀ f) × (f .bare ≡ b) → (b ≡ true → layer₀ ≡ replicate (length layer₀) 0) → p ≡ placeOf s₀ (s₀ .selected)
-      → {c : Counts} → c ≡ noCounts → Loop cells₀ layer₀ printer₀ s₀ p f c 0
+      → {c : Counts} → c ≡ noCounts → Loop cells₀ layer₀ printer₀ s₀ p (s₀ .marks) f c 0
   begin {p = p} v f k h e = record {
-    going = subst (λ x. Going m (state s₀ cells₀ layer₀) printer₀ 0 (state (withPlace s₀ p) cells₀ layer₀) x printer₀) (sym e)
-        (subst (λ (x : Settings). Going m (state s₀ cells₀ layer₀) printer₀ 0 (state x cells₀ layer₀) noCounts printer₀) (sym (same-place s₀ p (sym h)))
+    going = subst (λ x. Going m (state s₀ cells₀ layer₀) printer₀ 0 (state (withHere s₀ p (s₀ .marks)) cells₀ layer₀) x printer₀) (sym e)
+        (subst (λ (x : Settings). Going m (state s₀ cells₀ layer₀) printer₀ 0 (state x cells₀ layer₀) noCounts printer₀) (sym (same-here s₀ p (s₀ .marks) (sym h) refl))
         (start m (state s₀ cells₀ layer₀) printer₀ (v .good)));
     framed = f .0 .framed;
     ready = record {
@@ -124,22 +126,25 @@ module _ (m cells₀ layer₀ printer₀ : List ℕ) (s₀ : Settings) where
     short = v .short;
   }
 
-  module _ {cells layer printer : List ℕ} {s : Settings} {p : Place} {f : Frame} {c : Counts} {at : ℕ} (g : Loop cells layer printer s p f c at) where
+  module _ {cells layer printer : List ℕ} {s : Settings} {p : Place} {marks : List ℕ} {f : Frame} {c : Counts} {at : ℕ} (g : Loop cells layer printer s p marks f c at) where
     -- what stands
     abbrev st : State
-    st = state (withPlace s p) cells layer
+    st = state (withHere s p marks) cells layer
 
-    limits : limitsIn f ≡ limitsOf (withPlace s p)
-    limits = sym (limits-are (framed-placed p (g .framed)))
+    pub marks-are : length marks ≡ 96
+    marks-are = marks-96 st (g .going .good)
+
+    limits : limitsIn f ≡ limitsOf (withHere s p marks)
+    limits = sym (limits-are (framed-here p marks (g .framed)))
 
     module _ (more : at < length m) (r : Reading) (w : ReadAt m at (limitsIn f) (length printer - c .printed) r) where
       abbrev rule : State → State
       rule = applyItem (λ o. getD m o 0) (r .item)
 
-      is-item : r .item ≡ judged (itemOf at (ownBytes m at)) (limitsOf (withPlace s p)) (length printer₀ - c .printed)
+      is-item : r .item ≡ judged (itemOf at (ownBytes m at)) (limitsOf (withHere s p marks)) (length printer₀ - c .printed)
       is-item = w .item-is ∙ (λ i. judged (itemOf at (ownBytes m at)) (limits i) (g .going .same-size i - c .printed))
 
-      legal : legalItem? (r .item) (limitsOf (withPlace s p)) ≡ true
+      legal : legalItem? (r .item) (limitsOf (withHere s p marks)) ≡ true
       legal = subst (λ (l : Limits). legalItem? (r .item) l ≡ true) limits (w .legal)
 
       pub roomy : c .printed + printerBytes (r .item) ≤ length printer
@@ -151,10 +156,10 @@ module _ (m cells₀ layer₀ printer₀ : List ℕ) (s₀ : Settings) where
       countable h = record { few = omega (arith, g .going .few, g .short, more); near = omega (arith, g .short, more); roomy = omega (arith, roomy) }
 
       -- an item obeyed, by whatever it came about
-      obeyed : {cells′ layer′ printer′ : List ℕ} {s′ : Settings} {p′ : Place} {f′ : Frame} → Framed s′ f′ → Ready f′ p′ cells′ layer′ → state (withPlace s′ p′) cells′ layer′ ≡ rule st
-          → printer′ ≡ put (c .printed) (copyOf (r .item) st) printer → {c′ : Counts} → c′ ≡ countsWith (r .item) at c → Loop cells′ layer′ printer′ s′ p′ f′ c′ (at + r .length)
-      obeyed {cells′} {layer′} {printer′} {s′} {p′} h d e q k = record {
-        going = subst (λ (x : Counts). Going m (state s₀ cells₀ layer₀) printer₀ (at + r .length) (state (withPlace s′ p′) cells′ layer′) x printer′) (sym k)
+      obeyed : {cells′ layer′ printer′ : List ℕ} {s′ : Settings} {p′ : Place} {marks′ : List ℕ} {f′ : Frame} → Framed s′ f′ → Ready f′ p′ cells′ layer′ → state (withHere s′ p′ marks′) cells′ layer′ ≡ rule st
+          → printer′ ≡ put (c .printed) (copyOf (r .item) st) printer → {c′ : Counts} → c′ ≡ countsWith (r .item) at c → Loop cells′ layer′ printer′ s′ p′ marks′ f′ c′ (at + r .length)
+      obeyed {cells′} {layer′} {printer′} {s′} {p′} {marks′} h d e q k = record {
+        going = subst (λ (x : Counts). Going m (state s₀ cells₀ layer₀) printer₀ (at + r .length) (state (withHere s′ p′ marks′) cells′ layer′) x printer′) (sym k)
             (turn m (state s₀ cells₀ layer₀) printer₀ at st c printer (g .going) more (r .item) is-item (r .length) _ _ (w .length-is) (w .inside) legal (w .some) (omega (arith, roomy, g .going .same-size)) e q);
         framed = h;
         ready = d;
@@ -174,9 +179,9 @@ module _ (m cells₀ layer₀ printer₀ : List ℕ) (s₀ : Settings) where
       }
 
       -- what the item did on the selected screen, what is known of the layer then, and the counts
-      module _ {v : Run} {cells₁ layer₁ : List ℕ} (d : Moves m at (r .length) (r .item) f p v cells layer cells₁ layer₁) {b : Bool} (t : b ≡ bareThen (r .item) (f .bare)) {c′ : Counts} (k : c′ ≡ countsWith (r .item) at c) where
+      module _ {v : Run} {cells₁ layer₁ marks₁ : List ℕ} (d : Moves m at (r .length) (r .item) f p v cells layer marks cells₁ layer₁ marks₁) {b : Bool} (t : b ≡ bareThen (r .item) (f .bare)) {c′ : Counts} (k : c′ ≡ countsWith (r .item) at c) where
         abbrev Next : ℕ → Type 0
-        Next at′ = Loop cells₁ layer₁ printer s (v .place) (bared f b) c′ at′
+        Next at′ = Loop cells₁ layer₁ printer s (v .place) marks₁ (bared f b) c′ at′
 
         ran : printed? (r .item) ≡ true → Next (v .at)
         ran h =
@@ -184,10 +189,10 @@ module _ (m cells₀ layer₀ printer₀ : List ℕ) (s₀ : Settings) where
             let q = u .run .printing in
             let n : at + (v .at - at) ≡ v .at = omega (arith, q .some) in
             let g₂ = run m (state s₀ cells₀ layer₀) printer₀ (v .at - at) at st c printer (g .going) (omega (arith, n, q .inside)) (λ j x y. q .print j x (omega (arith, n, y))) in
-            let g₃ = subst (λ (x : State). Going m (state s₀ cells₀ layer₀) printer₀ (v .at) x c printer) (carried (g .framed) (u .acts))
+            let g₃ = subst (λ (x : State). Going m (state s₀ cells₀ layer₀) printer₀ (v .at) x c printer) (carried-here (g .framed) (u .acts))
             (subst (λ (x : ℕ). Going m (state s₀ cells₀ layer₀) printer₀ x (printedAll (take (v .at - at) (drop at m)) st) c printer) n g₂) in
             record {
-              going = subst (λ (x : Counts). Going m (state s₀ cells₀ layer₀) printer₀ (v .at) (state (withPlace s (v .place)) cells₁ layer₁) x printer) (sym (k ∙ printed-counts (r .item) at c h)) g₃;
+              going = subst (λ (x : Counts). Going m (state s₀ cells₀ layer₀) printer₀ (v .at) (state (withHere s (v .place) marks₁) cells₁ layer₁) x printer) (sym (k ∙ printed-counts (r .item) at c h)) g₃;
               framed = framed-bared b (g .framed);
               ready = ready-bared b (u .acts .ready) (λ x. u .acts .ready .layer-are .empty (sym (t ∙ printed-bare (r .item) (f .bare) h) ∙ x));
               short = g .short;
@@ -196,7 +201,7 @@ module _ (m cells₀ layer₀ printer₀ : List ℕ) (s₀ : Settings) where
         moved : printed? (r .item) ≡ false → staysOnScreen? (r .item) ≡ true → Next (v .at)
         moved n h =
             let a = d .acts n h (λ o. getD m o 0) in
-            let e : rule st ≡ state (withPlace s (v .place)) cells₁ layer₁ = carried (g .framed) a in
+            let e : rule st ≡ state (withHere s (v .place) marks₁) cells₁ layer₁ = carried-here (g .framed) a in
             let l : rule st .layer ≡ layer₁ = ap (λ (x : State). x .layer) e in
             let known : b ≡ true → layer₁ ≡ replicate 1280 0 =
             λ x. sym l ∙ bare-left (r .item) (f .bare) (λ o. getD m o 0) st (sym t ∙ x) (λ y. ((λ off. absurd (differ (sym h ∙ off))), (λ on. l ∙ a .ready .layer-are .empty y))) in
@@ -217,18 +222,18 @@ module _ (m cells₀ layer₀ printer₀ : List ℕ) (s₀ : Settings) where
             go true e = d .run e .run .printing .some
             go false e = omega (arith, d .next e, w .some)
 
-        -- one that does not: the place goes back into the settings
+        -- one that does not: the place and the marks go back into the settings
         module _ (h : staysOnScreen? (r .item) ≡ false) {ps : List Place} (back : ps ≡ set (s .places) (s .selected) (v .place)) where
           abbrev stood : State
-          stood = state (withPlaces s ps) cells₁ layer₁
+          stood = state (withMarks (withPlaces s ps) marks₁) cells₁ layer₁
 
           same : stood ≡ st
           same =
               let e = d .rests h in
               let j : ps ≡ set (s .places) (s .selected) p = back ∙ ap (set (s .places) (s .selected)) (e .0) in
-              λ i. state (withPlaces s (j i)) (e .1 .0 i) (e .1 .1 i)
+              λ i. state (withMarks (withPlaces s (j i)) (e .1 .1 .1 i)) (e .1 .0 i) (e .1 .1 .0 i)
 
-          pub applying : Applying (withPlaces s ps) (r .item) m cells₁ layer₁ printer (c .printed)
+          pub applying : Applying (withMarks (withPlaces s ps) marks₁) (r .item) m cells₁ layer₁ printer (c .printed)
           applying = record {
             good = subst Good (sym same) (g .going .good);
             legal = subst (λ (x : State). legalItem? (r .item) (limitsOf (x .settings)) ≡ true) (sym same) legal;
@@ -236,7 +241,7 @@ module _ (m cells₀ layer₀ printer₀ : List ℕ) (s₀ : Settings) where
             roomy = roomy;
           }
 
-          module _ {s₂ : Settings} {cells₂ layer₂ printer₂ : List ℕ} (a : Applied (withPlaces s ps) (r .item) m (c .printed) s₂ cells₁ layer₁ printer cells₂ layer₂ printer₂) where
+          module _ {s₂ : Settings} {cells₂ layer₂ printer₂ : List ℕ} (a : Applied (withMarks (withPlaces s ps) marks₁) (r .item) m (c .printed) s₂ cells₁ layer₁ printer cells₂ layer₂ printer₂) where
             done : state s₂ cells₂ layer₂ ≡ rule st
             unfolding applied
             done = a .does ∙ ap (λ (x : Bool). cond x stood (rule stood)) h ∙ ap rule same
@@ -244,17 +249,17 @@ module _ (m cells₀ layer₀ printer₀ : List ℕ) (s₀ : Settings) where
             pub good : Good (state s₂ cells₂ layer₂)
             good = subst Good (sym done) (obeyed-item (λ o. getD m o 0) (r .item) st (g .going .good) legal .good)
 
-            pub changed : {p₂ : Place} {f₂ : Frame} → p₂ ≡ placeOf s₂ (s₂ .selected) → (FrameOf s₂ f₂) × (f₂ .bare ≡ b) → Loop cells₂ layer₂ printer₂ s₂ p₂ f₂ c′ (v .at)
+            pub changed : {p₂ : Place} {f₂ : Frame} → p₂ ≡ placeOf s₂ (s₂ .selected) → (FrameOf s₂ f₂) × (f₂ .bare ≡ b) → Loop cells₂ layer₂ printer₂ s₂ p₂ (s₂ .marks) f₂ c′ (v .at)
             changed {p₂} {f₂} i q =
                 let l : rule st .layer ≡ layer₂ = ap (λ (x : State). x .layer) (sym done) in
                 let known : f₂ .bare ≡ true → layer₂ ≡ replicate 1280 0 =
                 λ x. sym l ∙ bare-left (r .item) (f .bare) (λ o. getD m o 0) st (sym t ∙ sym (q .1) ∙ x) (λ y. ((λ off. g .ready .layer-are .empty y), (λ on. absurd (differ (sym on ∙ h))))) in
-                subst (λ (x : ℕ). Loop cells₂ layer₂ printer₂ s₂ p₂ f₂ c′ x) (sym (d .next (away (r .item) h)))
+                subst (λ (x : ℕ). Loop cells₂ layer₂ printer₂ s₂ p₂ (s₂ .marks) f₂ c′ x) (sym (d .next (away (r .item) h)))
                 (obeyed (q .0 .framed)
                 (record { stands = subst (Stands f₂) (sym i) (q .0 .stands); cells-are = good .cells-are; layer-are = record { size = good .layer-are; empty = known } })
-                (ap (λ (x : Settings). state x cells₂ layer₂) (same-place s₂ p₂ (sym i)) ∙ done) (a .prints ∙ ap (λ (x : State). put (c .printed) (copyOf (r .item) x) printer) same) k)
+                (ap (λ (x : Settings). state x cells₂ layer₂) (same-here s₂ p₂ (s₂ .marks) (sym i) refl) ∙ done) (a .prints ∙ ap (λ (x : State). put (c .printed) (copyOf (r .item) x) printer) same) k)
 
-    pub end : (r : Outcome) {shown : List ℕ} → length m ≤ at → r .settings ≡ withPlace s p → r .answer ≡ answerAt at c → shown ≡ painting (state (withPlace s p) cells layer)
+    pub end : (r : Outcome) {shown : List ℕ} → length m ≤ at → r .settings ≡ withHere s p marks → r .answer ≡ answerAt at c → shown ≡ painting (state (withHere s p marks) cells layer)
         → Serves m (state s₀ cells₀ layer₀) printer₀ r cells layer shown printer
     end r h e a w =
         finish m (state s₀ cells₀ layer₀) printer₀ at st c printer (g .going) h r (ap (λ (x : Settings). state x cells layer) e) a (w ∙ ap (λ (x : Settings). painting (state x cells layer)) (sym e))

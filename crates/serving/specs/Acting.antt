@@ -1,4 +1,4 @@
--- What an item does, by what it needs: on the selected screen the place alone, else the settings. And what is known of the layer after it.
+-- What an item does, by what it needs: on the selected screen its place and marks alone, else the settings. And what is known of the layer after it.
 use mathlib.Core.Path.{_≡_}
 use Prim.Native.Nat.{ℕ, _+_, _≤_}
 use mathlib.Core.Bool.{Bool, true, false, cond, _||_}
@@ -22,7 +22,7 @@ use Rattle.model.specs.Items.{copyOf, printerBytes}
 use Rattle.model.specs.OnScreen.{staysOnScreen?}
 use Rattle.screen.specs.declared.Frame.{Frame}
 use Rattle.screen.specs.declared.run.Run.{Run}
-use Rattle.screen.specs.Acts.{Acts}
+use Rattle.screen.specs.Acts.{ActsWith}
 use Rattle.screen.specs.Run.{Ran, prints?}
 
 -- a printed byte
@@ -40,15 +40,15 @@ pub record Offered (m : List ℕ) (at size : ℕ) (i : Item) (l : Limits) : Type
   pub prints : printed? i ≡ true → prints? m at ≡ true
 
 -- what it does on the selected screen
-pub record Moves (m : List ℕ) (at size : ℕ) (i : Item) (f : Frame) (p : Place) (r : Run) (cells layer cells′ layer′ : List ℕ) : Type 0 where
+pub record Moves (m : List ℕ) (at size : ℕ) (i : Item) (f : Frame) (p : Place) (r : Run) (cells layer marks cells′ layer′ marks′ : List ℕ) : Type 0 where
   -- a printed byte begins a run, which is printed whole
-  pub run : printed? i ≡ true → Ran m at f p r cells layer cells′ layer′
+  pub run : printed? i ≡ true → Ran m at f p r cells layer marks cells′ layer′ marks′
   -- behind any other item the next begins
   pub next : printed? i ≡ false → r .at ≡ at + size
   -- if it stays it does what its rule says, whatever the message
-  pub acts : printed? i ≡ false → staysOnScreen? i ≡ true → (n : ℕ → ℕ) → Acts (applyItem n i) f p (r .place) cells layer cells′ layer′
+  pub acts : printed? i ≡ false → staysOnScreen? i ≡ true → (n : ℕ → ℕ) → ActsWith (applyItem n i) f p (r .place) cells layer marks cells′ layer′ marks′
   -- else it leaves all as it was
-  pub rests : staysOnScreen? i ≡ false → (r .place ≡ p) × ((cells′ ≡ cells) × (layer′ ≡ layer))
+  pub rests : staysOnScreen? i ≡ false → (r .place ≡ p) × ((cells′ ≡ cells) × ((layer′ ≡ layer) × (marks′ ≡ marks)))
 
 -- the sequences after which the layer is empty, whatever stood: 42, 208, and "84, 89, 144, 145, 209"
 abbrev pub emptying : List ℕ

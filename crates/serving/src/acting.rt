@@ -1,4 +1,4 @@
-// An item obeyed: on the selected screen by its place alone, else by the settings.
+// An item obeyed: on the selected screen by its place and the marks alone, else by the settings.
 ghost use mathlib.Core.Path.{_≡_};
 ghost use Prim.Native.Nat.{_+_, _<_, _≤_};
 ghost use lib.ListN.{length};
@@ -57,20 +57,22 @@ pub(crate) fn act(
     size: usize,
     cells: &mut [u8],
     layer: &mut [u8],
+    marks: &mut [u8],
 ) -> Run
     requires { ⌜ Ready frame place (now cells) (now layer) ⌝ }
+    requires { ⌜ length (now marks) ≡ 96 ⌝ }
     requires { ⌜ Offered (now message) at size item (limitsIn frame) ⌝ }
-    ensures { λ r. ⌜ Moves (now (message .entry)) at size item frame place r (now (cells .entry)) (now (layer .entry)) (now (cells .exit)) (now (layer .exit)) ⌝ }
+    ensures { λ r. ⌜ Moves (now (message .entry)) at size item frame place r (now (cells .entry)) (now (layer .entry)) (now (marks .entry)) (now (cells .exit)) (now (layer .exit)) (now (marks .exit)) ⌝ }
 {
     let next = at + size;
     match item {
-        Item::Printed(_) => screen::run::print_run(frame, place, message, at, cells, layer),
+        Item::Printed(_) => screen::run::print_run(frame, place, message, at, cells, layer, marks),
         Item::Control(c) => Run {
-            place: screen::control(frame, place, c, cells, layer),
+            place: screen::control(frame, place, c, cells, layer, marks),
             at: next,
         },
         Item::Sequence(q) => Run {
-            place: screen::act(frame, place, q, cells, layer),
+            place: screen::act(frame, place, q, cells, layer, marks),
             at: next,
         },
         Item::Refused { .. } => Run { place, at: next },

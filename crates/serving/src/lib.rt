@@ -37,7 +37,7 @@ pub struct Counts {
 }
 
 // "An accepted message is read into items; each in turn changes what stands as its rule says"; "it always ends by painting". The settings
-// stay where they are: the selected screen's place is kept beside them, and an item of that screen only moves it.
+// stay where they are: the selected screen's place and the marks are kept beside them, and an item of that screen only changes these.
 pub fn serve(
     settings: Settings,
     message: &[u8],
@@ -51,6 +51,7 @@ pub fn serve(
 {
     let mut s = settings;
     let mut place = selected_place(s);
+    let mut marks = s.marks;
     let mut frame = screen::frame_of(s, store::all_zero(layer));
     let mut counts = no_counts();
     let mut at = 0;
@@ -59,7 +60,17 @@ pub fn serve(
         let read = read_at(frame, printer.len() - printed, message, at);
         let item = read.item;
         counts = count(counts, item, at);
-        let run = act(frame, place, item, message, at, read.length, cells, layer);
+        let run = act(
+            frame,
+            place,
+            item,
+            message,
+            at,
+            read.length,
+            cells,
+            layer,
+            &mut marks,
+        );
         place = run.place;
         at = run.at;
         frame.bare = bare_after(item, frame.bare);
@@ -68,10 +79,13 @@ pub fn serve(
         }
         let places = placed(s, place);
         s.places = places;
+        s.marks = marks;
         s = apply(s, item, message, cells, layer, printer, printed);
         place = selected_place(s);
+        marks = s.marks;
         frame = screen::frame_of(s, frame.bare);
     }
+    s.marks = marks;
     let answer = answer_of(counts, at);
     finish(s, place, frame.bare, answer, cells, layer, shown)
 }

@@ -1,5 +1,5 @@
 // 208: "An accepted 208 blanks all cells, empties the layer, puts cursors and tops at 1, selects screen 1, sets step 1 and
-// tracking on. Other settings stay, save the boundary in mode 2."
+// tracking on. Other settings stay, save the boundary in mode 2." P5: it clears all marks.
 ghost use mathlib.Core.Path.{_≡_};
 ghost use Prim.Native.Nat.{_-_, _≤_};
 ghost use Rattle.model.specs.State.{state, withMode};
@@ -80,6 +80,7 @@ fn set(
         top: 1,
     };
     let places = [home, home];
+    let marks = [0u8; 96];
     let mut s = settings;
     s.mode = mode;
     s.lines1 = lines1;
@@ -91,5 +92,6 @@ fn set(
     s.places = places;
     s.tracking = 1;
     s.step = 1;
+    s.marks = marks;
     s
 }

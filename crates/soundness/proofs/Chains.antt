@@ -14,7 +14,7 @@ use Rattle.model.specs.Screens.{columnsOf, height, linesOf, placeOf}
 use Rattle.model.specs.State.{nowhere}
 use Rattle.model.proofs.Keep.{height-low}
 use Rattle.model.specs.Line.{line?}
-use Rattle.model.specs.Sound.{arrayRanges, charsets, inside?, insideRanges, keyRanges, otherRanges, plainRanges, shapeRanges, shifts, sound?}
+use Rattle.model.specs.Sound.{arrayRanges, charsets, inside?, insideRanges, keyRanges, marks?, otherRanges, plainRanges, shapeRanges, shifts, sound?}
 
 pub three : (a b c d e f : Bool) → (a && b && c && d && e && f) ≡ ((a && b) && ((c && d) && ((e && f) && true)))
 three a b c d e f = simp (and-assoc, and-true)
@@ -36,12 +36,14 @@ plain : (a b c d e f g h k : Bool) → (a && b && c && d && e && f && g && h && 
 plain a b c d e f g h k = simp and-assoc
 
 -- the parts of the whole test, in the order in which they are asked and in that of the rules
-turn : (x y u v k l : Bool) → (x && ((y && (u && v)) && k && l)) ≡ (true && (x && (y && (k && (u && (v && l))))))
-turn false y u v k l = refl
-turn true false u v k l = refl
-turn true true false v k l = sym (and-false k)
-turn true true true false k l = sym (and-false k)
-turn true true true true k l = refl
+turn : (x y u v k l n : Bool) → (x && (((y && (u && v)) && k && n) && l)) ≡ (true && (x && (y && (k && (u && (v && (l && n)))))))
+turn false y u v k l n = refl
+turn true false u v k l n = refl
+turn true true false v k l n = sym (and-false k)
+turn true true true false k l n = sym (and-false k)
+turn true true true true false l n = refl
+turn true true true true true false n = and-false n
+turn true true true true true true n = and-true n
 
 -- the same of the lists of ranges, over their numbers
 module _ (l1 l2 c1 c2 : ℕ) where
@@ -93,18 +95,21 @@ module _ (s : Settings) where
   unfolding sound?
   sound-shape e = rw e (and-false (inRanges? (arrayRanges s)))
 
-  -- settings whose arrays are of their types: shape, places and what is only stored, the line
-  pub sound-of : (x q l : Bool) → inRanges? (arrayRanges s) ≡ true → x ≡ shaped → q ≡ (placed && inRanges? (plainRanges s)) → l ≡ line? (s .waiting) (s .held) (s .count) → (x && (q && l)) ≡ sound? s
+  abbrev marked : Bool
+  marked = marks? s 0 && marks? s 1
+
+  -- settings whose arrays are of their types: shape, places, what is only stored and the marks, the line
+  pub sound-of : (x q l : Bool) → inRanges? (arrayRanges s) ≡ true → x ≡ shaped → q ≡ (placed && inRanges? (plainRanges s) && marked) → l ≡ line? (s .waiting) (s .held) (s .count) → (x && (q && l)) ≡ sound? s
   unfolding sound?
   sound-of x q l z e f g =
       rw (z, e, f, g)
-      (turn shaped (inRanges? (otherRanges (s .selected) (s .step) (height s))) (inside? s 0) (inside? s 1) (inRanges? (plainRanges s)) (line? (s .waiting) (s .held) (s .count)))
+      (turn shaped (inRanges? (otherRanges (s .selected) (s .step) (height s))) (inside? s 0) (inside? s 1) (inRanges? (plainRanges s)) (line? (s .waiting) (s .held) (s .count)) marked)
 
-  -- the places or what is stored fail; both pass, and the line decides
-  pub sound-places : inRanges? (arrayRanges s) ≡ true → (placed && inRanges? (plainRanges s)) ≡ false → sound? s ≡ false
+  -- the places, what is stored or the marks fail; all pass, and the line decides
+  pub sound-places : inRanges? (arrayRanges s) ≡ true → (placed && inRanges? (plainRanges s) && marked) ≡ false → sound? s ≡ false
   sound-places z f = sym (sound-of _ false _ z refl (sym f) refl) ∙ and-false shaped
 
-  pub sound-line : inRanges? (arrayRanges s) ≡ true → shaped ≡ true → (placed && inRanges? (plainRanges s)) ≡ true → sound? s ≡ line? (s .waiting) (s .held) (s .count)
+  pub sound-line : inRanges? (arrayRanges s) ≡ true → shaped ≡ true → (placed && inRanges? (plainRanges s) && marked) ≡ true → sound? s ≡ line? (s .waiting) (s .held) (s .count)
   sound-line z e f = sym (sound-of true true _ z (sym e) (sym f) refl)
 
 -- of settings whose H is known: H less one is what the code has

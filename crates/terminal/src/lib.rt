@@ -33,7 +33,7 @@ pub fn opening(cells: &mut [u8], layer: &mut [u8], shown: &mut [u8]) -> Opened
     }
 }
 
-// The message call: every item of the message obeyed in turn, then all 640 places painted; or refused by 1, 2 or 3, and nothing altered.
+// The message call: every item of the message obeyed in turn, then all 640 places painted; or refused by 1, 2, 3 or 16, and nothing altered.
 pub fn message(
     settings: Settings,
     message: &[u8],

@@ -34,7 +34,8 @@ pub(crate) fn call_number(
             if soundness::shaped(settings) {
                 let placed = soundness::placed(settings);
                 let stored = soundness::stored(settings);
-                if placed & stored {
+                let marked = soundness::marked(settings);
+                if placed & stored & marked {
                     let waiting = settings.waiting;
                     if line::quiet(waiting, settings.held, settings.count) {
                         0

@@ -46,5 +46,6 @@ pub(crate) fn opened_settings() -> Settings
         held: 0,
         count: 0,
         texts: [32u8; 80],
+        marks: [0u8; 96],
     }
 }

@@ -6,15 +6,18 @@ mod before;
 mod ends;
 mod items;
 mod keyline;
+mod lines;
 mod list;
 mod parameters;
 mod streams;
 
 use self::before::Before;
 use self::keyline::KeyLine;
+use self::lines::Lines;
 use self::list::{CLASSES, JUDGED};
 use self::parameters::Parameters;
 use self::streams::Streams;
+use crate::generate::lines::MARK_FAULTS;
 use crate::generate::sequences::SECONDS;
 use crate::generate::streams::STREAM_FAULTS;
 use crate::generate::{Call, Kind, FIELDS, SIZES, STORE_NAMES};
@@ -37,6 +40,7 @@ pub struct Coverage {
     parameters: Parameters,
     streams: Streams,
     key_line: KeyLine,
+    lines: Lines,
     cells: Vec<u8>,
     layer: Vec<u8>,
 }
@@ -54,6 +58,7 @@ impl Coverage {
                 .iter()
                 .map(|&(name, _)| name)
                 .chain(STREAM_FAULTS)
+                .chain(MARK_FAULTS)
                 .map(|name| (name, 0))
                 .collect(),
             parameters: Parameters::new(),
@@ -232,6 +237,7 @@ impl Coverage {
                 refusals.push((number, parameter));
             } else {
                 self.item(&item, length, &before, &standing);
+                self.lines.item(&item, &before, &standing);
             }
             offset += length;
         }
@@ -261,6 +267,7 @@ impl Coverage {
         self.count_if(number == 12 && bad_line, "61 cut after a bad line");
         let text = before.settings.mode == 0 && cells.iter().any(|&code| code != 32);
         self.count_if(second == 208 && text, "208 refused with text standing");
+        self.lines.refused(second, before);
     }
 
     /// Every class with its count, in lines of words.
@@ -282,6 +289,7 @@ impl Coverage {
         lines.extend(self.parameters.lines());
         lines.extend(self.streams.lines());
         lines.extend(self.key_line.lines());
+        lines.extend(self.lines.lines());
         lines.extend(self.unsound.iter().map(|(name, &count)| (format!("unsound: {name}"), count)));
         lines.extend(self.sizes.iter().map(|(name, &count)| (format!("size: {name}"), count)));
         lines

@@ -5,8 +5,10 @@
 //! - `sequences`: single sequences, with parameters in their ranges or not
 //! - `streams`: pieces of a line, and what waits
 //! - `keyline`: key texts
+//! - `lines`: lines that run on
 
 mod keyline;
+pub mod lines;
 mod messages;
 pub mod sequences;
 mod settings;

@@ -20,13 +20,14 @@
 //! - a line `case NAME`,
 //! - a line `K answer A taken T accepted C refused R first F at O printed P
 //!   parameter N` for each call, K from 1; for a key text only `K answer A`,
-//! - what stands after the last call: the settings' seven lines, the line of
+//! - what stands after the last call: the settings' nine lines, the line of
 //!   sums (Adler-32; printer: over the printer bytes of all calls of the
 //!   case) and the eight rows, as `replay` prints them.
 
 mod examples;
 mod keyline;
 mod layer;
+mod lines;
 mod parameters;
 mod ranges;
 mod refusals;
@@ -99,6 +100,7 @@ pub fn cases() -> Vec<Case> {
     parameters::cases(&mut cases);
     streams::cases(&mut cases);
     keyline::cases(&mut cases);
+    lines::cases(&mut cases);
     cases.0
 }
 

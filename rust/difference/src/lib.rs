@@ -148,6 +148,7 @@ pub fn settings_to_board(s: &Settings) -> px8::Settings {
         held: s.held,
         count: s.count,
         texts: s.texts,
+        marks: s.marks,
     }
 }
 
@@ -184,6 +185,7 @@ pub fn settings_from_board(s: &px8::Settings) -> Settings {
         held: s.held,
         count: s.count,
         texts: s.texts,
+        marks: s.marks,
     }
 }
 

@@ -54,6 +54,9 @@ fn settings_are_carried_over_whole() {
     for (at, byte) in settings.texts.iter_mut().enumerate() {
         *byte = 100 + at as u8;
     }
+    for (at, byte) in settings.marks.iter_mut().enumerate() {
+        *byte = 200 - at as u8;
+    }
     let board = settings_to_board(&settings);
     assert_eq!(settings_from_board(&board), settings);
     assert_eq!(format!("{board:?}"), format!("{settings:?}"));

@@ -293,10 +293,10 @@ mod tests {
 
     #[test]
     fn results_are_laid_out_as_in_the_header() {
-        assert_eq!((size_of::<Outcome>(), align_of::<Outcome>()), (424, 8));
-        assert_eq!((offset_of!(Outcome, settings), offset_of!(Outcome, answer)), (0, 392));
-        assert_eq!((size_of::<Opened>(), align_of::<Opened>()), (392, 4));
-        assert_eq!((offset_of!(Opened, settings), offset_of!(Opened, number)), (0, 388));
+        assert_eq!((size_of::<Outcome>(), align_of::<Outcome>()), (520, 8));
+        assert_eq!((offset_of!(Outcome, settings), offset_of!(Outcome, answer)), (0, 488));
+        assert_eq!((size_of::<Opened>(), align_of::<Opened>()), (488, 4));
+        assert_eq!((offset_of!(Opened, settings), offset_of!(Opened, number)), (0, 484));
         assert_eq!((size_of::<Repeats>(), align_of::<Repeats>()), (16, 8));
         assert_eq!((offset_of!(Repeats, number), offset_of!(Repeats, count)), (0, 8));
     }

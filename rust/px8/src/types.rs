@@ -23,6 +23,10 @@ pub const KEYS: usize = 10;
 pub const KEY_TEXT: usize = 8;
 /// Bytes of the key texts.
 pub const TEXTS: usize = KEYS * KEY_TEXT;
+/// Lines of a screen at most.
+pub const LINES_MOST: usize = 48;
+/// Bytes of the lines' marks: 48 of each screen.
+pub const LINE_MARKS: usize = 2 * LINES_MOST;
 /// Bytes of a stream that wait at most.
 pub const WAITING_MOST: usize = 12;
 /// The most that a stream's byte count reaches.
@@ -160,6 +164,10 @@ pub struct Settings {
     /// stands in columns 8k − 7 to 8k of the key line. See
     /// [`Settings::key_texts`].
     pub texts: [u8; TEXTS],
+    /// 1 where a line runs on into the next, so that 84 erases both, else 0.
+    /// Line l of screen 1 is byte l − 1, of screen 2 byte 47 + l. From a
+    /// screen's last line on they are 0. See [`Settings::marked_lines`].
+    pub marks: [u8; LINE_MARKS],
 }
 
 impl Settings {
@@ -186,6 +194,22 @@ impl Settings {
     /// ```
     pub fn key_texts(&self) -> impl ExactSizeIterator<Item = &[u8; KEY_TEXT]> {
         self.texts.as_chunks().0.iter()
+    }
+
+    /// The lines that run on into the next, of screen 1 (0) or 2 (1).
+    ///
+    /// ```
+    /// let mut terminal = px8::Terminal::open();
+    /// terminal.message(&[b'x'; 200]);
+    /// assert_eq!(terminal.settings().marked_lines(0).collect::<Vec<_>>(), [1, 2]);
+    /// assert_eq!(terminal.settings().marked_lines(1).count(), 0);
+    /// // from line 2 on the name is erased, and its mark
+    /// terminal.message(&[27, 61, 33, 32, 27, 84]);
+    /// assert_eq!(terminal.settings().marked_lines(0).collect::<Vec<_>>(), [1]);
+    /// ```
+    pub fn marked_lines(&self, screen: usize) -> impl Iterator<Item = usize> + '_ {
+        let marks = self.marks.chunks(LINES_MOST).nth(screen).unwrap_or(&[]);
+        (1..).zip(marks).filter(|(_, &mark)| mark == 1).map(|(line, _)| line)
     }
 }
 

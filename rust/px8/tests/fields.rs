@@ -48,6 +48,7 @@ fn opening_settings() {
         held: 0,
         count: 0,
         texts: [32; 80],
+        marks: [0; 96],
     };
     assert_eq!(Terminal::open().settings(), &expected);
 }
@@ -157,6 +158,19 @@ fn texts() {
         expected.texts[8 * (key - 1)..8 * key].copy_from_slice(&text);
         assert!(terminal.key_text(key, &text).is_clean());
         assert_eq!(terminal.settings(), &expected);
+    }
+}
+
+/// The mark of each line but the last, on both screens, by a byte printed in
+/// its last column.
+#[test]
+fn marks() {
+    for (screen, line) in [0, 1].into_iter().flat_map(|screen| (1..24).map(move |line| (screen, line))) {
+        sets(&[27, 209, screen, 27, 149, 1, 27, 61, 31 + line, 111, 65], |s| {
+            (s.selected, s.tracking) = (screen, 0);
+            s.places[usize::from(screen)] = Place { line: line + 1, column: 1, top: 1 };
+            s.marks[48 * usize::from(screen) + usize::from(line) - 1] = 1;
+        });
     }
 }
 

@@ -24,7 +24,7 @@ fn keys() {
 
 #[test]
 fn settings() {
-    assert_eq!((size_of::<Settings>(), align_of::<Settings>()), (388, 4));
+    assert_eq!((size_of::<Settings>(), align_of::<Settings>()), (484, 4));
     assert_eq!(offset_of!(Settings, mode), 0);
     assert_eq!(offset_of!(Settings, lines1), 1);
     assert_eq!(offset_of!(Settings, lines2), 2);
@@ -45,6 +45,7 @@ fn settings() {
     assert_eq!(offset_of!(Settings, held), 300);
     assert_eq!(offset_of!(Settings, count), 304);
     assert_eq!(offset_of!(Settings, texts), 308);
+    assert_eq!(offset_of!(Settings, marks), 388);
 }
 
 #[test]

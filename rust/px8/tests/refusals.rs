@@ -78,7 +78,7 @@ fn message_or_piece_too_long() {
 /// One field after the other just outside its range.
 #[test]
 fn settings_not_sound() {
-    let changes: [fn(&mut Settings); 26] = [
+    let changes: [fn(&mut Settings); 31] = [
         |s| s.mode = 3,
         |s| s.mode = 255,
         |s| s.lines1 = 7,
@@ -105,6 +105,11 @@ fn settings_not_sound() {
         |s| s.keys.repeat = 2,
         |s| s.keys.delay = 0,
         |s| s.keys.interval = 128,
+        |s| s.marks[0] = 2,
+        |s| s.marks[23] = 1,
+        |s| s.marks[47] = 1,
+        |s| s.marks[48 + 23] = 1,
+        |s| s.marks[95] = 255,
     ];
     for change in changes {
         let mut settings = opening_settings();

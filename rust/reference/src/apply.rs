@@ -3,7 +3,7 @@
 
 use super::picture::{copy, cursor_place, place};
 use super::read::Item;
-use super::settings::{Place, Settings, BLANK, COPY, HOME, MARKS};
+use super::settings::{mark_of, Place, Settings, BLANK, COPY, HOME, MARKS, MOST_LINES};
 
 /// What stands, and the printer buffer of the call.
 pub struct Standing<'a> {
@@ -161,11 +161,26 @@ impl Standing<'_> {
         self.settings.cell(self.screen(), line, column)
     }
 
+    /// Whether the line is marked as one that runs on.
+    fn runs_on(&self, line: usize) -> bool {
+        self.settings.marks[mark_of(self.screen(), line)] == 1
+    }
+
+    fn set_runs_on(&mut self, line: usize, runs_on: bool) {
+        self.settings.marks[mark_of(self.screen(), line)] = u8::from(runs_on);
+    }
+
+    /// A line's mark goes where its cells go, and with them.
     fn blank_line(&mut self, line: usize) {
-        for column in 1..=self.columns() {
+        self.blank_rest(line, 1);
+    }
+
+    fn blank_rest(&mut self, line: usize, from: usize) {
+        for column in from..=self.columns() {
             let at = self.cell(line, column);
             self.cells[at] = BLANK;
         }
+        self.set_runs_on(line, false);
     }
 
     fn copy_line(&mut self, from: usize, to: usize) {
@@ -173,6 +188,7 @@ impl Standing<'_> {
             let (source, target) = (self.cell(from, column), self.cell(to, column));
             self.cells[target] = self.cells[source];
         }
+        self.set_runs_on(to, self.runs_on(from));
     }
 
     // ---- printing and moving the cursor ----
@@ -192,13 +208,21 @@ impl Standing<'_> {
         if usize::from(here.column) < self.columns() {
             self.here_mut().column = here.column + 1;
         } else {
-            self.here_mut().column = 1;
-            self.line_down();
+            self.next_line();
         }
     }
 
+    /// "Printing in the last column sets the mark on the line left".
+    fn next_line(&mut self) {
+        let left = usize::from(self.here().line);
+        self.set_runs_on(left, true);
+        self.here_mut().column = 1;
+        self.line_down();
+    }
+
     /// "Going below the last line moves the screen's lines up one and blanks
-    /// the last." A lifted screen empties the whole layer.
+    /// the last." A lifted screen empties the whole layer, and "carries marks
+    /// along".
     fn line_down(&mut self) {
         if usize::from(self.here().line) < self.lines() {
             self.here_mut().line += 1;
@@ -274,7 +298,8 @@ impl Standing<'_> {
 
     // ---- blanking and scrolling ----
 
-    /// "42: blanks the screen, cursor home, top 1, layer empty."
+    /// "42: blanks the screen, cursor home, top 1, layer empty", and "42 clears
+    /// the screen's" marks.
     fn clear_screen(&mut self) {
         for line in 1..=self.lines() {
             self.blank_line(line);
@@ -283,28 +308,43 @@ impl Standing<'_> {
         self.empty_layer();
     }
 
-    /// "84: blanks from the cursor to the end of its line. 89: to the end of
-    /// the screen. Both take in the cursor's cell."
+    /// "84 blanks through the first unmarked line at or after the cursor's and
+    /// clears those marks; 89 clears marks from the cursor's line on" and blanks
+    /// to the end of the screen. "Both take in the cursor's cell."
     fn blank_from_cursor(&mut self, second: u8) {
         let line = usize::from(self.here().line);
-        for column in usize::from(self.here().column)..=self.columns() {
-            let at = self.cell(line, column);
-            self.cells[at] = BLANK;
-        }
-        if second == 89 {
-            for below in line + 1..=self.lines() {
-                self.blank_line(below);
-            }
+        let last = if second == 89 { self.lines() } else { self.first_unmarked(line) };
+        self.blank_rest(line, self.here().column.into());
+        for below in line + 1..=last {
+            self.blank_line(below);
         }
         self.empty_layer();
     }
 
-    /// "Within lines a+1 to a+m, contents move up (144) or down (145) by one"
+    /// At or after this line; the screen's last one is never marked.
+    fn first_unmarked(&self, line: usize) -> usize {
+        let mut first = line;
+        while self.runs_on(first) {
+            first += 1;
+        }
+        first
+    }
+
+    /// "Within lines a+1 to a+m, contents move up (144) or down (145) by one",
+    /// and "marks move with lines; the blank line, the line above the region (if
+    /// any) and the region's last two lines (or only line) end unmarked".
     fn scroll(&mut self, second: u8, a: usize, m: usize) {
         if second == 144 {
             self.move_lines_up(a + 1, a + m);
         } else {
             self.move_lines_down(a + 1, a + m);
+        }
+        if a > 0 {
+            self.set_runs_on(a, false);
+        }
+        let last_two = if m > 1 { a + m - 1 } else { a + m };
+        for line in last_two..=a + m {
+            self.set_runs_on(line, false);
         }
         self.empty_layer();
     }
@@ -343,7 +383,7 @@ impl Standing<'_> {
 
     /// "An accepted 208 blanks all cells, empties the layer, puts cursors and
     /// tops at 1, selects screen 1, sets step 1 and tracking on. Other
-    /// settings stay, save the boundary in mode 2."
+    /// settings stay, save the boundary in mode 2", and the marks: "208 all".
     fn set_mode(&mut self, p: &[u8]) {
         self.cells.fill(BLANK);
         self.empty_layer();
@@ -359,6 +399,7 @@ impl Standing<'_> {
             settings.boundary = p[3];
         }
         settings.places = [HOME, HOME];
+        settings.marks = [0; 2 * MOST_LINES];
         settings.selected = 0;
         settings.step = 1;
         settings.tracking = 1;

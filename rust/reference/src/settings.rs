@@ -16,6 +16,8 @@ pub const LONGEST_STREAM: usize = 1_000_000_000;
 /// "ten key texts of 8 codes"
 pub const KEYS: usize = 10;
 pub const KEY_TEXT: usize = 8;
+/// of a screen, in every mode
+pub const MOST_LINES: usize = 48;
 /// 8 rows of 80, each followed by 13 and 10.
 pub const COPY: usize = 656;
 pub const BLANK: u8 = 32;
@@ -78,6 +80,8 @@ pub struct Settings {
     pub count: u32,
     /// the key texts, one behind the other
     pub texts: [u8; KEYS * KEY_TEXT],
+    /// "mark each line that runs on": 1, by `mark_of`
+    pub marks: [u8; 2 * MOST_LINES],
 }
 
 #[derive(Clone, Copy, Debug, Default, PartialEq, Eq)]
@@ -138,7 +142,13 @@ pub const OPENING: Settings = Settings {
     held: 0,
     count: 0,
     texts: [BLANK; KEYS * KEY_TEXT],
+    marks: [0; 2 * MOST_LINES],
 };
+
+/// Where the mark of a screen's line stands.
+pub fn mark_of(screen: usize, line: usize) -> usize {
+    MOST_LINES * screen + line - 1
+}
 
 /// Screens are numbered 0 and 1 here, as `selected` is.
 impl Settings {

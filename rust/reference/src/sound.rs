@@ -1,6 +1,6 @@
 //! Which settings are sound.
 
-use super::settings::{Keys, Settings, CHARSETS, SHIFTS};
+use super::settings::{mark_of, Keys, Settings, CHARSETS, MOST_LINES, SHIFTS};
 use super::stream::stream_sound;
 
 /// "Settings are sound exactly when each lies in the range that the rules
@@ -14,6 +14,8 @@ pub fn sound(settings: &Settings) -> bool {
         && switches_sound(settings)
         && keys_sound(&settings.keys)
         && stream_sound(settings)
+        && marks_sound(settings, 0)
+        && marks_sound(settings, 1)
 }
 
 /// The table of modes; the columns stand as the mode gives them.
@@ -40,6 +42,16 @@ fn place_sound(s: &Settings, screen: usize) -> bool {
     (1..=s.lines(screen)).contains(&usize::from(place.line))
         && (1..=s.columns(screen)).contains(&usize::from(place.column))
         && (1..=s.greatest_top(screen)).contains(&usize::from(place.top))
+}
+
+/// "A screen's last line is never marked; sound settings include that." The
+/// lines that a screen does not have are not marked either.
+fn marks_sound(s: &Settings, screen: usize) -> bool {
+    (1..=MOST_LINES).all(|line| match s.marks[mark_of(screen, line)] {
+        0 => true,
+        1 => line < s.lines(screen),
+        _ => false,
+    })
 }
 
 fn switches_sound(s: &Settings) -> bool {

@@ -2,7 +2,8 @@
 
 use super::calls::{closing, key_text, message, opening, piece};
 use super::picture::place;
-use super::settings::{Answer, Settings, CELLS, COPY, LAYER, OPENING, ROWS, SHOWN, WIDTH};
+use super::settings::{mark_of, Answer, Settings};
+use super::settings::{CELLS, COPY, LAYER, MOST_LINES, OPENING, ROWS, SHOWN, WIDTH};
 use super::stream::waits;
 use std::fmt::Write;
 
@@ -198,6 +199,15 @@ pub fn settings_text(s: &Settings) -> String {
     write!(text, "\nstream count {} waiting", s.count).unwrap();
     for byte in waits(s) {
         write!(text, " {byte}").unwrap();
+    }
+    text + "\n" + &runs(s, 0) + &runs(s, 1)
+}
+
+/// The marked lines of a screen.
+fn runs(s: &Settings, screen: usize) -> String {
+    let mut text = format!("runs {}", screen + 1);
+    for line in (1..=MOST_LINES).filter(|&line| s.marks[mark_of(screen, line)] == 1) {
+        write!(text, " {line}").unwrap();
     }
     text + "\n"
 }

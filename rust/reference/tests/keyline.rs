@@ -251,8 +251,8 @@ fn words_of_replayed_key_texts() {
     let lines: Vec<&str> = text.lines().collect();
     assert_eq!(lines[..4], ["1 answer 0", "2 answer 17", "3 answer 17", "4 answer 17"]);
     assert_eq!(lines[4], "5 answer 0 taken 3 accepted 1 refused 0 first 0 at 0 printed 0 parameter 0");
-    assert_eq!(lines[12].split(" texts ").count(), 2);
-    assert_eq!(lines[20], "8 TARE");
+    assert!(lines.iter().any(|line| line.starts_with("sums ") && line.contains(" texts ")));
+    assert_eq!(lines.last(), Some(&"8 TARE"));
     // a record without a key number is bad
     assert!(replay(&[0, 0, 4, 0]).starts_with("1 bad record\n"));
 }

@@ -443,8 +443,9 @@ fn replay_of_good_records() {
     assert_eq!(lines[6], "strings 1 display 1 repeat 1 32 16 shift 0");
     assert_eq!(lines[7], "arrows 0 0 0 0 0 0 0 0 0 0 0 0");
     assert_eq!(lines[8], "stream count 0 waiting");
-    assert!(lines[9].starts_with("sums cells "));
-    assert_eq!((lines[10], lines.len()), ("1 AB", 18));
+    assert_eq!(lines[9..11], ["runs 1", "runs 2"]);
+    assert!(lines[11].starts_with("sums cells "));
+    assert_eq!((lines[12], lines.len()), ("1 AB", 20));
 }
 
 #[test]

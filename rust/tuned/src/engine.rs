@@ -143,10 +143,22 @@ impl<'a> Engine<'a> {
                     self.follow();
                 }
                 self.column = 1;
+                let left = self.line - 1;
+                self.runs()[left] = 1;
                 self.down();
             }
             self.follow();
             run = later;
+        }
+    }
+
+    /// The marks of the selected screen's lines, which run on where they are 1.
+    pub fn runs(&mut self) -> &mut [u8] {
+        let (first, second) = self.settings.marks.split_at_mut(48);
+        if self.settings.selected == 1 {
+            second
+        } else {
+            first
         }
     }
 
@@ -184,6 +196,10 @@ impl<'a> Engine<'a> {
         let (moved, last) = (self.block(1, self.lines), self.block(self.lines - 1, self.lines));
         self.stores.cells.copy_within(moved, self.base);
         self.stores.cells[last].fill(b' ');
+        let lines = self.lines;
+        let runs = self.runs();
+        runs.copy_within(1..lines, 0);
+        runs[lines - 1] = 0;
         self.wipe();
     }
 
@@ -223,6 +239,7 @@ impl<'a> Engine<'a> {
         let all = self.block(0, self.lines);
         self.stores.cells[all].fill(b' ');
         (self.line, self.column, self.top) = (1, 1, 1);
+        self.runs().fill(0);
         self.wipe();
     }
 

@@ -46,6 +46,7 @@ const START: Settings = Settings {
     held: 0,
     count: 0,
     texts: [b' '; 80],
+    marks: [0; 96],
 };
 
 pub fn opening(cells: &mut [u8], layer: &mut [u8], shown: &mut [u8]) -> (Settings, u8) {
@@ -171,4 +172,13 @@ fn sound(s: &Settings) -> bool {
         && sequences::is_charset(k.charset)
         && sequences::is_shift(k.shift)
         && streams::sound(s)
+        && marks_sound(&s.marks[..48], a)
+        && marks_sound(&s.marks[48..], b)
+}
+
+/// Nothing but 0 and 1, and from the last line on nothing but 0.
+fn marks_sound(marks: &[u8], lines: u8) -> bool {
+    let together = |marks: &[u8]| marks.iter().fold(0, |all, mark| all | mark);
+    let (before, from) = marks.split_at(usize::from(lines) - 1);
+    together(before) <= 1 && together(from) == 0
 }

@@ -162,7 +162,7 @@ impl Engine<'_> {
             42 => self.clear(),
             61 => self.put_cursor(usize::from(p[0]) - 31, usize::from(p[1]) - 31),
             80 => self.copy_out(),
-            84 => self.blank_to(self.line),
+            84 => self.blank_run(),
             89 => self.blank_to(self.lines),
             144 | 145 => self.scroll(second == 144, usize::from(p[0]), usize::from(p[1])),
             150 => self.move_top(self.top.saturating_sub(self.settings.step.into()).max(1)),
@@ -245,11 +245,20 @@ impl Engine<'_> {
         }
     }
 
+    /// Blanks from the cursor's cell to the end of its logical line.
+    fn blank_run(&mut self) {
+        let line = self.line;
+        let further = self.runs()[line - 1..].iter().take_while(|&&mark| mark == 1).count();
+        self.blank_to(line + further);
+    }
+
     /// Blanks from the cursor's cell to the end of line `last`.
     fn blank_to(&mut self, last: usize) {
         let end = self.block(0, last).end;
         let start = self.cursor_cell();
         self.stores.cells[start..end].fill(b' ');
+        let line = self.line;
+        self.runs()[line - 1..last].fill(0);
         self.wipe();
     }
 
@@ -265,7 +274,21 @@ impl Engine<'_> {
             cells.copy_within(upper, region.start + width);
             cells[region.start..region.start + width].fill(b' ');
         }
+        self.scroll_runs(up, a, m);
         self.wipe();
+    }
+
+    fn scroll_runs(&mut self, up: bool, a: usize, m: usize) {
+        let runs = self.runs();
+        if up {
+            runs.copy_within(a + 1..a + m, a);
+        } else {
+            runs.copy_within(a..a + m - 1, a + 1);
+            runs[a] = 0;
+        }
+        // of a region of one line that is the line above it too
+        runs[(a + m).saturating_sub(2)..a + m].fill(0);
+        runs[a.saturating_sub(1)..a].fill(0);
     }
 
     fn set_mode(&mut self, p: &[u8]) {
@@ -283,6 +306,7 @@ impl Engine<'_> {
         }
         s.places = [Place { line: 1, column: 1, top: 1 }; 2];
         (s.selected, s.step, s.tracking) = (0, 1, 1);
+        s.marks = [0; 96];
         self.stores.cells.fill(b' ');
         self.wipe();
         self.load();

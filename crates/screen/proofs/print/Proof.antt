@@ -1,7 +1,7 @@
 -- `print` meets its contract: it stores, moves right and tracks, as the rule does.
 use borrow.Author.Needs.{needs}
 use Rattle.model.specs.Rules.{printed}
-use Rattle.screen.proofs.Acting.{then, then-above}
+use Rattle.screen.proofs.Carried.{then-above-with, then-with, unmarked-acts}
 use Rattle.screen.proofs.print.Statement.{statement}
 use Rattle.screen.proofs.print.Tie as tie
 
@@ -15,4 +15,5 @@ print-spec =
     (λ c κs. search needs)
     (λ c. search needs)
     (λ c. search needs)
-    (λ c. let done = c .before .before .before .before .before .before .before .before in let done2 = done .before .before .before .before .before .before .before in then-above (then (done2 .store .ensures) (done .right .ensures)) (c .before .before .track .ensures)))
+    (λ c. search needs)
+    (λ c. then-above-with (then-with (unmarked-acts (c .before .before .before .before .before .before .before .before .before .before .before .before .before .before .before .before .before .before .before .before .before .before .before .before .pre .1) (c .before .before .before .before .before .before .before .before .before .before .before .before .before .before .before .before .before .before .store .ensures)) (c .before .before .before .before .before .before .before .before .before .before .right .ensures)) (c .before .before .track .ensures)))

@@ -6,18 +6,11 @@ use Rattle.soundness.proofs.sound.Tie as tie
 
 returns : tie.Need-returns
 returns c =
-    let stored = c .before .before in
+    let stored = c .before .before .before in
     let placed = stored .before in
     let shaped = placed .before in
     let s = shaped .before .args .settings in
-    sound-of s _ _ _ (stored .stored .ensures .1) (shaped .shaped .ensures) (λ i. placed .placed .ensures i && stored .stored .ensures .0 i) (c .sound .ensures)
+    sound-of s _ _ _ (stored .stored .ensures .1) (shaped .shaped .ensures) (λ i. placed .placed .ensures i && stored .stored .ensures .0 i && c .marked .ensures i) (c .before .sound .ensures)
 
 pub sound-spec : {M : Type 1} → statement M
-sound-spec =
-    tie.close
-    (tie.spec
-    (λ c κs. tt)
-    (λ c κs. tt)
-    (λ c κs. tt)
-    (λ c κs. tt)
-    returns)
+sound-spec = tie.close (tie.spec (λ c κs. tt) (λ c κs. tt) (λ c κs. tt) (λ c κs. tt) (λ c κs. tt) returns)

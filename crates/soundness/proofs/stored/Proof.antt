@@ -18,8 +18,9 @@ returns c =
     let r : length (s .patterns) ≡ 248 = search (unmapped, h) in
     let w : length (s .waiting) ≡ 12 = search (unmapped, h .1) in
     let t : length (s .texts) ≡ 80 = search (unmapped, h .1 .1 .1 .1 .1) in
+    let m : length (s .marks) ≡ 96 = search (unmapped, h .1 .1 .1 .1 .1 .1) in
     let of = keys .keys-in-range .ensures in
-    (plain-of s _ (of .0), arrays s p (of .1 .0) (of .1 .1) r w t)
+    (plain-of s _ (of .0), arrays s p (of .1 .0) (of .1 .1) r w t m)
 
 pub stored-spec : {M : Type 1} → statement M
 stored-spec = tie.close (tie.spec (λ c κs. tt) returns)

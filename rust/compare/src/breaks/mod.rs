@@ -6,10 +6,12 @@
 //! - `parameters`: which parameter a refusal names
 //! - `streams`: pieces and closings
 //! - `keyline`: the key line and its texts
+//! - `lines`: lines that run on
 //! - `screens`: the comparison of two screens
 //! - `traces`: key repeats
 
 mod keyline;
+mod lines;
 mod parameters;
 mod scope;
 mod screens;
@@ -29,7 +31,8 @@ const fn entry(name: &'static str, file: &'static str, old: &'static str, new: &
 }
 
 /// The broken copies of the terminal.
-pub const BREAKS: &[&[Break]] = &[scope::BREAKS, parameters::BREAKS, streams::BREAKS, keyline::BREAKS];
+pub const BREAKS: &[&[Break]] =
+    &[scope::BREAKS, parameters::BREAKS, streams::BREAKS, keyline::BREAKS, lines::BREAKS];
 
 /// The broken copies of the comparison of two screens.
 pub const SCREENS: &[&[Break]] = &[screens::BREAKS];

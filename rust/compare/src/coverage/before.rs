@@ -36,6 +36,11 @@ impl Before {
         usize::from(self.place.line) == self.settings.lines(self.screen())
     }
 
+    /// Whether printing goes to the next line.
+    pub fn leaves_its_line(&self) -> bool {
+        self.in_last_column()
+    }
+
     pub fn in_last_column(&self) -> bool {
         usize::from(self.place.column) == self.settings.columns(self.screen())
     }

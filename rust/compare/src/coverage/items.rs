@@ -53,7 +53,7 @@ impl Coverage {
     }
 
     fn printing(&mut self, by_37: bool, before: &Before, after: &Standing) {
-        let wrap = before.in_last_column();
+        let wrap = before.leaves_its_line();
         if wrap {
             self.count(["wrap in mode 0", "wrap in mode 1", "wrap in mode 2"][before.mode()]);
             self.count_if(before.place.column == 1, "wrap on one column");

@@ -1,5 +1,6 @@
 //! Messages, part by part.
 
+use super::lines::long_name;
 use super::sequences::{sequence, SECONDS};
 use super::settings::{height, inside};
 use crate::random::Random;
@@ -59,7 +60,7 @@ pub fn message(random: &mut Random, settings: &Settings) -> Vec<u8> {
 }
 
 fn part(random: &mut Random, belief: &mut Belief, bytes: &mut Vec<u8>) {
-    match random.below(16) {
+    match random.below(17) {
         0..=2 => text(random, bytes),
         3 => codes(random, bytes),
         4 => to_the_edge(random, belief, bytes),
@@ -68,6 +69,7 @@ fn part(random: &mut Random, belief: &mut Belief, bytes: &mut Vec<u8>) {
         6 if random.one_in(3) => bytes.extend([27, 148, inside(random, 1, belief.height())]),
         6 if random.one_in(3) => key_display(random, belief, bytes),
         7 => escape_in_parameter(random, belief, bytes),
+        8 => long_name(random, belief, bytes),
         _ => {
             let second = random.pick(&SECONDS);
             sequence(random, belief, second, bytes);

@@ -1,5 +1,6 @@
 //! Arbitrary sound settings, and settings with one thing wrong.
 
+use super::lines::{break_marks, marks, MARK_FAULTS};
 use super::streams::{break_stream, with_stream, STREAM_FAULTS};
 use crate::random::Random;
 use reference::settings::OPENING;
@@ -57,6 +58,7 @@ pub fn settings(random: &mut Random) -> Settings {
         keys: keys(random),
         patterns,
         texts,
+        marks: marks(random, lines),
         ..OPENING
     };
     with_stream(random, whole)
@@ -121,6 +123,11 @@ pub fn unsound(random: &mut Random, sound: &Settings) -> (&'static str, Settings
         break_stream(random, name, &mut settings);
         return (name, settings);
     }
+    if random.one_in(6) {
+        let name = random.pick(&MARK_FAULTS);
+        break_marks(random, name, &mut settings);
+        return (name, settings);
+    }
     let (name, field) = random.pick(&FIELDS);
     let beyond = beyond(name, &settings);
     let value = field(&mut settings);
@@ -141,6 +148,7 @@ pub fn unsound(random: &mut Random, sound: &Settings) -> (&'static str, Settings
         for place in &mut settings.places {
             (place.line, place.top) = (1, 1);
         }
+        settings.marks = [0; 96];
     }
     (name, settings)
 }

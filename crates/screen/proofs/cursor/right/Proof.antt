@@ -1,8 +1,7 @@
--- `cursor::right` meets its contract: a column further, or from the last to column 1 and a line down.
-use native.Mathlib.Omega.{arith}
+-- `cursor::right` meets its contract: a column further, or from the last to column 1 of the next line.
 use borrow.Author.Needs.{needs}
-use Rattle.screen.proofs.Acting.{then}
-use Rattle.screen.proofs.Moves.{column-acts, right-steps, right-wraps}
+use Rattle.screen.proofs.Carried.{unmarked-acts}
+use Rattle.screen.proofs.Moves.{right-steps, right-wraps}
 use Rattle.screen.proofs.cursor.right.Statement.{statement}
 use Rattle.screen.proofs.cursor.right.Tie as tie
 
@@ -13,8 +12,8 @@ right-spec =
     (λ c. search needs)
     (λ c κs. search needs)
     (λ c κs. search needs)
-    (λ c κs. let entry = c .before .before .before .before .before .before .before .before in column-acts (entry .pre) 1 (omega arith) (omega arith) (c .before .before .put-at2 .ensures) .ready)
-    (λ c. right-steps (search needs) (c .before .before .if1 .taken) (c .put-at .ensures))
+    (λ c. unmarked-acts (c .before .before .before .before .before .before .before .before .pre .1) (right-steps (c .before .before .before .before .before .before .before .before .pre .0) (c .before .before .if1 .taken) (c .put-at .ensures)))
     (λ c. search needs)
     (λ c. search needs)
-    (λ c. let done = c .before .before .before .before .before .before .before in let test = done .before in let entry = test .before .before .before .before .before in right-wraps (test .if1 .left) (then (column-acts (entry .pre) 1 (omega arith) (omega arith) (done .put-at2 .ensures)) (c .before .before .before .before .down .ensures))))
+    (λ c. search needs)
+    (λ c. right-wraps (c .before .before .before .before .before .before .before .before .before .before .if1 .left) (c .before .before .before .before .before .before .onward .ensures)))

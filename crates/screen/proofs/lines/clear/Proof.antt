@@ -1,4 +1,5 @@
--- `lines::clear` meets its contract: the blanked cells are all lines of the screen, and home is a place of it.
+-- `lines::clear` meets its contract: the blanked cells and the cleared marks are those of all lines of the screen, and home is a place of it.
+use native.Mathlib.Omega.{arith}
 use borrow.Author.Needs.{needs}
 use Rattle.screen.proofs.Regions.{cleared-acts}
 use Rattle.screen.proofs.lines.clear.Statement.{statement}
@@ -11,7 +12,9 @@ clear-spec =
     (λ c κs. search needs)
     (λ c κs. search needs)
     (λ c κs. search needs)
+    (λ c κs. ((omega arith, (omega arith, omega arith)), search needs))
     (λ c κs. search needs)
     (λ c. search needs)
     (λ c. search needs)
-    (λ c. let done = c .before .before .before .before .before .before .before in let done2 = done .before in cleared-acts (search needs) (c .before .before .before .empty .ensures) (done2 .times .ensures .0) (done .blank .ensures) (c .home-place .ensures)))
+    (λ c. search needs)
+    (λ c. let entry = c .before .before .before .before .before .before .before .before .before .before .before .before .before .before .before .before .before in cleared-acts (entry .pre .0) (c .before .before .before .before .before .before .before .empty .ensures) (c .before .before .before .before .before .before .before .before .before .before .before .before .times .ensures .0) (c .before .before .before .before .before .before .before .before .before .before .before .blank .ensures) (entry .pre .1) (c .before .before .before .unmark .ensures) (c .home-place .ensures)))

@@ -1,9 +1,7 @@
--- `lines::erase_rest` meets its contract: so many cells are left on the screen.
+-- `lines::erase_rest` meets its contract: it ends with the screen's last line.
 use native.Mathlib.Omega.{arith}
 use borrow.Author.Needs.{needs}
-use Rattle.model.specs.Rules.{blankFrom}
-use Rattle.screen.proofs.Acting.{at-value}
-use Rattle.screen.proofs.Cells.{cell-room, screen-rest}
+use Rattle.screen.proofs.Regions.{erased-rest}
 use Rattle.screen.proofs.lines.erase_rest.Statement.{statement}
 use Rattle.screen.proofs.lines.erase_rest.Tie as tie
 
@@ -11,14 +9,8 @@ pub erase-rest-spec : {M : Type 1} → statement M
 erase-rest-spec =
     tie.close
     (tie.spec
-    (λ c. search needs)
-    (λ c κs. search needs)
-    (λ c κs. search needs)
-    (λ c. search needs)
-    (λ c κs. search needs)
+    (λ c κs. let entry = c .before .before .before .before .before .before in (entry .pre .0, (entry .pre .1, (entry .pre .0 .stands .fits .line-high, omega arith))))
     (λ c. search needs)
     (λ c. search needs)
-    (λ c κs. let entry = c .before .before .before .before .before .before .before .before .before in (entry .pre, omega (arith, cell-room (entry .pre .stands))))
     (λ c. search needs)
-    (λ c. search needs)
-    (λ c. at-value blankFrom (screen-rest (omega arith)) (c .before .before .before .before .blank-from .ensures)))
+    (λ c. erased-rest (c .before .before .before .before .before .before .erase-through .ensures)))

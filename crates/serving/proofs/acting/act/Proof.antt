@@ -9,44 +9,44 @@ use Rattle.serving.proofs.acting.act.Tie as tie
 
 print-run-requires : tie.Need-print-run-requires
 print-run-requires c κs =
-    let told = c .before .before in
-    let entry = told .before .before .before .before .before in
-    (entry .pre .0, entry .pre .1 .prints (rw (told .enum-told .given .1)))
+    let told = c .before .before .before in
+    let entry = told .before .before .before .before .before .before in
+    (entry .pre .0, (entry .pre .1 .0, entry .pre .1 .1 .prints (rw (told .enum-told .given .1))))
 
 act-requires : tie.Need-act-requires
 act-requires c κs =
-    let case = c .before .before .before in
-    let entry = case .before .before .before .before .before in
-    (entry .pre .0, rw (case .item2 .given .1) at (entry .pre .1 .legal))
+    let case = c .before .before .before .before in
+    let entry = case .before .before .before .before .before .before in
+    (entry .pre .0, (entry .pre .1 .0, rw (case .item2 .given .1) at (entry .pre .1 .1 .legal)))
 
 returns : tie.Need-returns
 returns c =
-    let done = c .before .before .before .before in
-    let told = done .before .before .before in
+    let done = c .before .before .before .before .before .before in
+    let told = done .before .before .before .before in
     rw (told .enum-told .given .1) (record { run = λ e. done .print-run .ensures; next = λ e. absurd (differ e); acts = λ e. absurd (differ e); rests = λ e. absurd (differ e) })
 
 returns-2 : tie.Need-returns-2
 unfolding applyItem
 returns-2 c =
-    let done = c .before .before .before .before in
-    let case = done .before .before .before .before in
+    let done = c .before .before .before .before .before .before in
+    let case = done .before .before .before .before .before in
     rw (case .item .given .1) (record { run = λ e. absurd (differ (sym e)); next = λ e. refl; acts = λ e h n. done .control .ensures; rests = λ e. absurd (differ e) })
 
 returns-3 : tie.Need-returns-3
 unfolding applyItem
 returns-3 c =
-    let done = c .before .before .before .before in
-    let case = done .before .before .before .before in
-    rw (case .item2 .given .1) (record { run = λ e. absurd (differ (sym e)); next = λ e. refl; acts = λ e h n. done .act .ensures .on h n; rests = λ e. let o = done .act .ensures .off e in (o .0, (o .1, o .2)) })
+    let done = c .before .before .before .before .before .before in
+    let case = done .before .before .before .before .before in
+    rw (case .item2 .given .1) (record { run = λ e. absurd (differ (sym e)); next = λ e. refl; acts = λ e h n. done .act .ensures .on h n; rests = λ e. let o = done .act .ensures .off e in (o .0, (o .1, (o .2, o .3))) })
 
 returns-4 : tie.Need-returns-4
-returns-4 c = rw (c .enum-told2 .given .1) (record { run = λ e. absurd (differ (sym e)); next = λ e. refl; acts = λ e h. absurd (differ (sym h)); rests = λ e. (refl, (refl, refl)) })
+returns-4 c = rw (c .enum-told2 .given .1) (record { run = λ e. absurd (differ (sym e)); next = λ e. refl; acts = λ e h. absurd (differ (sym h)); rests = λ e. (refl, (refl, (refl, refl))) })
 
 pub act-spec : {M : Type 1} → statement M
 act-spec =
     tie.close
     (tie.spec
-    (λ c. let entry = c .before .before .before in omega (arith, entry .pre .1 .inside, entry .pre .1 .short))
+    (λ c. let entry = c .before .before .before .before in omega (arith, entry .pre .1 .1 .inside, entry .pre .1 .1 .short))
     (λ c. search needs)
     print-run-requires
     (λ c. search needs)
@@ -56,10 +56,13 @@ act-spec =
     (λ c. search needs)
     (λ c. search needs)
     (λ c. search needs)
+    (λ c. search needs)
     returns
     (λ c. search needs)
     (λ c. search needs)
+    (λ c. search needs)
     returns-2
+    (λ c. search needs)
     (λ c. search needs)
     (λ c. search needs)
     returns-3

@@ -1,4 +1,4 @@
--- By the tests, in their order; 3 has three ways: the shape, the places and what is stored, the line.
+-- By the tests, in their order; 3 has three ways: the shape; the places, what is stored and the marks; the line.
 use mathlib.Core.Path.{_∙_, _≡_, refl, sym}
 use mathlib.Core.Bool.{_&&_, false, true}
 use borrow.Author.Needs.{needs}
@@ -22,7 +22,7 @@ abbrev few-of : tie.Then3 → tie.Then2
 few-of c = c .before .before
 
 abbrev shaped-of : tie.Then4 → tie.Then3
-shaped-of c = c .before .before .before
+shaped-of c = c .before .before .before .before
 
 -- what each of them tells
 all-sized : (c : tie.Then1) → let a = start-of c .args in sized (terminal (a .settings) (a .cells .now) (a .layer .now) (a .shown .now)) ≡ true
@@ -35,7 +35,7 @@ few c = le-leb _ _ (c .if2 .taken)
 by-line : (c : tie.Then4) → let s = asked (few-of (shaped-of c)) .args .settings in sound? s ≡ line? (s .waiting) (s .held) (s .count)
 by-line c =
     let shape = shaped-of c in
-    sound-line _ (c .before .stored .ensures .1) (sym (shape .before .shaped .ensures) ∙ shape .if3 .taken) ((λ i. sym (c .before .before .placed .ensures) i && sym (c .before .stored .ensures .0) i) ∙ c .if4 .taken)
+    sound-line _ (c .before .before .stored .ensures .1) (sym (shape .before .shaped .ensures) ∙ shape .if3 .taken) ((λ i. sym (c .before .before .before .placed .ensures) i && sym (c .before .before .stored .ensures .0) i && sym (c .before .marked .ensures) i) ∙ c .if4 .taken)
 
 returns : tie.Need-returns
 returns c =
@@ -61,10 +61,10 @@ returns-3 c =
 
 returns-4 : tie.Need-returns-4
 returns-4 c =
-    let two = few-of (c .before .before .before) in
+    let two = few-of (c .before .before .before .before) in
     let a = asked two .args in
     not-sound (a .settings) (a .message .now) (a .cells .now) (a .layer .now) (a .shown .now) (all-sized (two .before)) (few two)
-    (sound-places (a .settings) (c .before .stored .ensures .1) ((λ i. sym (c .before .before .placed .ensures) i && sym (c .before .stored .ensures .0) i) ∙ c .if4 .left))
+    (sound-places (a .settings) (c .before .before .stored .ensures .1) ((λ i. sym (c .before .before .before .placed .ensures) i && sym (c .before .before .stored .ensures .0) i && sym (c .before .marked .ensures) i) ∙ c .if4 .left))
 
 returns-5 : tie.Need-returns-5
 returns-5 c =
@@ -87,6 +87,7 @@ pub call-number-spec : {M : Type 1} → statement M
 call-number-spec =
     tie.close
     (tie.spec
+    (λ c κs. search needs)
     (λ c κs. search needs)
     (λ c κs. search needs)
     (λ c κs. search needs)
