@@ -136,7 +136,7 @@ static void opening(void)
  * the marks. */
 static int same_settings(px8_settings one, px8_settings other)
 {
-    return memcmp(&one, &other, offsetof(px8_settings, held) + 1) == 0 && one.count == other.count &&
+    return memcmp(&one, &other, offsetof(px8_settings, waiting) + PX8_WAITING_MOST) == 0 && one.count == other.count &&
            memcmp(one.texts, other.texts, PX8_TEXTS) == 0 &&
            memcmp(one.marks, other.marks, PX8_LINE_MARKS) == 0;
 }

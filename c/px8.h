@@ -167,8 +167,8 @@ typedef struct px8_keys {
  * is always sound, or else exactly what was given to a refused call; so only a
  * caller that makes or alters settings can meet number 3.
  *
- * waiting, held and count are the stream's. No sequence changes them, and a
- * message leaves them. Only px8_key_text changes the texts. Between `held` and
+ * held, waiting and count are the stream's. No sequence changes them, and a
+ * message leaves them. Only px8_key_text changes the texts. Between `waiting` and
  * `count` there are three padding bytes of no fixed value: compare settings field
  * by field. */
 typedef struct px8_settings {
@@ -191,11 +191,11 @@ typedef struct px8_settings {
     px8_keys keys;
     uint8_t patterns[PX8_PATTERNS]; /* any bytes: code c, 224 to 254, has the eight
                           * from 8 * (c - 224) on (ESC 224); stored only */
+    uint8_t held;        /* how many bytes wait, 0 to 12, at most `count` */
     uint8_t waiting[PX8_WAITING_MOST]; /* the first `held` bytes are an unfinished
                           * sequence: ESC, and fewer bytes than it has in all (nothing
                           * else of it is judged yet; 27, 209 is one too); the others
                           * are 0 */
-    uint8_t held;        /* how many bytes wait, 0 to 12, at most `count` */
     uint32_t count;      /* bytes of the stream so far, 0 to PX8_COUNT_MOST */
     uint8_t texts[PX8_TEXTS]; /* any bytes: key k, 1 to 10, has the eight from
                           * 8 * (k - 1) on, which stand in columns 8k-7 to 8k of row 8 */
@@ -208,7 +208,7 @@ typedef struct px8_settings {
  * The opening settings: mode 0, 24 and 24 lines, 80 and 80 columns, boundary
  * 32, screen 1 selected (0), both places 1, 1, 1, tracking 1, step 1, secret
  * 0, cursor 1, display 1, kind 0; LEDs 0, charset U, strings 1, repeat 1,
- * delay 32, interval 16, shift 0, arrows 0; patterns 0; waiting 0, held 0,
+ * delay 32, interval 16, shift 0, arrows 0; patterns 0; held 0, waiting 0,
  * count 0; texts 32; marks 0.
  */
 
@@ -561,8 +561,8 @@ PX8_HOLDS(offsetof(px8_settings, display) == 17);
 PX8_HOLDS(offsetof(px8_settings, kind) == 18);
 PX8_HOLDS(offsetof(px8_settings, keys) == 19);
 PX8_HOLDS(offsetof(px8_settings, patterns) == 40);
-PX8_HOLDS(offsetof(px8_settings, waiting) == 288);
-PX8_HOLDS(offsetof(px8_settings, held) == 300);
+PX8_HOLDS(offsetof(px8_settings, held) == 288);
+PX8_HOLDS(offsetof(px8_settings, waiting) == 289);
 PX8_HOLDS(offsetof(px8_settings, count) == 304);
 PX8_HOLDS(offsetof(px8_settings, texts) == 308);
 PX8_HOLDS(offsetof(px8_settings, marks) == 388);

@@ -36,7 +36,8 @@ pub struct Keys {
 // The settings. `selected` is 0 for screen 1 and 1 for screen 2, and picks the place. `cursor` is whether the cursor is on (1), `kind` its
 // type, `display` the key display as sent. `waiting` has in its first `held` bytes the unfinished sequence of a stream, the others 0; `count` is
 // the stream's byte count. `texts` has the ten key texts, 8 codes each. `marks` has 1 for each line that runs on: line l of screen k (0 or 1) at
-// 48k + l - 1.
+// 48k + l - 1. `held` stands between two arrays that most calls only hand on: a copy of both in one would have more than 256 bytes, which costs
+// memcpy half as much again.
 #[repr(C)]
 pub struct Settings {
     pub mode: u8,
@@ -55,8 +56,8 @@ pub struct Settings {
     pub kind: u8,
     pub keys: Keys,
     pub patterns: [u8; 248],
-    pub waiting: [u8; 12],
     pub held: u8,
+    pub waiting: [u8; 12],
     pub count: u32,
     pub texts: [u8; 80],
     pub marks: [u8; 96],

@@ -113,7 +113,7 @@ pub struct Keys {
 
 /// The settings. H is the window's height: 16 in mode 1, else 8; with the key
 /// line 14 in mode 1, else 7. They are sound when every field lies in the
-/// range given here. `waiting`, `held` and `count` are the stream's: no sequence
+/// range given here. `held`, `waiting` and `count` are the stream's: no sequence
 /// changes them, and a message leaves them. Only a key text changes `texts`.
 #[repr(C)]
 #[derive(Clone, Copy, Debug, PartialEq, Eq)]
@@ -152,12 +152,12 @@ pub struct Settings {
     pub keys: Keys,
     /// 31 patterns of 8 rows, for the codes 224 to 254 (224).
     pub patterns: [u8; PATTERNS],
+    /// How many bytes wait, 0 to 12, and at most `count`.
+    pub held: u8,
     /// The stream's bytes that wait: the first `held` are an unfinished
     /// sequence, led by 27 and shorter than its whole length; the others are
     /// 0. See [`Settings::waiting`].
     pub waiting: [u8; WAITING_MOST],
-    /// How many bytes wait, 0 to 12, and at most `count`.
-    pub held: u8,
     /// The stream's byte count, 0 to [`COUNT_MOST`].
     pub count: u32,
     /// Ten key texts of eight codes, which may be any bytes: that of key k

@@ -41,8 +41,8 @@ fn settings() {
     assert_eq!(offset_of!(Settings, kind), 18);
     assert_eq!(offset_of!(Settings, keys), 19);
     assert_eq!(offset_of!(Settings, patterns), 40);
-    assert_eq!(offset_of!(Settings, waiting), 288);
-    assert_eq!(offset_of!(Settings, held), 300);
+    assert_eq!(offset_of!(Settings, held), 288);
+    assert_eq!(offset_of!(Settings, waiting), 289);
     assert_eq!(offset_of!(Settings, count), 304);
     assert_eq!(offset_of!(Settings, texts), 308);
     assert_eq!(offset_of!(Settings, marks), 388);

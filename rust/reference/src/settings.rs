@@ -74,8 +74,8 @@ pub struct Settings {
     /// 31 patterns of 8 rows
     pub patterns: [u8; 248],
     /// the stream's unfinished bytes, `held` of them, and zeros behind
-    pub waiting: [u8; LONGEST_WAIT],
     pub held: u8,
+    pub waiting: [u8; LONGEST_WAIT],
     /// the stream's bytes so far, those that wait among them
     pub count: u32,
     /// the key texts, one behind the other
