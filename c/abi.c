@@ -1,8 +1,8 @@
 /*
  * Holds the header and the archive together: every field of the settings is
  * set by a sequence, a piece or a key text of its own and read back through the
- * header's structures, as are the answer's fields; streams, the key line and long
- * lines give what document 02 says of them, and refused calls leave every byte alone.
+ * header's structures, as are the answer's fields; streams, the key line, long lines
+ * and the late wrap give what document 02 says of them, and refused calls leave every byte alone.
  *
  *   gcc -std=c99 -o abi abi.c libboard.a && ./abi
  *
@@ -63,7 +63,12 @@ static int guards_stay(void)
 
 static px8_opened open_desk(void)
 {
-    return px8_opening(at.cells, PX8_CELLS, at.layer, PX8_LAYER, at.shown, PX8_SHOWN);
+    return px8_opening(1, at.cells, PX8_CELLS, at.layer, PX8_LAYER, at.shown, PX8_SHOWN);
+}
+
+static px8_opened open_late(void)
+{
+    return px8_opening(2, at.cells, PX8_CELLS, at.layer, PX8_LAYER, at.shown, PX8_SHOWN);
 }
 
 static px8_outcome send_message(px8_settings settings, const uint8_t *message, size_t length)
@@ -102,7 +107,7 @@ static void opening_settings(px8_settings s)
     check(s.boundary == 32 && s.selected == 0, "opening: boundary and selected");
     for (screen = 0; screen < 2; screen++)
         check(s.places[screen].line == 1 && s.places[screen].column == 1 &&
-                  s.places[screen].top == 1,
+                  s.places[screen].top == 1 && s.places[screen].waiting == 0,
               "opening: places");
     check(s.tracking == 1 && s.step == 1 && s.secret == 0, "opening: window and secret");
     check(s.cursor == 1 && s.display == 1 && s.kind == 0, "opening: cursor and display");
@@ -114,6 +119,7 @@ static void opening_settings(px8_settings s)
     check(all(s.waiting, PX8_WAITING_MOST, 0) && s.held == 0 && s.count == 0, "opening: stream");
     check(all(s.texts, PX8_TEXTS, PX8_BLANK), "opening: texts");
     check(all(s.marks, PX8_LINE_MARKS, 0), "opening: marks");
+    check(s.rule == 1, "opening: rule");
 }
 
 static void opening(void)
@@ -132,13 +138,13 @@ static void opening(void)
 
 /* ---- every field of the settings ---- */
 
-/* Before the padding all bytes count; behind it there are the count, the texts and
- * the marks. */
+/* Before the padding all bytes count; behind it there are the count, the texts, the
+ * marks and the rule. */
 static int same_settings(px8_settings one, px8_settings other)
 {
     return memcmp(&one, &other, offsetof(px8_settings, waiting) + PX8_WAITING_MOST) == 0 && one.count == other.count &&
            memcmp(one.texts, other.texts, PX8_TEXTS) == 0 &&
-           memcmp(one.marks, other.marks, PX8_LINE_MARKS) == 0;
+           memcmp(one.marks, other.marks, PX8_LINE_MARKS) == 0 && one.rule == other.rule;
 }
 
 /* Sends the bytes to a terminal just opened: the settings afterwards must be
@@ -597,6 +603,74 @@ static void long_lines(void)
     RUNS(5, "\33= /over\r\10\n", "\1\2\3\4\5");
 }
 
+/* ---- late wrap ---- */
+
+/* By rule 2 a line of 80, or a byte in the last cell of the screen; then the bytes. */
+static px8_settings late(int at_the_end, const char *bytes, size_t length)
+{
+    static const uint8_t last[] = {27, 61, 55, 111, 'A'};
+    static uint8_t full[PX8_WIDTH];
+    px8_outcome out;
+    memset(full, 'A', sizeof full);
+    fill_desk();
+    out = at_the_end ? send_message(open_late().settings, last, sizeof last)
+                     : send_message(open_late().settings, full, sizeof full);
+    return send_message(out.settings, (const uint8_t *)bytes, length).settings;
+}
+
+/* Line, column and flag of screen 1, its one line that runs on (0: none), and whether
+ * the cell of the line and column holds the code. */
+static void check_late(px8_settings s, int line, int column, int flag, int marked, int cell_line,
+                       int cell_column, int code, const char *what)
+{
+    uint8_t marks[PX8_LINE_MARKS] = {0};
+    if (marked)
+        marks[PX8_MARK_AT(0, marked)] = 1;
+    check(s.rule == 2 && s.places[0].line == line && s.places[0].column == column &&
+              s.places[0].waiting == flag && memcmp(s.marks, marks, sizeof marks) == 0 &&
+              at.cells[PX8_WIDTH * (cell_line - 1) + cell_column - 1] == code && guards_stay(),
+          what);
+}
+
+#define LATE(at_the_end, bytes) late(at_the_end, bytes, sizeof bytes - 1)
+
+static void late_wrap(void)
+{
+    px8_settings s, expected;
+    int screen;
+    check_late(LATE(0, ""), 1, 80, 1, 0, 1, 80, 'A', "late: waits");
+    check_late(LATE(0, "B"), 2, 2, 0, 1, 2, 1, 'B', "late: steps");
+    check_late(LATE(0, "\33%B"), 2, 2, 0, 1, 2, 1, 'B', "late: steps by 37");
+    check_late(LATE(0, "\rB"), 1, 2, 0, 0, 1, 1, 'B', "late: code 13");
+    check_late(LATE(0, "\10B"), 1, 80, 0, 0, 1, 79, 'B', "late: code 8");
+    check_late(LATE(0, "\nB"), 2, 80, 1, 0, 2, 80, 'B', "late: code 10");
+    check_late(LATE(0, "\14B"), 1, 2, 0, 0, 1, 1, 'B', "late: code 12");
+    check_late(LATE(0, "\33*B"), 1, 2, 0, 0, 1, 1, 'B', "late: 42");
+    check_late(LATE(0, "\33= oB"), 1, 80, 1, 0, 1, 80, 'B', "late: 61 onto the last column");
+    check_late(LATE(1, "\33T"), 24, 80, 1, 0, 24, 80, PX8_BLANK, "late: erased");
+    check_late(LATE(1, "\33TB"), 24, 2, 0, 23, 24, 1, 'B', "late: lifted late");
+    check_late(LATE(1, "\n"), 24, 80, 0, 0, 23, 80, 'A', "late: code 10 lifts");
+    check_late(LATE(0, "\33\321\1\33\321\0B"), 2, 2, 0, 1, 2, 1, 'B', "late: 209 and back");
+    s = LATE(0, "\33\320\2\10\1#AB");
+    check(s.rule == 2 && s.places[0].line == 2 && s.places[0].column == 1 && s.places[0].waiting == 1 &&
+              s.marks[0] == 1 && s.marks[1] == 0 && at.cells[0] == 'A' && at.cells[1] == 'B',
+          "late: one column");
+    for (screen = 0; screen < 2; screen++) {
+        const uint8_t bytes[] = {27, 209, (uint8_t)screen, 27, 61, 34, 111, 'A'};
+        fill_desk();
+        expected = open_late().settings;
+        s = send_message(expected, bytes, sizeof bytes).settings;
+        expected.selected = (uint8_t)screen;
+        expected.places[screen].line = 3;
+        expected.places[screen].column = 80;
+        expected.places[screen].waiting = 1;
+        check(same_settings(s, expected), "late: the flag of each screen");
+    }
+    expected = open_desk().settings;
+    expected.rule = 2;
+    check(same_settings(open_late().settings, expected), "late: the opening by rule 2");
+}
+
 static void printed(void)
 {
     static const uint8_t buffer[3] = {1, 2, 3};
@@ -622,21 +696,29 @@ static void check_refused(px8_outcome outcome, px8_settings given, uint8_t numbe
 
 static void refused_openings(void)
 {
+    const size_t wrong[] = {0, 3, 255, 256, 257, 258, (size_t)1 << 32 | 2, (size_t)-1};
     const px8_settings settings = open_desk().settings;
     px8_opened opened;
+    size_t n;
     fill_desk();
-    opened = px8_opening(at.cells, PX8_CELLS - 1, at.layer, PX8_LAYER, at.shown, PX8_SHOWN);
+    opened = px8_opening(2, at.cells, PX8_CELLS - 1, at.layer, PX8_LAYER, at.shown, PX8_SHOWN);
     check(opened.number == PX8_STORE_SIZE &&
               same_settings(opened.settings, settings) &&
               memcmp(&at, &copy, sizeof at) == 0,
           "opening refused: cells");
-    opened = px8_opening(at.cells, PX8_CELLS, at.layer, PX8_LAYER + 1, at.shown, PX8_SHOWN);
+    opened = px8_opening(1, at.cells, PX8_CELLS, at.layer, PX8_LAYER + 1, at.shown, PX8_SHOWN);
     check(opened.number == PX8_STORE_SIZE && memcmp(&at, &copy, sizeof at) == 0,
           "opening refused: layer");
-    opened = px8_opening(NULL, 0, NULL, 0, NULL, 0);
+    opened = px8_opening(3, NULL, 0, NULL, 0, NULL, 0);
     check(opened.number == PX8_STORE_SIZE &&
               same_settings(opened.settings, settings),
           "opening refused: null and 0");
+    for (n = 0; n < sizeof wrong / sizeof wrong[0]; n++) {
+        opened = px8_opening(wrong[n], at.cells, PX8_CELLS, at.layer, PX8_LAYER, at.shown, PX8_SHOWN);
+        check(opened.number == PX8_BAD_RULE && same_settings(opened.settings, settings) &&
+                  memcmp(&at, &copy, sizeof at) == 0,
+              "opening refused: rule");
+    }
 }
 
 static void refused_messages(void)
@@ -799,6 +881,28 @@ static void unsound_marks(void)
     check(close_stream(settings).answer.number == PX8_SERVED, "sound: the line before the last");
 }
 
+/* A flag by rule 1, before the last column, or of 2; a rule that is none. */
+static void unsound_flags(void)
+{
+    const struct { uint8_t rule, column, flag; } wrong[] = {
+        {1, 80, 1}, {2, 79, 1}, {2, 1, 1}, {2, 80, 2}, {0, 1, 0}, {3, 1, 0}, {3, 80, 1}};
+    px8_settings settings;
+    size_t n;
+    int screen;
+    for (n = 0; n < sizeof wrong / sizeof wrong[0]; n++)
+        for (screen = 0; screen < 2; screen++) {
+            settings = open_desk().settings;
+            settings.rule = wrong[n].rule;
+            settings.places[screen].column = wrong[n].column;
+            settings.places[screen].waiting = wrong[n].flag;
+            check_unsound(settings, "unsound: rule or flag");
+        }
+    settings = open_late().settings;
+    settings.places[1].column = 80;
+    settings.places[1].waiting = 1;
+    check(close_stream(settings).answer.number == PX8_SERVED, "sound: a flag in the last column");
+}
+
 /* Lengths of 0 with null pointers are served where any length is. */
 static void empty_buffers(void)
 {
@@ -929,6 +1033,7 @@ int main(void)
     key_line_in_modes();
     key_line_windows();
     long_lines();
+    late_wrap();
     layer();
     printed();
     refused_openings();
@@ -939,6 +1044,7 @@ int main(void)
     refused_key_texts();
     unsound_key_lines();
     unsound_marks();
+    unsound_flags();
     empty_buffers();
     compared();
     repeats();

@@ -132,7 +132,7 @@ static void send_message(bay *at, const char *title, message *sent)
 
 static int open_bay(bay *at)
 {
-    const px8_opened opened = px8_opening(at->cells, sizeof at->cells, at->layer,
+    const px8_opened opened = px8_opening(1, at->cells, sizeof at->cells, at->layer,
                                           sizeof at->layer, at->shown, sizeof at->shown);
     at->settings = opened.settings;
     return opened.number == PX8_SERVED;

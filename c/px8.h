@@ -95,8 +95,8 @@ extern "C" {
 /* ---- numbers ---- */
 
 /* The number of a call: 0, or why the whole call was refused. They are tried
- * in this order: 1, 2, 3, 16 by px8_message, 1, 2, 3, 15 by px8_piece, 1, 3 by
- * px8_closing, 3, 17 by px8_key_text; px8_opening knows only 0 and 1. */
+ * in this order: 1, 23 by px8_opening, 1, 2, 3, 16 by px8_message, 1, 2, 3, 15 by
+ * px8_piece, 1, 3 by px8_closing, 3, 17 by px8_key_text. */
 #define PX8_SERVED 0     /* the call was served */
 #define PX8_STORE_SIZE 1 /* cells, layer or shown screen are not of their size */
 #define PX8_TOO_LONG 2   /* the message or piece is longer than PX8_MESSAGE_MOST */
@@ -105,6 +105,8 @@ extern "C" {
 #define PX8_BYTES_WAIT 16 /* a message, even an empty one, while bytes of a stream wait */
 #define PX8_BAD_KEY_TEXT 17 /* the key is not 1 to PX8_KEYS, or the text not of
                              * PX8_KEY_TEXT bytes */
+
+#define PX8_BAD_RULE 23  /* the opening's rule is not 1 or 2 */
 
 /* px8_compare and px8_first_difference know 0 and 1 (a screen is not of its
  * size), and px8_compare, after 1: */
@@ -138,6 +140,8 @@ typedef struct px8_place {
     uint8_t line;   /* cursor line, 1 to the screen's lines */
     uint8_t column; /* cursor column, 1 to the screen's columns */
     uint8_t top;    /* the window's first line, 1 to lines - H + 1 */
+    uint8_t waiting; /* 1 the cursor waits in the last column (see "late wrap" below),
+                     * only there and only by rule 2; else 0 */
 } px8_place;
 
 /* The keyboard's settings. They are stored for the board to act on; of what the
@@ -168,9 +172,9 @@ typedef struct px8_keys {
  * caller that makes or alters settings can meet number 3.
  *
  * held, waiting and count are the stream's. No sequence changes them, and a
- * message leaves them. Only px8_key_text changes the texts. Between `waiting` and
- * `count` there are three padding bytes of no fixed value: compare settings field
- * by field. */
+ * message leaves them. Only px8_key_text changes the texts, only px8_opening the
+ * rule. Between `waiting` and `count` there is a padding byte of no fixed value, and
+ * there are three behind `rule`: compare settings field by field. */
 typedef struct px8_settings {
     uint8_t mode;        /* 0, 1 or 2 (ESC 208) */
     uint8_t lines1;      /* lines of screen 1, by the table (ESC 208) */
@@ -202,14 +206,16 @@ typedef struct px8_settings {
     uint8_t marks[PX8_LINE_MARKS]; /* 1 where a line runs on into the next (see "long
                           * lines" below), else 0; by PX8_MARK_AT. From a screen's last
                           * line on they are 0 */
+    uint8_t rule;        /* 1 or 2, as px8_opening was given it: when printing in the
+                          * last column goes to the next line (see "late wrap") */
 } px8_settings;
 
 /*
  * The opening settings: mode 0, 24 and 24 lines, 80 and 80 columns, boundary
- * 32, screen 1 selected (0), both places 1, 1, 1, tracking 1, step 1, secret
+ * 32, screen 1 selected (0), both places 1, 1, 1 without a flag, tracking 1, step 1, secret
  * 0, cursor 1, display 1, kind 0; LEDs 0, charset U, strings 1, repeat 1,
  * delay 32, interval 16, shift 0, arrows 0; patterns 0; held 0, waiting 0,
- * count 0; texts 32; marks 0.
+ * count 0; texts 32; marks 0; the rule as given.
  */
 
 /* ---- stores ----
@@ -230,7 +236,8 @@ typedef struct px8_settings {
  * And a stream, all its pieces together.
  *
  * Bytes 32 to 255 print at the cursor, which moves right, from the last column
- * to the next line; going below the last line lifts the screen by a line.
+ * to the next line (by rule 2 late); going below the last line lifts the screen by
+ * a line.
  * Codes: 8 one column back, 10 one line down, 13 to column 1, 12 as ESC 42;
  * other codes below 32 do nothing. ESC (27) begins a sequence. All act on the
  * selected screen, of R lines; numbers outside the ranges are refusal 11.
@@ -254,7 +261,8 @@ typedef struct px8_settings {
  *   ESC 198, 199        no operation, with 11 and 4 bytes that are not judged
  *   ESC 208 0 n1 n2     mode 0, ESC 208 1 n1 mode 1, ESC 208 2 n1 m p mode 2 with
  *                         boundary p: blanks all cells, no marks, places 1, 1, 1,
- *                         screen 1 selected, step 1, tracking on, no line runs on
+ *                         screen 1 selected, step 1, tracking on, no line runs on,
+ *                         no flag
  *   ESC 209 n           selects screen 1 (0) or 2 (1)
  *   ESC 210 x y p       marks row x, 1 to 8, column y, 1 to 80, with code p
  *   ESC 211 n           key display: 0 row 8 is the key line, 1 not
@@ -273,17 +281,27 @@ typedef struct px8_settings {
  * moves. While tracking is on, a window that misses the cursor's line after
  * printing, codes 8, 10, 13 or ESC 61 moves.
  *
- * Long lines. Printing in the last column marks the line that it leaves as one that
- * runs on, and nothing else does: no other code, no cell. A logical line is a line that
- * runs on, those after it that do, and the first that does not. ESC 84 blanks from the
- * cursor through the first line at or after its own that does not run on, and ends
- * these marks; ESC 89 those of the cursor's line and of all below. The mark of the line
- * above the cursor stays. A lifted screen carries its marks along, and so do 144 and
- * 145; after these the line above the region, its blank line and its last two lines (or
- * its only one) do not run on. ESC 42 and code 12 end the marks of the screen, 208 of
- * both; printing over a line, codes 8, 10, 13, 61 and 209 leave them. A screen's last
- * line never runs on. (The marks of the layer, which "marks" are elsewhere, have
- * nothing to do with them.)
+ * Late wrap. By rule 1 a byte printed in the last column goes to the next line at
+ * once. By rule 2 the cursor waits there, and its screen's flag says so: the next
+ * printed character (ESC 37's too) first goes to the next line, lifts the screen there
+ * if need be and marks the line left. Codes 8, 10, 12, 13 and an accepted 42 or 61
+ * clear the flag, 61 also where it comes to the last column again; 8 then goes one
+ * column back and 10 down in the last column. An accepted 208 clears both flags and
+ * keeps the rule. Everything else keeps it: 84 and 89, which blank the byte just
+ * stored; 144, 145, windows that move, 209, refused sequences.
+ *
+ * Long lines. By rule 1 printing in the last column marks the line that it leaves as
+ * one that runs on, by rule 2 the step that comes late; nothing else does: no code,
+ * no cell. A logical line is a line that runs on, those after it that do, and the
+ * first that does not. ESC 84 blanks from the cursor through the first line at or
+ * after its own that does not run on, and ends these marks; ESC 89 those of the
+ * cursor's line and of all below. The mark of the line above the cursor stays. A
+ * lifted screen carries its marks along, and so do 144 and 145; after these the line
+ * above the region, its blank line and its last two lines (or its only one) do not
+ * run on. ESC 42 and code 12 end the marks of the screen, 208 of both; printing over
+ * a line, codes 8, 10, 13, 61 and 209 leave them. A screen's last line never runs
+ * on. (The marks of the layer, which "marks" are elsewhere, have nothing to do with
+ * them.)
  *
  * The key line. With display 0 the screens have rows 1 to 7 alone: a window is 7
  * lines high, in mode 1 14, whose right half begins seven lines after the left. In
@@ -340,7 +358,7 @@ typedef struct px8_outcome {
 
 typedef struct px8_opened {
     px8_settings settings;
-    uint8_t number; /* PX8_SERVED or PX8_STORE_SIZE */
+    uint8_t number; /* PX8_SERVED, PX8_STORE_SIZE or PX8_BAD_RULE */
 } px8_opened;
 
 /* A place where two shown screens differ. */
@@ -371,14 +389,17 @@ typedef struct px8_repeats {
 /* ---- calls ---- */
 
 /*
- * Opens a terminal: blanks (32) all cells and the shown screen, zeroes the
- * layer, and returns the opening settings with number 0.
+ * Opens a terminal by rule 1 or 2: blanks (32) all cells and the shown screen,
+ * zeroes the layer, and returns the opening settings with number 0. By rule 1 a
+ * byte in the last column goes to the next line at once, by rule 2 late (see "late
+ * wrap" above); the settings carry the rule from then on.
  *
- * Refused with 1 unless the lengths are PX8_CELLS, PX8_LAYER and PX8_SHOWN.
- * A refused opening alters no byte; the settings that it returns are the
- * opening settings all the same.
+ * Refused with 1 unless the lengths are PX8_CELLS, PX8_LAYER and PX8_SHOWN, else
+ * with 23 for any other rule. A refused opening alters no byte; the settings that
+ * it returns are the opening settings by rule 1 all the same.
  */
-px8_opened px8_opening(uint8_t *cells, size_t cells_length,
+px8_opened px8_opening(size_t rule,
+                       uint8_t *cells, size_t cells_length,
                        uint8_t *layer, size_t layer_length,
                        uint8_t *shown, size_t shown_length);
 
@@ -529,10 +550,11 @@ px8_repeats px8_key_repeats(px8_settings settings,
 #endif
 
 #ifdef PX8_HOLDS
-PX8_HOLDS(sizeof(px8_place) == 3);
+PX8_HOLDS(sizeof(px8_place) == 4);
 PX8_HOLDS(offsetof(px8_place, line) == 0);
 PX8_HOLDS(offsetof(px8_place, column) == 1);
 PX8_HOLDS(offsetof(px8_place, top) == 2);
+PX8_HOLDS(offsetof(px8_place, waiting) == 3);
 
 PX8_HOLDS(sizeof(px8_keys) == 21);
 PX8_HOLDS(offsetof(px8_keys, leds) == 0);
@@ -544,7 +566,7 @@ PX8_HOLDS(offsetof(px8_keys, interval) == 7);
 PX8_HOLDS(offsetof(px8_keys, shift) == 8);
 PX8_HOLDS(offsetof(px8_keys, arrows) == 9);
 
-PX8_HOLDS(sizeof(px8_settings) == 484);
+PX8_HOLDS(sizeof(px8_settings) == 488);
 PX8_HOLDS(offsetof(px8_settings, mode) == 0);
 PX8_HOLDS(offsetof(px8_settings, lines1) == 1);
 PX8_HOLDS(offsetof(px8_settings, lines2) == 2);
@@ -553,19 +575,20 @@ PX8_HOLDS(offsetof(px8_settings, columns2) == 4);
 PX8_HOLDS(offsetof(px8_settings, boundary) == 5);
 PX8_HOLDS(offsetof(px8_settings, selected) == 6);
 PX8_HOLDS(offsetof(px8_settings, places) == 7);
-PX8_HOLDS(offsetof(px8_settings, tracking) == 13);
-PX8_HOLDS(offsetof(px8_settings, step) == 14);
-PX8_HOLDS(offsetof(px8_settings, secret) == 15);
-PX8_HOLDS(offsetof(px8_settings, cursor) == 16);
-PX8_HOLDS(offsetof(px8_settings, display) == 17);
-PX8_HOLDS(offsetof(px8_settings, kind) == 18);
-PX8_HOLDS(offsetof(px8_settings, keys) == 19);
-PX8_HOLDS(offsetof(px8_settings, patterns) == 40);
-PX8_HOLDS(offsetof(px8_settings, held) == 288);
-PX8_HOLDS(offsetof(px8_settings, waiting) == 289);
+PX8_HOLDS(offsetof(px8_settings, tracking) == 15);
+PX8_HOLDS(offsetof(px8_settings, step) == 16);
+PX8_HOLDS(offsetof(px8_settings, secret) == 17);
+PX8_HOLDS(offsetof(px8_settings, cursor) == 18);
+PX8_HOLDS(offsetof(px8_settings, display) == 19);
+PX8_HOLDS(offsetof(px8_settings, kind) == 20);
+PX8_HOLDS(offsetof(px8_settings, keys) == 21);
+PX8_HOLDS(offsetof(px8_settings, patterns) == 42);
+PX8_HOLDS(offsetof(px8_settings, held) == 290);
+PX8_HOLDS(offsetof(px8_settings, waiting) == 291);
 PX8_HOLDS(offsetof(px8_settings, count) == 304);
 PX8_HOLDS(offsetof(px8_settings, texts) == 308);
 PX8_HOLDS(offsetof(px8_settings, marks) == 388);
+PX8_HOLDS(offsetof(px8_settings, rule) == 484);
 
 PX8_HOLDS(sizeof(size_t) == 8);
 PX8_HOLDS(sizeof(px8_answer) == 32);
@@ -597,9 +620,9 @@ PX8_HOLDS(offsetof(px8_first, number) == 0);
 PX8_HOLDS(offsetof(px8_first, found) == 1);
 PX8_HOLDS(offsetof(px8_first, difference) == 2);
 
-PX8_HOLDS(sizeof(px8_opened) == 488);
+PX8_HOLDS(sizeof(px8_opened) == 492);
 PX8_HOLDS(offsetof(px8_opened, settings) == 0);
-PX8_HOLDS(offsetof(px8_opened, number) == 484);
+PX8_HOLDS(offsetof(px8_opened, number) == 488);
 
 PX8_HOLDS(sizeof(px8_repeats) == 16);
 PX8_HOLDS(offsetof(px8_repeats, number) == 0);

@@ -127,7 +127,7 @@ int main(int words, char **word)
     static bay here;
     static total line;
     const long most = words > 1 ? atol(word[1]) : PART;
-    const px8_opened opened = px8_opening(here.cells, sizeof here.cells, here.layer,
+    const px8_opened opened = px8_opening(1, here.cells, sizeof here.cells, here.layer,
                                           sizeof here.layer, here.shown, sizeof here.shown);
     here.settings = opened.settings;
     if (most < 1 || most > PART || opened.number != PX8_SERVED)

@@ -21,7 +21,7 @@ static px8_settings settings;
 static void *nothing(void *unused) { return unused; }
 
 static void *opening(void *unused) {
-    settings = px8_opening(cells, sizeof cells, layer, sizeof layer, shown, sizeof shown).settings;
+    settings = px8_opening(2, cells, sizeof cells, layer, sizeof layer, shown, sizeof shown).settings;
     return unused;
 }
 

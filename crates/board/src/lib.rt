@@ -15,10 +15,15 @@ use model::Settings;
 use traces::Repeats;
 
 #[no_mangle]
-pub extern "C" fn px8_opening(cells: &mut [u8], layer: &mut [u8], shown: &mut [u8]) -> Opened
-    ensures { λ r. ⌜ OpeningPromised (now (cells .entry)) (now (layer .entry)) (now (shown .entry)) (r .settings) (r .number) (now (cells .exit)) (now (layer .exit)) (now (shown .exit)) ⌝ }
+pub extern "C" fn px8_opening(
+    rule: usize,
+    cells: &mut [u8],
+    layer: &mut [u8],
+    shown: &mut [u8],
+) -> Opened
+    ensures { λ r. ⌜ OpeningPromised rule (now (cells .entry)) (now (layer .entry)) (now (shown .entry)) (r .settings) (r .number) (now (cells .exit)) (now (layer .exit)) (now (shown .exit)) ⌝ }
 {
-    terminal::opening(cells, layer, shown)
+    terminal::opening(rule, cells, layer, shown)
 }
 
 #[no_mangle]

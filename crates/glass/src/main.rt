@@ -62,7 +62,7 @@ fn next_part(number: u8, part: &mut [u8]) -> usize
 
 // A blank glass.
 fn open(cells: &mut [u8], layer: &mut [u8], shown: &mut [u8; SHOWN]) -> Stream {
-    let opened = terminal::opening(cells, layer, shown);
+    let opened = terminal::opening(1, cells, layer, shown);
     let settings = opened.settings;
     let total = totals::none();
     report::say(b"\x1b[H\x1b[2J");

@@ -3,7 +3,7 @@ use mathlib.Core.Path.{_∙_, _≡_, ap, refl, subst, sym}
 use Prim.Native.Nat.{_%_, _*_, _+_, _-_, _/_, _<_, _≤_, suc, zero, ℕ}
 use native.Mathlib.Nat.{zero-add}
 use native.Mathlib.Omega.{arith}
-use mathlib.Core.Bool.{Bool, _&&_, cond, false, true}
+use mathlib.Core.Bool.{Bool, _&&_, _||_, cond, false, true}
 use mathlib.Core.List.{List, [], _∷_}
 use lib.ListN.{getD, length, length-replicate, replicate}
 use lib.Dec.{eqb, leb}
@@ -11,8 +11,8 @@ use borrow.Author.Tests.{eq-eqb, eqb-true, leb-true}
 use Rattle.model.specs.declared.Answer.{Answer}
 use Rattle.model.specs.declared.Item.{Item}
 use Rattle.model.specs.declared.Item.the-variants.{Control, Printed, Refused, Sequence}
-use Rattle.model.specs.State.{State, opened, openedSettings}
-use Rattle.model.specs.Checks.{inRanges?, member, passes}
+use Rattle.model.specs.State.{State, opened, openedKeys, openedSettings}
+use Rattle.model.specs.Checks.{Passes, inRanges?, member, passes, range}
 use Rattle.model.specs.Screens.{base, cellAt, columnsOf, height, lineAt, linesOf, placeOf, textRows}
 use Rattle.model.specs.Line.{heldIn, limit, padded}
 use Rattle.model.specs.Marks.{markOf}
@@ -21,7 +21,7 @@ use Rattle.model.specs.Picture.{covered, painting, picture, pictureAt, t
 use Rattle.model.specs.Reading.{Read, remaining}
 use Rattle.model.specs.Items.{Event, applyAll, blankAnswer, copies, counted, countedAll, eventsOf}
 use Rattle.model.specs.Calls.{Asked, Call, Promised, Reason, Request, Terminal, accepted, allFree, answerOf, closing, countable, eventsBy, eventsIn, firstOf, itemBytes, besideItems, keyText, keyable, message, noneWaits, numberOf, ownReasons, paints?, piece, printedBy, readsBy, readsIn, reason, reasons, request, requestOf, served, short, shownAfter, sized, soundIn, startOf, takenBy, takenIn, terminal}
-use Rattle.model.specs.Opening.{openedBy, openedTerminal, openingNumber, unopened}
+use Rattle.model.specs.Opening.{openedBy, openedTerminal, openingNumber, ruled, unopened}
 use Rattle.model.specs.Claims.{Shown}
 use Rattle.model.specs.Demand.{Opening, Resumed}
 use Rattle.model.proofs.Tests.{and-both, and-left, and-right, cond-at, differ, elim-at, ranges-true}
@@ -227,53 +227,74 @@ number-good t q g e = go (q .asked)
     go closing = λ i. firstOf (reason 1 (sized-good t g e i) ∷ reason 3 (sound-good t g i) ∷ [])
     go (keyText k x) = λ i. firstOf (reason 3 (sound-good t g i) ∷ reason 17 (keyable k x) ∷ [])
 
--- what an accepted opening leaves: blank, and the picture is blank
-opened-blank : replicate 640 32 ≡ painting opened
-unfolding painting picture pictureAt covered under textAt windowAt textRows cellAt lineAt base columnsOf placeOf
-opened-blank = refl
-
-shown-opened : Shown openedTerminal
-shown-opened = subst Shown (λ i. record { state = opened; shown = sym opened-blank i }) (shown-painting opened)
-
-resumed-opened : Resumed openedTerminal
-unfolding linesOf columnsOf height textRows placeOf inRanges? passes member keyRanges plainRanges arrayRanges markOf
-resumed-opened = record {
-  sound = record {
-    arrays = ranges-true (arrayRanges openedSettings) refl;
-    shaped = mode0 refl refl refl (omega arith) (omega arith) (omega arith);
-    selected = omega arith;
-    inside = both;
-    step-low = omega arith;
-    step-high = omega arith;
-    plain = ranges-true (plainRanges openedSettings) refl;
-    line = sound-quiet;
-    marked = λ k. none-marked (linesOf openedSettings k) k;
-  };
-  cells-are = length-replicate {A = ℕ} 3840 32;
-  layer-is = length-replicate {A = ℕ} 1280 0;
-  shown-is = length-replicate {A = ℕ} 640 32;
-}
+-- what an accepted opening leaves, with either rule: blank, and the picture is blank
+ruled-range : (rule : ℕ) → ruled rule ≡ true → Passes (range 1 rule 2)
+unfolding ruled
+ruled-range rule = go (eqb rule 1) refl (eqb rule 2) refl
   where
-    both : (k : ℕ) → k < 2 → Inside openedSettings k
-    both zero l = omega arith
-    both (suc zero) l = omega arith
-    both (suc (suc k)) l = absurd (omega arith)
+    go : (x : Bool) → eqb rule 1 ≡ x → (y : Bool) → eqb rule 2 ≡ y → (x || y) ≡ true → Passes (range 1 rule 2)
+    go true e y f h = omega (arith, eqb-true rule 1 e)
+    go false e true f h = omega (arith, eqb-true rule 2 f)
+    go false e false f h = absurd (differ (sym h))
+
+module _ (rule : ℕ) where
+  opened-blank : replicate 640 32 ≡ painting (opened rule)
+  unfolding painting picture pictureAt covered under textAt windowAt textRows cellAt lineAt base columnsOf placeOf
+  opened-blank = refl
+
+  shown-opened : Shown (openedTerminal rule)
+  shown-opened = subst Shown (λ i. record { state = opened rule; shown = sym opened-blank i }) (shown-painting (opened rule))
+
+  resumed-opened : ruled rule ≡ true → Resumed (openedTerminal rule)
+  unfolding linesOf columnsOf height textRows placeOf inRanges? passes member keyRanges plainRanges arrayRanges markOf
+  resumed-opened e = record {
+    sound = record {
+      arrays = ranges-true (arrayRanges (openedSettings rule)) refl;
+      shaped = mode0 refl refl refl (omega arith) (omega arith) (omega arith);
+      selected = omega arith;
+      inside = both;
+      step-low = omega arith;
+      step-high = omega arith;
+      plain = (omega arith, (omega arith, (omega arith, (omega arith, (ruled-range rule e, ranges-true (keyRanges 0 openedKeys) refl)))));
+      line = sound-quiet;
+      marked = λ k. none-marked (linesOf (openedSettings rule) k) k;
+    };
+    cells-are = length-replicate {A = ℕ} 3840 32;
+    layer-is = length-replicate {A = ℕ} 1280 0;
+    shown-is = length-replicate {A = ℕ} 640 32;
+  }
+    where
+      both : (k : ℕ) → k < 2 → Inside (openedSettings rule) k
+      both zero l = omega arith
+      both (suc zero) l = omega arith
+      both (suc (suc k)) l = absurd (omega arith)
 
 module _ (t : Terminal) (o : Opening t) where
-  -- an opening that keeps its promise and returns 0 leaves the opened terminal
-  opening-leaves : t ≡ openedTerminal
-  unfolding openedBy openingNumber
-  opening-leaves = (λ i. terminal (o .promised .settings-are i) (o .promised .cells-are i) (o .promised .layer-is i) (o .promised .shown-is i)) ∙ go (sized given) (o .promised .number-is)
-    where
-      given : Terminal
-      given = unopened (o .cells) (o .layer) (o .shown)
+  given : Terminal
+  given = unopened (o .cells) (o .layer) (o .shown)
 
-      go : (b : Bool) → _≡_ {A = ℕ} 0 (cond b 0 1) → let u = cond b openedTerminal given in terminal openedSettings (u .state .cells) (u .state .layer) (u .shown) ≡ openedTerminal
-      go true e = refl
-      go false e = absurd (omega arith)
+  -- an opening that keeps its promise and returns 0 leaves the opened terminal, its rule 1 or 2
+  opening-leaves : t ≡ openedTerminal (o .rule)
+  unfolding openedBy openingNumber given
+  opening-leaves = (λ i. terminal (o .promised .settings-are i) (o .promised .cells-are i) (o .promised .layer-is i) (o .promised .shown-is i)) ∙ go (sized given) (ruled (o .rule)) (o .promised .number-is)
+    where
+      go : (b c : Bool) → _≡_ {A = ℕ} 0 (cond b (cond c 0 23) 1)
+          → let u = cond (b && c) (openedTerminal (o .rule)) given in terminal (u .state .settings) (u .state .cells) (u .state .layer) (u .shown) ≡ openedTerminal (o .rule)
+      go true true e = refl
+      go true false e = absurd (omega arith)
+      go false c e = absurd (omega arith)
+
+  opening-ruled : ruled (o .rule) ≡ true
+  unfolding openingNumber given
+  opening-ruled = go (sized given) (ruled (o .rule)) (o .promised .number-is)
+    where
+      go : (b c : Bool) → _≡_ {A = ℕ} 0 (cond b (cond c 0 23) 1) → c ≡ true
+      go true true e = refl
+      go true false e = absurd (omega arith)
+      go false c e = absurd (omega arith)
 
   pub opening-shown : Shown t
-  opening-shown = subst Shown (sym opening-leaves) shown-opened
+  opening-shown = subst Shown (sym opening-leaves) (shown-opened (o .rule))
 
   pub opening-resumed : Resumed t
-  opening-resumed = subst Resumed (sym opening-leaves) resumed-opened
+  opening-resumed = subst Resumed (sym opening-leaves) (resumed-opened (o .rule) opening-ruled)

@@ -220,6 +220,7 @@ unchanged {k} {a} {b} s = record {
   cells = same-cell;
   cursor-line = s .same-line;
   cursor-column = s .same-column;
+  waiting = s .same-waiting;
   marks = same-mark;
 }
   where

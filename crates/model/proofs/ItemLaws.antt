@@ -77,7 +77,7 @@ sound-mode s m l1 l2 c1 c2 b h z = record {
 
 keys : {a : State} → Good a → InRanges (keyRanges (a .settings .kind) (a .settings .keys))
 unfolding plainRanges
-keys g = g .sound .plain .1 .1 .1 .1
+keys g = g .sound .plain .1 .1 .1 .1 .1
 
 -- settings under another key display: both tops and the step are held
 sound-display : (n : ℕ) (s : Settings) → Sound s → Passes (range 0 n 1) → Sound (displaying n s)
@@ -113,8 +113,8 @@ obeyed-display n a g e = cond-at (λ (b : State). Obeyed a b false true) (eqb n 
     })
   where
     all : (k : ℕ) → k < 2 → Spared k a (emptied (withSettings (displaying n (a .settings)) a))
-    all zero l = record { same-base = refl; same-lines = refl; same-columns = refl; same-line = refl; same-column = refl; same-cells = refl; same-marks = refl }
-    all (suc zero) l = record { same-base = refl; same-lines = refl; same-columns = refl; same-line = refl; same-column = refl; same-cells = refl; same-marks = refl }
+    all zero l = record { same-base = refl; same-lines = refl; same-columns = refl; same-line = refl; same-column = refl; same-waiting = refl; same-cells = refl; same-marks = refl }
+    all (suc zero) l = record { same-base = refl; same-lines = refl; same-columns = refl; same-line = refl; same-column = refl; same-waiting = refl; same-cells = refl; same-marks = refl }
     all (suc (suc k)) l = absurd (omega arith)
 
 -- one of three flags set

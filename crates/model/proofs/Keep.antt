@@ -106,10 +106,10 @@ pub same-trans : {k : ℕ} {a b c : State} → SameScreen k a b → SameScreen k
 same-trans p q = record { same-base = cc; same-lines = cc; same-columns = cc; same-height = q .same-height ∙ p .same-height; same-place = cc; same-cells = q .same-cells ∙ p .same-cells; same-marks = q .same-marks ∙ p .same-marks }
 
 pub spared-refl : (k : ℕ) (a : State) → Spared k a a
-spared-refl k a = record { same-base = refl; same-lines = refl; same-columns = refl; same-line = refl; same-column = refl; same-cells = refl; same-marks = refl }
+spared-refl k a = record { same-base = refl; same-lines = refl; same-columns = refl; same-line = refl; same-column = refl; same-waiting = refl; same-cells = refl; same-marks = refl }
 
 pub spared-trans : {k : ℕ} {a b c : State} → Spared k a b → Spared k b c → Spared k a c
-spared-trans p q = record { same-base = cc; same-lines = cc; same-columns = cc; same-line = q .same-line ∙ p .same-line; same-column = q .same-column ∙ p .same-column; same-cells = q .same-cells ∙ p .same-cells; same-marks = q .same-marks ∙ p .same-marks }
+spared-trans p q = record { same-base = cc; same-lines = cc; same-columns = cc; same-line = q .same-line ∙ p .same-line; same-column = q .same-column ∙ p .same-column; same-waiting = q .same-waiting ∙ p .same-waiting; same-cells = q .same-cells ∙ p .same-cells; same-marks = q .same-marks ∙ p .same-marks }
 
 -- a screen that is the same is the same but for its window
 pub spared : {k : ℕ} {a b : State} → SameScreen k a b → Spared k a b
@@ -119,6 +119,7 @@ spared s = record {
   same-columns = s .same-columns;
   same-line = ap (λ (p : Place). p .line) (s .same-place);
   same-column = ap (λ (p : Place). p .column) (s .same-place);
+  same-waiting = ap (λ (p : Place). p .waiting) (s .same-place);
   same-cells = s .same-cells;
   same-marks = s .same-marks;
 }
@@ -145,7 +146,7 @@ module _ (a : State) (g : Good a) where
   unfolding placed placeOf
   place-other p k n = getD-set-other (a .settings .places) (a .settings .selected) k p nowhere n
 
-  pub kept-placed : (p : Place) → Fits (linesHere a) (columnsHere a) (height (a .settings)) p → Kept a (placed p a)
+  pub kept-placed : (p : Place) → Fits (a .settings .rule) (linesHere a) (columnsHere a) (height (a .settings)) p → Kept a (placed p a)
   unfolding placed plainRanges arrayRanges linesOf columnsOf height textRows base size markOf
   kept-placed p f = record {
     good = record {
@@ -170,8 +171,8 @@ module _ (a : State) (g : Good a) where
   }
     where
       fits : (k : ℕ) → k < 2 → Dec (k ≡ a .settings .selected) → Inside (placed p a .settings) k
-      fits k l (yes e) = rw e (subst (Fits (linesHere a) (columnsHere a) (height (a .settings))) (sym (place-same p)) f)
-      fits k l (no n) = subst (Fits (linesOf (a .settings) k) (columnsOf (a .settings) k) (height (a .settings))) (sym (place-other p k n)) (g .sound .inside k l)
+      fits k l (yes e) = rw e (subst (Fits (a .settings .rule) (linesHere a) (columnsHere a) (height (a .settings))) (sym (place-same p)) f)
+      fits k l (no n) = subst (Fits (a .settings .rule) (linesOf (a .settings) k) (columnsOf (a .settings) k) (height (a .settings))) (sym (place-other p k n)) (g .sound .inside k l)
 
   -- a layer of the right size
   pub kept-layer : (xs : List ℕ) → length xs ≡ 1280 → Kept a (withLayer xs a)

@@ -24,6 +24,8 @@ pub mod Promises
 pub mod Message
 pub mod Lines
 pub mod Logical
+pub mod Waiting
+pub mod Carried
 pub mod Places
 pub mod ShownPlace
 pub mod KeyLine

@@ -9,14 +9,14 @@ use Rattle.model.specs.declared.Item.{Item}
 use Rattle.model.specs.declared.Item.the-variants.{Control, Printed, Refused, Sequence}
 use Rattle.model.specs.declared.Sequence.{Sequence as Seq}
 use Rattle.model.specs.declared.Sequence.the-variants.{Arrows1, Arrows2, Arrows3, CapsOff, CapsOn, Charset, Clear, Copy, CursorKind, CursorOff, CursorOn, Display, DrawDot, DrawLine, EraseLine, EraseRest, InsOff, InsOn, LinesDown, LinesUp, Mark, Mode0, Mode1, Mode2, Nothing, NumOff, NumOn, Pattern, PrintCode, Put, Repeat, RepeatDelay, RepeatInterval, SecretOff, SecretOn, Select, Shift, Step, StringsOff, StringsOn, Tracking, WindowBottom, WindowCursor, WindowDown, WindowTop, WindowUp}
-use Rattle.model.specs.State.{State, putAt, topAt}
+use Rattle.model.specs.State.{State, putAt, topAt, waitAt}
 use Rattle.model.specs.Screens.{base, cellAt, columnsHere, columnsOf, height, here, lineAt, linesHere, linesOf, placeOf, textRows}
 use Rattle.model.specs.Marks.{markOf}
 use Rattle.model.specs.Picture.{copied, copiedRows, covered, halves, picture, pictureAt, sides, textAt, under, windowAt}
 use Rattle.model.specs.Sequences.{codeOf}
 use Rattle.model.specs.Reading.{Read, byteOf}
 use Rattle.model.specs.Judging.{limitsOf}
-use Rattle.model.specs.Rules.{applyItem, blankFrom, centred, cleared, control, displaying, down, emptied, erased, flagged, held, keyLine, lifted, missed, modeSet, nearest, obeyed, onLines, onward, placed, printed, remarked, right, runsOn, shifted, shownAt, stored, toColumn, topped, tracked, trackedFar, withCells, withKeys, withKindPatterns, withLayer, withSettings}
+use Rattle.model.specs.Rules.{applyItem, awaited, blankFrom, centred, cleared, control, displaying, down, emptied, erased, flagged, held, keyLine, lifted, missed, modeSet, nearest, obeyed, onLines, onward, placed, printed, remarked, right, runsOn, shifted, shownAt, stored, toColumn, topped, tracked, trackedFar, withCells, withKeys, withKindPatterns, withLayer, withSettings}
 use Rattle.model.specs.Items.{applyAll, copies, copyOf, eventsOf, happened, lined, obeyedBy, printerBytes, read, readsOf}
 
 module _ (w : List ℕ) (n : ℕ) where
@@ -58,11 +58,25 @@ module _ (w : List ℕ) (n : ℕ) where
   right-lined st =
       let b : Bool = ltb (here st .column) (columnsHere st) in
       let to : State = toColumn (here st .column + 1) st in
-      ap (λ (x : State). cond b (lined w n to) x) (onward-lined st) ∙ cond-lined b to (onward st)
+      let late : Bool = eqb (st .settings .rule) 2 in
+      let wait : State = placed (waitAt (here st)) st in
+      ap (λ (x : State). cond b (lined w n to) (cond late (lined w n wait) x)) (onward-lined st)
+      ∙ ap (λ (x : State). cond b (lined w n to) x) (cond-lined late wait (onward st)) ∙ cond-lined b to (cond late wait (onward st))
+
+  awaited-lined : (st : State) → awaited (lined w n st) ≡ lined w n (awaited st)
+  unfolding awaited lined withSettings placeOf
+  awaited-lined st = ap (λ (x : State). cond (eqb (here st .waiting) 1) x (lined w n st)) (onward-lined st) ∙ cond-lined (eqb (here st .waiting) 1) (onward st) st
+
+  stored-lined : (c : ℕ) (st : State) → stored c (lined w n st) ≡ lined w n (stored c st)
+  unfolding stored shownAt lined withSettings placeOf textRows cellAt lineAt base columnsOf
+  stored-lined c st = refl
 
   printed-lined : (c : ℕ) (st : State) → printed c (lined w n st) ≡ lined w n (printed c st)
-  unfolding printed stored shownAt lined withSettings placeOf textRows cellAt lineAt base columnsOf
-  printed-lined c st = ap tracked (right-lined (stored c st)) ∙ tracked-lined (right (stored c st))
+  unfolding printed
+  printed-lined c st =
+      let x : State = awaited st in
+      ap (λ (y : State). tracked (right (stored c y))) (awaited-lined st) ∙ ap (λ (y : State). tracked (right y)) (stored-lined c x)
+      ∙ ap tracked (right-lined (stored c x)) ∙ tracked-lined (right (stored c x))
 
   control-lined : (c : ℕ) (st : State) → control c (lined w n st) ≡ lined w n (control c st)
   unfolding control toColumn cleared remarked onLines emptied withLayer withCells placed lined withSettings placeOf linesOf columnsOf base markOf

@@ -11,7 +11,7 @@ use borrow.Author.Tests.{eqb-true, le-ltb, leb-false, lt-ltb, ltb-true}
 use Rattle.model.specs.declared.Place.{Place}
 use Rattle.model.specs.declared.Sequence.the-variants.{EraseLine}
 use Rattle.model.specs.State.{State, putAt}
-use Rattle.model.specs.Screens.{columnsHere, here, linesHere, linesOf, placeOf}
+use Rattle.model.specs.Screens.{columnsHere, here, linesHere, linesOf}
 use Rattle.model.specs.Marks.{endUnmarked, markOf, marksUp, runningOn, unmarkedFrom}
 use Rattle.model.specs.Sound.{Good}
 use Rattle.model.specs.Rules.{blankFrom, down, emptied, erased, lifted, marksHere, obeyed, onLines, onward, placed, remarked, runsOn, shifted, toColumn, withCells, withLayer, withSettings}
@@ -19,7 +19,7 @@ use Rattle.model.proofs.Tests.{and-both, cond-at, differ}
 use Rattle.model.proofs.MarkLaws.{end-own, last-unmarked}
 use Rattle.model.proofs.Keep.{Kept, place-same}
 use Rattle.model.proofs.Marking.{mark-here}
-use Rattle.model.proofs.Steps.{columns-some, fits, kept-down, kept-toColumn, lines-here, sound-marks}
+use Rattle.model.proofs.Steps.{columns-some, fits, kept-down, kept-lifted, kept-toColumn, lines-here, sound-marks}
 
 -- one of three tests
 one-of : {P : Type 0} (x y z : Bool) → (x ≡ true → P) → (y ≡ true → P) → (z ≡ true → P) → (x || y || z) ≡ true → P
@@ -76,18 +76,25 @@ module _ (a : State) (g : Good a) where
   unfolding runsOn remarked withSettings
   runs-marks l p q = mark-here (runningOn (here a .line - 1)) a g l p q
 
+-- a lift, the cursor put anew where it stands
+abbrev liftedAt : State → State
+liftedAt b = placed (putAt (here b .line) (here b .column) (here b)) (lifted b)
+
 -- a step down above the last line, and on it
 down-in : (b : State) → here b .line < linesHere b → down b ≡ placed (putAt (here b .line + 1) (here b .column) (here b)) b
 unfolding down
-down-in b h = ap (λ (t : Bool). cond t (placed (putAt (here b .line + 1) (here b .column) (here b)) b) (lifted b)) (lt-ltb (here b .line) (linesHere b) h)
+down-in b h = ap (λ (t : Bool). cond t (placed (putAt (here b .line + 1) (here b .column) (here b)) b) (liftedAt b)) (lt-ltb (here b .line) (linesHere b) h)
 
-down-last : (b : State) → linesHere b ≤ here b .line → down b ≡ lifted b
+down-last : (b : State) → linesHere b ≤ here b .line → down b ≡ liftedAt b
 unfolding down
-down-last b h = ap (λ (t : Bool). cond t (placed (putAt (here b .line + 1) (here b .column) (here b)) b) (lifted b)) (le-ltb (here b .line) (linesHere b) h)
+down-last b h = ap (λ (t : Bool). cond t (placed (putAt (here b .line + 1) (here b .column) (here b)) b) (liftedAt b)) (le-ltb (here b .line) (linesHere b) h)
 
-lifted-place : (b : State) → here (lifted b) ≡ here b
-unfolding lifted onLines emptied withLayer withCells remarked withSettings placeOf
-lifted-place b = refl
+lifted-line : (b : State) → Good b → here (liftedAt b) .line ≡ here b .line
+lifted-line b g = ap (λ (p : Place). p .line) (place-same (lifted b) (kept-lifted b g .good) (putAt (here b .line) (here b .column) (here b)))
+
+lifted-same : (b : State) (l : ℕ) → marksHere (liftedAt b) l ≡ marksHere (lifted b) l
+unfolding placed markOf
+lifted-same b l = refl
 
 -- "Printing in the last column sets the mark on the line left"
 module _ (a : State) (g : Good a) where
@@ -122,8 +129,8 @@ module _ (a : State) (g : Good a) where
   unfolding onward runningOn
   onward-lifts h l p q =
       let b : State = toColumn 1 a in
-      let e : down b ≡ lifted b = down-last b (omega (arith, start-line, start-lines)) in
-      let k : ℕ = here (lifted b) .line - 1 in
-      let z : k ≡ linesHere a - 1 = omega (arith, ap (λ (x : Place). x .line) (lifted-place b), start-line) in
-      ap (λ (x : State). marksHere (runsOn x) l) e ∙ runs-marks (lifted b) (subst Good e (kept-down b (start .good) .good)) l p q
-      ∙ (λ i. cond (eqb l (z i)) 1 (start-lifted l p q i))
+      let e : down b ≡ liftedAt b = down-last b (omega (arith, start-line, start-lines)) in
+      let k : ℕ = here (liftedAt b) .line - 1 in
+      let z : k ≡ linesHere a - 1 = omega (arith, lifted-line b (start .good), start-line) in
+      ap (λ (x : State). marksHere (runsOn x) l) e ∙ runs-marks (liftedAt b) (subst Good e (kept-down b (start .good) .good)) l p q
+      ∙ (λ i. cond (eqb l (z i)) 1 ((lifted-same b l ∙ start-lifted l p q) i))

@@ -20,12 +20,13 @@ pub data Made : Terminal → List Call → Type 0 where
   none : {t : Terminal} → Made t []
   next : {t : Terminal} {c : Call} {cs : List Call} → c .given ≡ t → Promised c → Made (c .left) cs → Made t (c ∷ cs)
 
--- "what an accepted opening leaves": an opening call kept its promise, returned 0 and left this
+-- "what an accepted opening leaves": an opening call, with any rule (P9), kept its promise, returned 0 and left this
 pub record Opening (t : Terminal) : Type 0 where
+  pub rule : ℕ
   pub cells : List ℕ
   pub layer : List ℕ
   pub shown : List ℕ
-  pub promised : OpeningPromised cells layer shown (t .state .settings) 0 (t .state .cells) (t .state .layer) (t .shown)
+  pub promised : OpeningPromised rule cells layer shown (t .state .settings) 0 (t .state .cells) (t .state .layer) (t .shown)
 
 -- "or from sound settings with any bytes in cells, layer and shown screen"
 pub record Resumed (t : Terminal) : Type 0 where

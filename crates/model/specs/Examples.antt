@@ -42,6 +42,7 @@ pub data Fact : Type 0 where
   waits : List ℕ → ℕ → Fact  -- the bytes that wait, the others of the array 0, and the stream's count
   text : ℕ → List ℕ → Fact  -- a key by its number, from 1, and its 8 codes
   runOn : ℕ → List ℕ → Fact  -- a screen, and its lines that run on: these and no other (P5)
+  flags : ℕ → ℕ → ℕ → Fact  -- the waiting flags of screens 1 and 2, and the rule (P9)
   keySettings : ℕ → ℕ → ℕ → ℕ → ℕ → ℕ → Fact  -- set, key strings, repeat, its two numbers, shift
   displayed : ℕ → ℕ → ℕ → ℕ → Fact  -- cursor on, its type, key display, boundary
 
@@ -89,6 +90,7 @@ holds (refusedBy n) d w bs = eqb (w .number) n && eqb (w .taken) 0 && eqb (w .ac
 holds (waits v n) d w bs = let s = d .state .settings in same? (s .waiting) (padded v) && eqb (s .held) (length v) && eqb (s .count) n
 holds (text k x) d w bs = same? (take 8 (drop ((k - 1) * 8) (d .state .settings .texts))) x
 holds (runOn k ls) d w bs = same? (marksOf (d .state .settings) (k - 1)) (listFrom (λ l. cond (member l ls) 1 0) 1 48)
+holds (flags a b r) d w bs = let s = d .state .settings in eqb (placeOf s 0 .waiting) a && eqb (placeOf s 1 .waiting) b && eqb (s .rule) r
 holds (keySettings c s r a b h) d w bs = let k = d .state .settings .keys in eqb (k .charset) c && eqb (k .strings) s && eqb (k .repeat) r && eqb (k .delay) a && eqb (k .interval) b && eqb (k .shift) h
 holds (displayed o n e p) d w bs = let s = d .state .settings in eqb (s .cursor) o && eqb (s .kind) n && eqb (s .display) e && eqb (s .boundary) p
 
@@ -111,11 +113,11 @@ example m fs = record { sent = m; room = 656; facts = fs }
 abbrev pub withRoom : ℕ → List ℕ → List Fact → Example
 withRoom n m fs = record { sent = m; room = n; facts = fs }
 
--- from the opening, by the rules
+-- from the opening (rule 1, document 01's), by the rules
 unfoldable pub isRight : Example → Bool
 isRight e =
     let q : Request = request (message (e .sent)) (e .room) in
-    allHold (e .facts) (served openedTerminal q) (answerOf openedTerminal q) (printedBy openedTerminal q)
+    allHold (e .facts) (served (openedTerminal 1) q) (answerOf (openedTerminal 1) q) (printedBy (openedTerminal 1) q)
 
 -- every example of a list
 unfoldable pub allRight : List Example → Bool

@@ -21,3 +21,4 @@ pub mod Parameters
 pub mod Examples
 pub mod Runs
 pub mod LineRuns
+pub mod WrapRuns

@@ -25,7 +25,7 @@ once m fs = fromOpening (told m fs ∷ [])
 
 -- from the opening settings with mark x at place i of the 96
 abbrev fromMark : ℕ → ℕ → List Turn → Run
-fromMark i x = fromSettings (withMarks openedSettings (set (replicate 96 0) i x))
+fromMark i x = fromSettings (withMarks (openedSettings 1) (set (replicate 96 0) i x))
 
 -- the plan's rows, and ours
 unfoldable pub logicalLines : List Run

@@ -16,18 +16,23 @@ use Rattle.model.specs.Line.{LineSound, line?}
 use Rattle.model.specs.Marks.{markOf, Marked, marked?}
 use Rattle.model.specs.Screens.{linesOf, columnsOf, placeOf, height}
 
--- "cursor line 1 to lines, cursor column 1 to columns, top 1 to lines−H+1"
-pub record Fits (lines columns height : ℕ) (p : Place) : Type 0 where
+-- P9: "the flag is sound only in the last column under rule 2": its greatest value
+abbrev pub mostWait : ℕ → ℕ → ℕ → ℕ
+mostWait rule columns column = cond (eqb rule 2 && eqb column columns) 1 0
+
+-- "cursor line 1 to lines, cursor column 1 to columns, top 1 to lines−H+1"; P9: the waiting flag
+pub record Fits (rule lines columns height : ℕ) (p : Place) : Type 0 where
   pub line-low : 1 ≤ p .line
   pub line-high : p .line ≤ lines
   pub column-low : 1 ≤ p .column
   pub column-high : p .column ≤ columns
   pub top-low : 1 ≤ p .top
   pub top-high : p .top + height ≤ lines + 1
+  pub waits : p .waiting ≤ mostWait rule columns (p .column)
 
 -- "each of its own screen"
 abbrev pub Inside : Settings → ℕ → Type 0
-Inside s k = Fits (linesOf s k) (columnsOf s k) (height s) (placeOf s k)
+Inside s k = Fits (s .rule) (linesOf s k) (columnsOf s k) (height s) (placeOf s k)
 
 -- the table of modes: mode, lines of screens 1 and 2, columns of screens 1 and 2. Columns have one value in each mode
 -- (mode 2: m and 79−m), so that two settings that mean the same are the same
@@ -52,7 +57,7 @@ keyRanges kind k =
 
 -- every setting whose range depends on no other
 unfoldable pub plainRanges : Settings → List Check
-plainRanges s = range 0 (s .tracking) 1 ∷ range 0 (s .secret) 1 ∷ range 0 (s .cursor) 1 ∷ range 0 (s .display) 1 ∷ keyRanges (s .kind) (s .keys)
+plainRanges s = range 0 (s .tracking) 1 ∷ range 0 (s .secret) 1 ∷ range 0 (s .cursor) 1 ∷ range 0 (s .display) 1 ∷ range 1 (s .rule) 2 ∷ keyRanges (s .kind) (s .keys)
 
 -- the arrays are as long as their types say: two screens, three LEDs, twelve arrow codes, 31 patterns of 8 rows, twelve waiting bytes, ten key texts of
 -- 8 codes (P2), which are free, and 48 marks of each screen (P5)
@@ -79,9 +84,9 @@ pub record Good (st : State) : Type 0 where
   pub cells-are : length (st .cells) ≡ 3840
   pub layer-are : length (st .layer) ≡ 1280
 
--- the same as a test: a cursor and a window in lines of columns, H tall
-unfoldable pub insideRanges : ℕ → ℕ → ℕ → Place → List Check
-insideRanges lines columns height p = range 1 (p .line) lines ∷ range 1 (p .column) columns ∷ range 1 (p .top) (lines + 1 - height) ∷ []
+-- the same as a test: a cursor and a window in lines of columns, H tall, and the flag
+unfoldable pub insideRanges : ℕ → ℕ → ℕ → ℕ → Place → List Check
+insideRanges rule lines columns height p = range 1 (p .line) lines ∷ range 1 (p .column) columns ∷ range 1 (p .top) (lines + 1 - height) ∷ range 0 (p .waiting) (mostWait rule columns (p .column)) ∷ []
 
 -- the table of modes
 unfoldable pub shapeRanges : ℕ → ℕ → ℕ → ℕ → ℕ → List Check
@@ -98,7 +103,7 @@ otherRanges selected step height = range 0 selected 1 ∷ range 1 step height �
 
 -- a cursor and a window of screen k
 unfoldable pub inside? : Settings → ℕ → Bool
-inside? s k = inRanges? (insideRanges (linesOf s k) (columnsOf s k) (height s) (placeOf s k))
+inside? s k = inRanges? (insideRanges (s .rule) (linesOf s k) (columnsOf s k) (height s) (placeOf s k))
 
 -- the marks of screen k
 unfoldable pub marks? : Settings → ℕ → Bool

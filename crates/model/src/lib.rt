@@ -12,12 +12,13 @@ pub const COPY: usize = 656;
 
 pub const MESSAGE: usize = 4096;
 
-// Of one screen: cursor line, cursor column and window top, each from 1.
+// Of one screen: cursor line, cursor column and window top, each from 1; and whether the cursor waits in the last column (1).
 #[repr(C)]
 pub struct Place {
     pub line: u8,
     pub column: u8,
     pub top: u8,
+    pub waiting: u8,
 }
 
 // What is only stored of the keyboard.
@@ -36,8 +37,8 @@ pub struct Keys {
 // The settings. `selected` is 0 for screen 1 and 1 for screen 2, and picks the place. `cursor` is whether the cursor is on (1), `kind` its
 // type, `display` the key display as sent. `waiting` has in its first `held` bytes the unfinished sequence of a stream, the others 0; `count` is
 // the stream's byte count. `texts` has the ten key texts, 8 codes each. `marks` has 1 for each line that runs on: line l of screen k (0 or 1) at
-// 48k + l - 1. `held` stands between two arrays that most calls only hand on: a copy of both in one would have more than 256 bytes, which costs
-// memcpy half as much again.
+// 48k + l - 1. `rule` is how a line is left at its last column: 1 at once, 2 late. `held` stands between two arrays that most calls only hand on:
+// a copy of both in one would have more than 256 bytes, which costs memcpy half as much again.
 #[repr(C)]
 pub struct Settings {
     pub mode: u8,
@@ -61,6 +62,7 @@ pub struct Settings {
     pub count: u32,
     pub texts: [u8; 80],
     pub marks: [u8; 96],
+    pub rule: u8,
 }
 
 // A whole sequence, one case a second byte (208: a mode byte), its parameters as sent.

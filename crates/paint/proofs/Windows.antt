@@ -17,7 +17,7 @@ module _ (s : Settings) (sound : Sound s) where
   window-inside : (k : ℕ) → k < 2 → lineAt s k (placeOf s k .top) + height s * columnsOf s k ≤ 3840
   unfolding lineAt size
   window-inside k l =
-      let f : Fits (linesOf s k) (columnsOf s k) (height s) (placeOf s k) = sound .inside k l in
+      let f : Fits (s .rule) (linesOf s k) (columnsOf s k) (height s) (placeOf s k) = sound .inside k l in
       omega (arith, within s sound k l, lines-inside (columnsOf s k) (placeOf s k .top - 1) (height s) (linesOf s k) (omega arith))
 
   -- the windows of the two screens, by the screen's number

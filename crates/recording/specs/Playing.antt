@@ -11,10 +11,10 @@ use Rattle.model.specs.Opening.{OpeningPromised, firstPart, openingNumber, unop
 use Rattle.report.specs.Adler.{adlerFrom}
 use Rattle.recording.specs.declared.Played.{Played}
 
--- an opening; no printer bytes yet
-pub record Opens (cells layer shown : List ℕ) (r : Played) (cells′ layer′ shown′ : List ℕ) : Type 0 where
-  pub opens : OpeningPromised cells layer shown (r .settings) (openingNumber (unopened cells layer shown)) cells′ layer′ shown′
-  pub sum-is : r .printer ≡ 1
+-- an opening by a rule (P9), accepted or refused: what it returns is used from then on; and the sum of the printer bytes so far
+pub record Opens (rule : ℕ) (cells layer shown : List ℕ) (sum : ℕ) (r : Played) (cells′ layer′ shown′ : List ℕ) : Type 0 where
+  pub opens : OpeningPromised rule cells layer shown (r .settings) (openingNumber rule (unopened cells layer shown)) cells′ layer′ shown′
+  pub sum-is : r .printer ≡ sum
 
 -- a call: what is asked, what it was given (terminal, printer buffer), what it returns and leaves
 abbrev pub callOf : Asked → Terminal → List ℕ → Answer → Terminal → List ℕ → Call

@@ -55,11 +55,11 @@ pub fn little(low: u8, high: u8) -> u16
     (high as u16) * 256 + low as u16
 }
 
-// From an opening; no printer bytes yet.
+// From an opening by rule 1; no printer bytes yet.
 pub fn open(cells: &mut [u8], layer: &mut [u8], shown: &mut [u8]) -> Played
-    ensures { λ r. ⌜ Opens (now (cells .entry)) (now (layer .entry)) (now (shown .entry)) r (now (cells .exit)) (now (layer .exit)) (now (shown .exit)) ⌝ }
+    ensures { λ r. ⌜ Opens 1 (now (cells .entry)) (now (layer .entry)) (now (shown .entry)) 1 r (now (cells .exit)) (now (layer .exit)) (now (shown .exit)) ⌝ }
 {
-    let opened = terminal::opening(cells, layer, shown);
+    let opened = terminal::opening(1, cells, layer, shown);
     let settings = opened.settings;
     Played {
         settings,
@@ -125,9 +125,27 @@ pub fn play_key(number: u64, played: Played, key: u8, text: &[u8]) -> Played
     let outcome = terminal::key(before, key as usize, text);
     let settings = outcome.settings;
     let answer = outcome.answer;
-    report::say_number(b"", number);
-    report::say_byte(b" answer ", answer.number);
-    report::say(b"\n");
+    say_short(number, answer.number);
+    Played {
+        settings,
+        printer: played.printer,
+    }
+}
+
+// An opening by a rule, and its line: `K answer A`. What it returns is used from then on, also where it was refused.
+pub fn play_opening(
+    number: u64,
+    played: Played,
+    rule: u8,
+    cells: &mut [u8],
+    layer: &mut [u8],
+    shown: &mut [u8],
+) -> Played
+    ensures { λ r. ⌜ Opens rule (now (cells .entry)) (now (layer .entry)) (now (shown .entry)) (played .printer) r (now (cells .exit)) (now (layer .exit)) (now (shown .exit)) ⌝ }
+{
+    let opened = terminal::opening(rule as usize, cells, layer, shown);
+    let settings = opened.settings;
+    say_short(number, opened.number);
     Played {
         settings,
         printer: played.printer,
@@ -146,6 +164,13 @@ fn told(number: u64, sum: u32, outcome: Outcome, printer: &[u8]) -> Played
         settings,
         printer: sum,
     }
+}
+
+// `K answer A`.
+fn say_short(number: u64, answer: u8) {
+    report::say_number(b"", number);
+    report::say_byte(b" answer ", answer);
+    report::say(b"\n");
 }
 
 // `K answer A taken T accepted C refused R first F at O printed P parameter N`.

@@ -71,7 +71,7 @@ fn left_by(message: &[u8]) -> Settings {
     let mut layer = [0u8; 1280];
     let mut shown = [0u8; 640];
     let mut printer = [0u8; 656];
-    let opened = terminal::opening(&mut cells, &mut layer, &mut shown);
+    let opened = terminal::opening(1, &mut cells, &mut layer, &mut shown);
     let settings = opened.settings;
     let outcome = terminal::message(
         settings,

@@ -1,5 +1,5 @@
-// Plays a recording of calls from standard input, from an opening: a line a record, then what stands. Kind 1 is a message, 2 a piece of a
-// stream, 3 its closing, 4 a key text: the key's number, then the text.
+// Plays a recording of calls from standard input, from an opening by rule 1: a line a record, then what stands. Kind 1 is a message, 2 a piece of a
+// stream, 3 its closing, 4 a key text: the key's number, then the text; 7 is an opening, whose body is the rule.
 ghost use Prim.Native.Nat.{_≤_};
 use model::CELLS;
 use model::COPY;
@@ -45,7 +45,7 @@ fn main() {
     report::say_standing(settings, &cells, &layer, &shown, played.printer);
 }
 
-// The call that a record asks for. Other kinds than these four never come here, nor a key text without its number.
+// The call that a record asks for. Other kinds than these five never come here, nor a key text without its number, nor an opening without its rule.
 fn play(
     number: u64,
     kind: u16,
@@ -60,6 +60,7 @@ fn play(
         2 => recording::play_piece(number, played, body, cells, layer, shown, printer),
         3 => recording::play_closing(number, played, cells, layer, shown),
         4 => play_key(number, played, body),
+        7 => play_opening(number, played, body, cells, layer, shown),
         _ => recording::play_message(number, played, body, cells, layer, shown, printer),
     }
 }
@@ -70,6 +71,21 @@ fn play_key(number: u64, played: Played, body: &[u8]) -> Played {
         return played;
     }
     recording::play_key(number, played, body[0], &body[1..])
+}
+
+// An opening: its only byte is the rule.
+fn play_opening(
+    number: u64,
+    played: Played,
+    body: &[u8],
+    cells: &mut [u8],
+    layer: &mut [u8],
+    shown: &mut [u8],
+) -> Played {
+    if body.len() == 0 {
+        return played;
+    }
+    recording::play_opening(number, played, body[0], cells, layer, shown)
 }
 
 // The next record, or the recording's end: after its last byte, or at a record that is cut, passes the limit or asks for no call.
@@ -92,12 +108,13 @@ fn next_call(number: u64, left: usize, body: &mut [u8]) -> Next
     }
 }
 
-// Whether a record of this kind and length of body is a call: a closing has no body, a key text a byte at least.
+// Whether a record of this kind and length of body is a call: a closing has no body, a key text a byte at least, an opening one byte.
 fn asks(kind: u16, length: u16) -> bool {
     match kind {
         1 | 2 => true,
         3 => length == 0,
         4 => length >= 1,
+        7 => length == 1,
         _ => false,
     }
 }

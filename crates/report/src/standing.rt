@@ -1,4 +1,4 @@
-// What stands: the settings in nine lines, a line of sums, and the rows.
+// What stands: the settings in ten lines, a line of sums, and the rows.
 ghost use mathlib.Core.Path.{_≡_};
 ghost use Rattle.report.specs.Adler.{adler32};
 use crate::adler::adler32;
@@ -32,6 +32,7 @@ pub fn say_standing(
     say_stream(settings.count, &waiting, settings.held);
     let marks = settings.marks;
     say_runs(&marks);
+    say_rule(settings.rule, places[0], places[1]);
     say_number(b"sums cells ", adler32(1, cells) as u64);
     say_number(b" layer ", adler32(1, layer) as u64);
     say_number(b" patterns ", patterns_sum(&patterns) as u64);
@@ -135,6 +136,14 @@ fn say_runs(marks: &[u8; 96]) {
         say_line(k as u8 - 47, marks[k]);
         k += 1;
     }
+    say(b"\n");
+}
+
+// `rule R flags F F`: how a line is left at its last column, and whether each screen's cursor waits there.
+fn say_rule(rule: u8, first: Place, second: Place) {
+    say_byte(b"rule ", rule);
+    say_byte(b" flags ", first.waiting);
+    say_byte(b" ", second.waiting);
     say(b"\n");
 }
 

@@ -29,6 +29,7 @@ framed-placed {s} q e = record {
   shift-is = e .shift-is;
   step-is = e .step-is;
   tracking-is = e .tracking-is;
+  rule-is = e .rule-is;
 }
 
 -- the place that was set

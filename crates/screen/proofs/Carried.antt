@@ -33,6 +33,7 @@ framed-here p m e = let d = framed-placed p e in record {
   shift-is = d .shift-is;
   step-is = d .step-is;
   tracking-is = d .tracking-is;
+  rule-is = d .rule-is;
 }
 
 -- settings with the place and the marks that they have
@@ -67,6 +68,9 @@ module _ {f : Frame} {p q : Place} {c l m c₁ l₁ m₁ : List ℕ} where
   -- a rule at a value, and a test, that are read off what stands
   pub at-value-with : {A : Type 0} {value : State → A} {x : A} (rule : A → State → State) → Reads value f p x → ActsWith (rule x) f p q c l m c₁ l₁ m₁ → ActsWith (λ (st : State). rule (value st) st) f p q c l m c₁ l₁ m₁
   at-value-with rule h a = likewise-with (λ s e i k. ap (λ x. rule x (state s c l)) (h (state s c l) e i)) a
+
+  pub when-true-with : {test : State → Bool} {one : State → State} (two : State → State) → Reads test f p true → ActsWith one f p q c l m c₁ l₁ m₁ → ActsWith (λ (st : State). cond (test st) (one st) (two st)) f p q c l m c₁ l₁ m₁
+  when-true-with {one = one} two h a = likewise-with (λ s e i k. ap (λ (b : Bool). cond b (one (state s c l)) (two (state s c l))) (h (state s c l) e i)) a
 
   pub when-false-with : {test : State → Bool} {two : State → State} (one : State → State) → Reads test f p false → ActsWith two f p q c l m c₁ l₁ m₁ → ActsWith (λ (st : State). cond (test st) (one st) (two st)) f p q c l m c₁ l₁ m₁
   when-false-with {two = two} one h a = likewise-with (λ s e i k. ap (λ (b : Bool). cond b (one (state s c l)) (two (state s c l))) (h (state s c l) e i)) a

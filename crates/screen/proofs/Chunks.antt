@@ -1,6 +1,6 @@
--- Bytes printed in the cursor's line short of its end, while the window stays: each is stored, the cursor moves a column, and
--- tracking does nothing. So they are all stored at once, and as many places emptied.
-use mathlib.Core.Path.{_∙_, _≡_, refl}
+-- Bytes printed in the cursor's line short of its end, while the window stays: no cursor waits there under either rule, each byte is
+-- stored, the cursor moves a column, and tracking does nothing. So they are all stored at once, and as many places emptied.
+use mathlib.Core.Path.{_∙_, _≡_, refl, subst}
 use Prim.Native.Nat.{_+_, _<_, _≤_, suc, ℕ}
 use native.Mathlib.Numerals.{add-one}
 use native.Mathlib.Omega.{arith}
@@ -20,7 +20,7 @@ use Rattle.screen.specs.Run.{printedAll, unmarked}
 use Rattle.screen.proofs.Acting.{likewise, stays, still, then, then-above}
 use Rattle.screen.proofs.Cells.{cell-room}
 use Rattle.screen.proofs.Steps.{cell-is, unmarked-layer}
-use Rattle.screen.proofs.Moves.{right-steps}
+use Rattle.screen.proofs.Moves.{awaited-still, right-steps, waits-not}
 use Rattle.screen.proofs.Shown.{Spot, spot-next, spot-of}
 use Rattle.screen.proofs.Windows.{lost-next, lost-still}
 use Rattle.screen.proofs.Rows.{put-sets, unmark-none}
@@ -33,33 +33,34 @@ module _ {f : Frame} where
       (λ s e i. rw (cell-is (state s c l) e i, ← unmark-none (shownHere (state s c l)) l, k .is (state s c l) e i, unmark-none n l))
 
   -- one byte
-  printed-spot : {p : Place} {c l : List ℕ} {n : ℕ} (b : ℕ) → Ready f p c l → p .column < f .columns → Reads lost f p false → Spot f p n
+  printed-spot : {p : Place} {c l : List ℕ} {n : ℕ} (b : ℕ) → Ready f p c l → p .waiting ≡ 0 → p .column < f .columns → Reads lost f p false → Spot f p n
       → Acts (printed b) f p (putAt (p .line) (suc (p .column)) p) c l (set c (cellIn f p) b) (unmark n l)
   unfolding printed tracked
-  printed-spot {p} b h k j i =
+  printed-spot {p} b h w k j i =
       let a = stored-spot b h i in
       let r = right-steps {r = putAt (p .line) (suc (p .column)) p} (a .ready) k (rw add-one) in
-      then-above (then a r) (lost-still nearest (r .ready .stands) (r .ready .layer-are) (lost-next (suc (p .column)) j) refl)
+      then-above (then (then (awaited-still h (λ e. omega arith)) a) r) (lost-still nearest (r .ready .stands) (r .ready .layer-are) (lost-next (suc (p .column)) j) refl)
 
   -- all of them
-  chunk-acts : (bs : List ℕ) {p r : Place} {c l c′ l′ : List ℕ} {n : ℕ} → Ready f p c l → p .column + length bs ≤ f .columns → Reads lost f p false → Spot f p n
+  chunk-acts : (bs : List ℕ) {p r : Place} {c l c′ l′ : List ℕ} {n : ℕ} → Ready f p c l → p .waiting ≡ 0 → p .column + length bs ≤ f .columns → Reads lost f p false → Spot f p n
       → r ≡ putAt (p .line) (p .column + length bs) p → c′ ≡ sets c (cellIn f p) bs → l′ ≡ unmarked n (length bs) l → Acts (printedAll bs) f p r c l c′ l′
   unfolding printedAll unmarked
-  chunk-acts [] {p} {n = n} h room j i a b d =
+  chunk-acts [] {p} {c = c} {l = l} {n = n} h w room j i a b d =
       let z : p .column + 0 ≡ p .column = omega arith in
-      rw (a, b, d, z) (likewise (λ s e k. refl) (still h))
-  chunk-acts (x ∷ xs) {p} {n = n} h room j i a b d =
-      let w = printed-spot x h (omega arith) j i in
+      let y : p ≡ putAt (p .line) (p .column) p = λ o. record { line = p .line; column = p .column; top = p .top; waiting = w o } in
+      rw (a, b, d, z) (subst (λ (o : Place). Acts (printedAll []) f p o c l c l) y (likewise (λ s e k. refl) (still h)))
+  chunk-acts (x ∷ xs) {p} {n = n} h w room j i a b d =
+      let v = printed-spot x h w (omega arith) j i in
       let z : p .column + suc (length xs) ≡ suc (p .column) + length xs = omega arith in
       let y : cellIn f (putAt (p .line) (suc (p .column)) p) ≡ suc (cellIn f p) = omega (arith, h .stands .fits .column-low) in
       likewise (λ s e k. refl)
-      (then w (chunk-acts xs (w .ready) (omega arith) (lost-next (suc (p .column)) j) (spot-next (h .stands .fits .column-low) i) (rw z at a) (rw y b) d))
+      (then v (chunk-acts xs (v .ready) refl (omega arith) (lost-next (suc (p .column)) j) (spot-next (h .stands .fits .column-low) i) (rw z at a) (rw y b) d))
 
   -- so a part of a message copied to where the cursor stands
-  pub copied-acts : {p r : Place} {c l c′ l′ : List ℕ} {k n : ℕ} (m : List ℕ) (at count : ℕ) → Ready f p c l → at + count ≤ length m → p .column + count ≤ f .columns → Reads lost f p false
+  pub copied-acts : {p r : Place} {c l c′ l′ : List ℕ} {k n : ℕ} (m : List ℕ) (at count : ℕ) → Ready f p c l → 1 ≤ count → at + count ≤ length m → p .column + count ≤ f .columns → Reads lost f p false
       → n ≡ cellIn f p → c′ ≡ put n (take count (drop at m)) c → Reads shownHere f p k → l′ ≡ unmarked k count l → r ≡ putAt (p .line) (p .column + count) p
       → Acts (printedAll (take count (drop at m))) f p r c l c′ l′
-  copied-acts {p} {c = c} m at count h inside room j a b d e i =
+  copied-acts {p} {c = c} m at count h some inside room j a b d e i =
       let bs : List ℕ = take count (drop at m) in
       let z : length bs ≡ count = simp (length-take, length-drop) (omega arith) in
-      chunk-acts bs h (omega arith) j (spot-of d) (rw z i) (rw (b, a) (put-sets (cellIn f p) bs c (omega (arith, cell-room (h .stands), h .cells-are)))) (rw z e)
+      chunk-acts bs h (waits-not (h .stands) (omega arith)) (omega arith) j (spot-of d) (rw z i) (rw (b, a) (put-sets (cellIn f p) bs c (omega (arith, cell-room (h .stands), h .cells-are)))) (rw z e)

@@ -38,15 +38,15 @@ module _ {s : Settings} (h : Sound s) where
     height-low = rw (e .height-is) (omega (arith, height-low s));
     height-high = rw (e .height-is, e .lines-are) (tall s h (s .selected) (h .selected));
     step-high = rw (e .step-is, e .height-is) (h .step-high);
-    fits = rw (e .lines-are, e .columns-are, e .height-is) (h .inside (s .selected) (h .selected));
+    fits = rw (e .rule-is, e .lines-are, e .columns-are, e .height-is) (h .inside (s .selected) (h .selected));
   }
 
   pub frame : {f : Frame} → f .lines ≡ linesOf s (s .selected) → f .columns ≡ columnsOf s (s .selected) → f .base ≡ base s (s .selected) → f .first ≡ 48 * s .selected
       → f .height ≡ height s → f .shift ≡ cond (eqb (s .mode) 2 && eqb (s .selected) 1) (s .columns1 + 1) 0
-      → f .rows ≡ textRows s → f .step ≡ s .step → f .tracking ≡ s .tracking → FrameOf s f
+      → f .rows ≡ textRows s → f .step ≡ s .step → f .tracking ≡ s .tracking → f .rule ≡ s .rule → FrameOf s f
   unfolding arrayRanges
-  frame {f} a b c o d e g i j =
-      let k : Framed s f = record { two-places = omega (arith, h .arrays .0); selected-low = h .selected; lines-are = a; columns-are = b; base-is = c; first-is = o; rows-are = g; height-is = d; shift-is = e; step-is = i; tracking-is = j } in
+  frame {f} a b c o d e g i j r =
+      let k : Framed s f = record { two-places = omega (arith, h .arrays .0); selected-low = h .selected; lines-are = a; columns-are = b; base-is = c; first-is = o; rows-are = g; height-is = d; shift-is = e; step-is = i; tracking-is = j; rule-is = r } in
       record { framed = k; stands = stands-of k }
 
 -- which columns of the picture are another screen's

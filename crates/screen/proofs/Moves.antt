@@ -1,25 +1,27 @@
 -- The cursor: storing where it stands, and moving it.
-use mathlib.Core.Path.{_∙_, _≡_}
+use mathlib.Core.Path.{_∙_, _≡_, refl}
 use Prim.Native.Nat.{_+_, _-_, _<_, _≤_, max, ℕ}
 use native.Mathlib.Omega.{arith}
-use mathlib.Core.Bool.{Bool}
+use mathlib.Core.Bool.{Bool, _&&_}
 use mathlib.Core.List.{List}
 use lib.ListN.{length-set, set}
-use lib.Dec.{ltb}
-use borrow.Author.Tests.{le-ltb, lt-ltb, ne-eqb}
+use lib.Dec.{eqb, ltb}
+use borrow.Author.Tests.{eq-eqb, eqb-true, le-ltb, lt-ltb, ne-eqb}
 use Rattle.model.specs.declared.Place.{Place}
-use Rattle.model.specs.State.{State, putAt, state}
+use Rattle.model.specs.State.{State, putAt, state, waitAt}
 use Rattle.model.specs.Screens.{columnsHere, here, linesHere}
 use Rattle.model.specs.Marks.{runningOn}
-use Rattle.model.specs.Rules.{control, down, lifted, onward, placed, remarked, right, runsOn, stored, toColumn, unmark}
+use Rattle.model.specs.Sound.{mostWait}
+use Rattle.model.specs.Rules.{awaited, control, down, lifted, onward, placed, remarked, right, runsOn, stored, toColumn, unmark}
 use Rattle.screen.specs.declared.Frame.{Frame}
-use Rattle.screen.specs.Frame.{Ready}
+use Rattle.model.proofs.Tests.{and-right, cond-at}
+use Rattle.screen.specs.Frame.{Ready, Stands}
 use Rattle.screen.specs.Acts.{Acts, ActsWith, Reads}
 use Rattle.screen.specs.Logical.{Remarks}
 use Rattle.screen.specs.Here.{cellIn, shownHere}
-use Rattle.screen.proofs.Acting.{at-value, likewise, stays, still, when-true}
-use Rattle.screen.proofs.Carried.{at-value-with, remarked-acts, then-with, when-false-with}
-use Rattle.screen.proofs.Steps.{cell-is, cursor-acts, here-is, unmarked-layer}
+use Rattle.screen.proofs.Acting.{at-value, likewise, stays, still, when-false, when-true}
+use Rattle.screen.proofs.Carried.{at-value-with, remarked-acts, then-with, unmarked-acts, when-false-with, when-true-with}
+use Rattle.screen.proofs.Steps.{cell-is, cursor-acts, here-is, moved, placed-acts, put-stands, unmarked-layer}
 
 -- tests: the cursor's line is above the last, its column before the last
 line-test : {f : Frame} {p : Place} {b : Bool} → ltb (p .line) (f .lines) ≡ b → Reads (λ (st : State). ltb (here st .line) (linesHere st)) f p b
@@ -27,6 +29,13 @@ line-test h st e k = rw (k, ← e .lines-are) h
 
 column-test : {f : Frame} {p : Place} {b : Bool} → ltb (p .column) (f .columns) ≡ b → Reads (λ (st : State). ltb (here st .column) (columnsHere st)) f p b
 column-test h st e k = rw (k, ← e .columns-are) h
+
+-- P9: the rule is the late one; the cursor waits
+rule-test : {f : Frame} {p : Place} {b : Bool} → eqb (f .rule) 2 ≡ b → Reads (λ (st : State). eqb (st .settings .rule) 2) f p b
+rule-test h st e k = rw (← e .rule-is) h
+
+flag-test : {f : Frame} {p : Place} {b : Bool} → eqb (p .waiting) 1 ≡ b → Reads (λ (st : State). eqb (here st .waiting) 1) f p b
+flag-test h st e k = rw k h
 
 -- storing, and another line or column
 module _ {f : Frame} {p : Place} {c l : List ℕ} (h : Ready f p c l) where
@@ -51,6 +60,17 @@ module _ {f : Frame} {p : Place} {c l : List ℕ} (h : Ready f p c l) where
       stays (record { stands = h .stands; cells-are = length-set c m code ∙ h .cells-are; layer-are = unmarked-layer n (h .layer-are) b })
       (λ s e i. rw (cell-is (state s c l) e i, shown (state s c l) e i, a, b))
 
+-- P9: a cursor waits in the last column under rule 2, and nowhere else
+waiting-stands : {f : Frame} {p : Place} → Stands f p → f .columns ≤ p .column → f .rule ≡ 2 → Stands f (waitAt p)
+waiting-stands {f} {p} h k e =
+    let w : 1 ≤ mostWait (f .rule) (f .columns) (p .column) = rw (eq-eqb (f .rule) 2 e, eq-eqb (p .column) (f .columns) (omega (arith, h .fits))) (omega arith) in
+    moved h (record { line-low = h .fits .line-low; line-high = h .fits .line-high; column-low = h .fits .column-low; column-high = h .fits .column-high; top-low = h .fits .top-low; top-high = h .fits .top-high; waits = w })
+
+pub waits-not : {f : Frame} {p : Place} → Stands f p → p .column < f .columns → p .waiting ≡ 0
+waits-not {f} {p} h k =
+    cond-at (λ (x : ℕ). p .waiting ≤ x → p .waiting ≡ 0) (eqb (f .rule) 2 && eqb (p .column) (f .columns)) 1 0
+    (λ e i. absurd (omega (arith, eqb-true (p .column) (f .columns) (and-right (eqb (f .rule) 2) (eqb (p .column) (f .columns)) e)))) (λ e i. omega arith) (h .fits .waits)
+
 -- "one line down", "moves right"
 module _ {f : Frame} {p : Place} {c l : List ℕ} where
   pub down-moves : {r : Place} → Ready f p c l → p .line < f .lines → r ≡ putAt (p .line + 1) (p .column) p → Acts down f p r c l c l
@@ -59,9 +79,14 @@ module _ {f : Frame} {p : Place} {c l : List ℕ} where
       when-true _ (line-test (lt-ltb (p .line) (f .lines) k))
       (cursor-acts h (λ (x : Place). x .line + 1) (λ (x : Place). x .column) (omega arith) (omega arith) (h .stands .fits .column-low) (h .stands .fits .column-high) j)
 
-  pub down-lifts : {m c′ l′ m′ : List ℕ} → f .lines ≤ p .line → ActsWith lifted f p p c l m c′ l′ m′ → ActsWith down f p p c l m c′ l′ m′
+  -- after a lift the cursor is put where it stands
+  pub down-lifts : {r : Place} {m c′ l′ m′ : List ℕ} → f .lines ≤ p .line → ActsWith lifted f p p c l m c′ l′ m′ → r ≡ putAt (p .line) (p .column) p → ActsWith down f p r c l m c′ l′ m′
   unfolding down
-  down-lifts k a = when-false-with _ (line-test (le-ltb (p .line) (f .lines) k)) a
+  down-lifts k a j =
+      let h : Stands f p = a .ready .stands in
+      when-false-with _ (line-test (le-ltb (p .line) (f .lines) k))
+      (rw j (at-value-with (λ (x : Place) (st : State). placed (putAt (x .line) (x .column) x) (lifted st)) here-is
+      (then-with a (unmarked-acts (a .marks-are) (placed-acts (a .ready) (putAt (p .line) (p .column) p) (put-stands h (h .fits .line-low) (h .fits .line-high) (h .fits .column-low) (h .fits .column-high) refl))))))
 
   pub right-steps : {r : Place} → Ready f p c l → p .column < f .columns → r ≡ putAt (p .line) (p .column + 1) p → Acts right f p r c l c l
   unfolding right
@@ -69,9 +94,25 @@ module _ {f : Frame} {p : Place} {c l : List ℕ} where
       when-true _ (column-test (lt-ltb (p .column) (f .columns) k))
       (at-value (λ (x : Place) (st : State). toColumn (x .column + 1) st) here-is (column-acts h (p .column + 1) (omega arith) (omega arith) j))
 
-  pub right-wraps : {r : Place} {m c′ l′ m′ : List ℕ} → f .columns ≤ p .column → ActsWith onward f p r c l m c′ l′ m′ → ActsWith right f p r c l m c′ l′ m′
+  -- P9: in the last column, by the rule
+  pub right-waits : {r : Place} → Ready f p c l → f .columns ≤ p .column → f .rule ≡ 2 → r ≡ waitAt p → Acts right f p r c l c l
   unfolding right
-  right-wraps k a = when-false-with _ (column-test (le-ltb (p .column) (f .columns) k)) a
+  right-waits h k e j =
+      when-false _ (column-test (le-ltb (p .column) (f .columns) k))
+      (when-true _ (rule-test (eq-eqb (f .rule) 2 e)) (rw j (at-value (λ (x : Place) (st : State). placed (waitAt x) st) here-is (placed-acts h (waitAt p) (waiting-stands (h .stands) k e)))))
+
+  pub right-wraps : {r : Place} {m c′ l′ m′ : List ℕ} → f .columns ≤ p .column → (f .rule ≡ 2 → ⊥) → ActsWith onward f p r c l m c′ l′ m′ → ActsWith right f p r c l m c′ l′ m′
+  unfolding right
+  right-wraps k e a = when-false-with _ (column-test (le-ltb (p .column) (f .columns) k)) (when-false-with _ (rule-test (ne-eqb (f .rule) 2 e)) a)
+
+  -- P9: the step that waited
+  pub awaited-steps : {r : Place} {m c′ l′ m′ : List ℕ} → p .waiting ≡ 1 → ActsWith onward f p r c l m c′ l′ m′ → ActsWith awaited f p r c l m c′ l′ m′
+  unfolding awaited
+  awaited-steps k a = when-true-with _ (flag-test (eq-eqb (p .waiting) 1 k)) a
+
+  pub awaited-still : Ready f p c l → (p .waiting ≡ 1 → ⊥) → Acts awaited f p p c l c l
+  unfolding awaited
+  awaited-still h k = when-false _ (flag-test (ne-eqb (p .waiting) 1 k)) (still h)
 
   -- P5: the line above the cursor's is marked after the step
   pub onward-marks : {r : Place} {m c′ l′ m₁ m₂ : List ℕ} → ActsWith (λ (st : State). down (toColumn 1 st)) f p r c l m c′ l′ m₁ → Remarks (f .first) (runningOn (r .line - 1)) m₁ m₂ → ActsWith onward f p r c l m c′ l′ m₂

@@ -52,7 +52,7 @@ module _ {f : Frame} {p : Place} {c l c′ l′ : List ℕ} (h : Ready f p c l) 
       let d : f .base ≡ f .base + 0 * f .columns = omega arith in
       let z : Acts (onLines 0 (f .lines) blanked) f p p c l c′ l′ = lines-acts 0 (f .lines) blanked length-blanked (omega arith) (rw (a, d) at j) in
       rw g (then-with (at-value-with (λ (n : ℕ) (st : State). remarked (unmarkedFrom 1 n) (onLines 0 n blanked st)) (λ st e i. sym (e .lines-are)) (then-with (unmarked-acts k z) (remarked-acts (z .ready) (unmarkedFrom 1 (f .lines)) k w)))
-      (unmarked-acts (w .size ∙ k) (placed-acts (z .ready) home (moved (h .stands) (record { line-low = omega arith; line-high = omega (arith, h .stands .fits); column-low = omega arith; column-high = h .stands .columns-low; top-low = omega arith; top-high = omega (arith, h .stands .height-high) })))))
+      (unmarked-acts (w .size ∙ k) (placed-acts (z .ready) home (moved (h .stands) (record { line-low = omega arith; line-high = omega (arith, h .stands .fits); column-low = omega arith; column-high = h .stands .columns-low; top-low = omega arith; top-high = omega (arith, h .stands .height-high); waits = omega arith })))))
 
   -- 84, 89
   pub blank-acts : {n : ℕ} (count : ℕ) → cellIn f p + count ≤ 3840 → n ≡ cellIn f p → c′ ≡ onPart n count blanked c → Acts (blankFrom count) f p p c l c′ l′

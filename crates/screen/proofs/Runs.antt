@@ -1,24 +1,28 @@
 -- A run of printed bytes, part by part.
-use mathlib.Core.Path.{_≡_, refl, subst, sym}
+use mathlib.Core.Path.{_∙_, _≡_, ap, refl, subst, sym}
 use Prim.Native.Nat.{_+_, _-_, _<_, _≤_, suc, zero, ℕ}
 use native.Mathlib.Numerals.{add-one}
 use native.Mathlib.Omega.{arith}
 use mathlib.Core.Bool.{Bool, _&&_, false, true}
 use mathlib.Core.List.{List, [], _++_, _∷_}
-use lib.ListN.{drop, getD, length, take}
+use lib.ListN.{drop, getD, length, length-drop, length-take, take}
 use lib.Dec.{ltb}
 use borrow.Author.Tests.{leb-true, ltb-false, ltb-true}
 use lib.Seq.{drop-cons, drop-drop, take-add}
 use Rattle.model.specs.declared.Place.{Place}
-use Rattle.model.specs.State.{State}
-use Rattle.model.specs.Rules.{printed}
+use Rattle.model.specs.State.{State, state}
+use Rattle.model.specs.Screens.{placeOf}
+use Rattle.model.specs.Rules.{awaited, printed, right, stored, tracked}
+use Rattle.model.proofs.Waiting.{awaited-not}
 use Rattle.model.proofs.Tests.{and-left, and-right}
 use Rattle.screen.specs.declared.Frame.{Frame}
 use Rattle.screen.specs.declared.run.Run.{Run}
 use Rattle.screen.specs.Frame.{Ready}
-use Rattle.screen.specs.Acts.{ActsWith}
+use Rattle.screen.specs.Acts.{ActsWith, withHere}
 use Rattle.screen.specs.Run.{Part, Printing, Ran, WholeRun, allPrint?, printedAll, prints?}
+use Rattle.screen.proofs.Acting.{placed-there}
 use Rattle.screen.proofs.Carried.{likewise-with, still-with, then-with}
+use Rattle.screen.proofs.Moves.{waits-not}
 
 -- bytes behind others
 printed-more : (xs ys : List ℕ) (st : State) → printedAll (xs ++ ys) st ≡ printedAll ys (printedAll xs st)
@@ -87,6 +91,12 @@ module _ (m : List ℕ) (at : ℕ) where
       go true e = absurd (omega (arith, few, all-printing e .inside))
       go false e = sym e
 
+-- P9: a step that waited may be made before the bytes are printed, if none waits behind it
+awaited-first : (bs : List ℕ) (st : State) → 1 ≤ length bs → awaited (awaited st) ≡ awaited st → printedAll bs st ≡ printedAll bs (awaited st)
+unfolding printedAll printed
+awaited-first [] st h e = absurd (omega (arith, h))
+awaited-first (b ∷ bs) st h e = ap (λ (x : State). printedAll bs (tracked (right (stored b x)))) (sym e)
+
 -- the bytes from an offset up to `at` were printed
 pub record Along (m : List ℕ) (f : Frame) (from : ℕ) (p : Place) (c l k : List ℕ) (at : ℕ) (q : Place) (c′ l′ k′ : List ℕ) : Type 0 where
   pub low : from ≤ at
@@ -97,18 +107,31 @@ module _ {m : List ℕ} {f : Frame} {p : Place} {c l k : List ℕ} where
   unfolding printedAll
   along-none from r n = record { low = omega arith; acts = let z : from - from ≡ 0 = omega arith in likewise-with (λ s e i j. rw z) (still-with r n) }
 
-  -- a part of one byte, of as many as stay in the line
-  module _ {at to : ℕ} {r : Run} {c₁ l₁ k₁ : List ℕ} where
-    pub part-one : {b : ℕ} → at < to → to ≤ length m → r .at ≡ at + 1 → b ≡ getD m at 0 → ActsWith (printed b) f p (r .place) c l k c₁ l₁ k₁ → Part m at to f p r c l k c₁ l₁ k₁
-    unfolding printedAll
+  -- a part of one byte, of as many as stay in the line, behind the step that waited
+  module _ {at to : ℕ} {q : Place} {r : Run} {c₀ l₀ k₀ c₁ l₁ k₁ : List ℕ} (w : ActsWith awaited f p q c l k c₀ l₀ k₀) where
+    pub part-one : {b : ℕ} → at < to → to ≤ length m → r .at ≡ at + 1 → b ≡ getD m at 0 → ActsWith (λ (st : State). tracked (right (stored b st))) f q (r .place) c₀ l₀ k₀ c₁ l₁ k₁ → Part m at to f p r c l k c₁ l₁ k₁
+    unfolding printedAll printed
     part-one h j e i a = record {
       some = omega arith;
       most = omega arith;
-      acts = let n : r .at - at ≡ 1 = omega (arith, e) in likewise-with (λ s x y z. rw (n, drop-cons m at 0 (omega arith))) (rw i at a);
+      acts = let n : r .at - at ≡ 1 = omega (arith, e) in likewise-with (λ s x y z. rw (n, drop-cons m at 0 (omega arith))) (then-with w (rw i at a));
     }
 
-    pub part-many : {n : ℕ} → 1 ≤ n → at + n ≤ to → r .at ≡ at + n → ActsWith (printedAll (take n (drop at m))) f p (r .place) c l k c₁ l₁ k₁ → Part m at to f p r c l k c₁ l₁ k₁
-    part-many {n} h j e a = let z : r .at - at ≡ n = omega (arith, e) in record { some = omega arith; most = omega arith; acts = rw z a }
+    pub part-many : {n : ℕ} → 1 ≤ n → at + n ≤ to → to ≤ length m → r .at ≡ at + n → q .column < f .columns → ActsWith (printedAll (take n (drop at m))) f q (r .place) c₀ l₀ k₀ c₁ l₁ k₁ → Part m at to f p r c l k c₁ l₁ k₁
+    unfolding placeOf
+    part-many {n} h j i e g a =
+        let z : r .at - at ≡ n = omega (arith, e) in
+        let bs : List ℕ = take n (drop at m) in
+        let some : length bs ≡ n = simp (length-take, length-drop) (omega arith) in
+        record {
+          some = omega arith;
+          most = omega arith;
+          acts = rw z (likewise-with (λ s x y v.
+              let st : State = state (withHere s q k₀) c₀ l₀ in
+              let d : awaited (state s c l) ≡ st = w .does s x y v in
+              awaited-first bs (state s c l) (omega (arith, some)) (ap awaited d ∙ awaited-not st (ap (λ (o : Place). o .waiting) (placed-there q x) ∙ waits-not (w .ready .stands) g) ∙ sym d))
+              (then-with w a));
+        }
 
   pub along-part : {from at to : ℕ} {q : Place} {r : Run} {c₁ l₁ k₁ c₂ l₂ k₂ : List ℕ} → Along m f from p c l k at q c₁ l₁ k₁ → Part m at to f q r c₁ l₁ k₁ c₂ l₂ k₂ → Along m f from p c l k (r .at) (r .place) c₂ l₂ k₂
   along-part {from} {at} {r = r} a w = record {

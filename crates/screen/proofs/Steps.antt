@@ -1,6 +1,7 @@
 -- The steps that every rule here is made of, as functions on a frame, a place and the stores make them.
 use mathlib.Core.Path.{_∙_, _≡_, ap, refl, sym}
 use Prim.Native.Nat.{_≤_, ℕ}
+use native.Mathlib.Omega.{arith}
 use mathlib.Core.List.{List}
 use lib.ListN.{length, length-replicate, replicate}
 use Rattle.model.specs.declared.Place.{Place}
@@ -17,11 +18,11 @@ use Rattle.screen.proofs.Acting.{at-value, stays}
 use Rattle.screen.proofs.Rows.{unmark-empty}
 
 -- another place of the same frame
-pub moved : {f : Frame} {p r : Place} → Stands f p → Fits (f .lines) (f .columns) (f .height) r → Stands f r
+pub moved : {f : Frame} {p r : Place} → Stands f p → Fits (f .rule) (f .lines) (f .columns) (f .height) r → Stands f r
 moved h k = record { among = h .among; columns-low = h .columns-low; marks-among = h .marks-among; lines-high = h .lines-high; height-low = h .height-low; height-high = h .height-high; step-high = h .step-high; fits = k }
 
 pub put-stands : {f : Frame} {p r : Place} {line column : ℕ} → Stands f p → 1 ≤ line → line ≤ f .lines → 1 ≤ column → column ≤ f .columns → r ≡ putAt line column p → Stands f r
-put-stands h a b c d k = rw k (moved h (record { line-low = a; line-high = b; column-low = c; column-high = d; top-low = h .fits .top-low; top-high = h .fits .top-high }))
+put-stands h a b c d k = rw k (moved h (record { line-low = a; line-high = b; column-low = c; column-high = d; top-low = h .fits .top-low; top-high = h .fits .top-high; waits = omega arith }))
 
 -- what is read off what stands: the place, the cursor's cell
 pub here-is : {f : Frame} {p : Place} → Reads here f p p

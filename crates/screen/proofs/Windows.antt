@@ -75,7 +75,7 @@ module _ {f : Frame} {p : Place} (h : Stands f p) {l : List ℕ} (n : LayerOf f 
   unfolding topped
   topped-turns {t} low high k j g cells m =
       let a : Acts (placed (topAt t p)) f p (topAt t p) cells l cells l = placed-acts (record { stands = h; cells-are = m; layer-are = n }) (topAt t p)
-      (moved h (record { line-low = h .fits .line-low; line-high = h .fits .line-high; column-low = h .fits .column-low; column-high = h .fits .column-high; top-low = low; top-high = high })) in
+      (moved h (record { line-low = h .fits .line-low; line-high = h .fits .line-high; column-low = h .fits .column-low; column-high = h .fits .column-high; top-low = low; top-high = high; waits = h .fits .waits })) in
       rw g (when-false _ (top-test t (ne-eqb t (p .top) k))
       (at-value (λ (x : Place) (st : State). emptied (placed (topAt t x) st)) here-is (then a (emptied-acts (a .ready) j))))
 

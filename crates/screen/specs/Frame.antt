@@ -27,6 +27,7 @@ pub record Framed (s : Settings) (f : Frame) : Type 0 where
   pub shift-is : f .shift ≡ cond (eqb (s .mode) 2 && eqb (s .selected) 1) (s .columns1 + 1) 0
   pub step-is : f .step ≡ s .step
   pub tracking-is : f .tracking ≡ s .tracking
+  pub rule-is : f .rule ≡ s .rule
 
 -- the screen of f lies among the cells and its marks among the marks, its window is no taller than it, and p is a place of it
 pub record Stands (f : Frame) (p : Place) : Type 0 where
@@ -37,7 +38,7 @@ pub record Stands (f : Frame) (p : Place) : Type 0 where
   pub height-low : 2 ≤ f .height
   pub height-high : f .height ≤ f .lines
   pub step-high : f .step ≤ f .height
-  pub fits : Fits (f .lines) (f .columns) (f .height) p
+  pub fits : Fits (f .rule) (f .lines) (f .columns) (f .height) p
 
 -- the layer has its size, and is empty where the frame says that it is bare
 pub record LayerOf (f : Frame) (layer : List ℕ) : Type 0 where

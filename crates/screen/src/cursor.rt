@@ -10,7 +10,7 @@ use model::SHOWN;
 ghost use mathlib.Core.Path.{_≡_};
 ghost use lib.ListN.{length};
 ghost use Prim.Native.Nat.{_-_, _≤_, max};
-ghost use Rattle.model.specs.Rules.{stored, down, onward, right};
+ghost use Rattle.model.specs.Rules.{awaited, stored, down, onward, right};
 ghost use Rattle.screen.specs.Frame.{Stands, Ready};
 ghost use Rattle.screen.specs.Acts.{Acts, ActsWith, Reads};
 ghost use Rattle.screen.specs.Here.{shownHere};
@@ -51,7 +51,8 @@ pub(crate) fn before(column: u8) -> u8
     if 1 < column { column - 1 } else { 1 }
 }
 
-// "One line down"; below the last line the screen is lifted. Either way there is a line above the cursor's.
+// "One line down"; below the last line the screen is lifted. Either way the cursor is put anew and does not wait, and there is a line above
+// its own.
 pub(crate) fn down(
     frame: Frame,
     place: Place,
@@ -67,11 +68,11 @@ pub(crate) fn down(
         places::put_at(place, place.line + 1, place.column)
     } else {
         lines::lift(frame, place, cells, layer, marks);
-        place
+        places::put_at(place, place.line, place.column)
     }
 }
 
-// "Moves right. From the last column it goes to column 1 of the next line."
+// "Moves right. From the last column it goes to column 1 of the next line"; P9, rule 2: there it waits.
 pub(crate) fn right(
     frame: Frame,
     place: Place,
@@ -85,12 +86,34 @@ pub(crate) fn right(
 {
     if place.column < frame.columns {
         places::put_at(place, place.line, place.column + 1)
+    } else if frame.rule == 2 {
+        places::wait_at(place)
     } else {
         onward(frame, place, cells, layer, marks)
     }
 }
 
-// The step to column 1 of the next line, and "the mark on the line left": after the step, or a lift, that is the line above.
+// P9: "the next printed character first steps to the next line", where the cursor waits.
+pub(crate) fn awaited(
+    frame: Frame,
+    place: Place,
+    cells: &mut [u8],
+    layer: &mut [u8],
+    marks: &mut [u8],
+) -> Place
+    requires { ⌜ Ready frame place (now cells) (now layer) ⌝ }
+    requires { ⌜ length (now marks) ≡ 96 ⌝ }
+    ensures { λ r. ⌜ ActsWith awaited frame place r (now (cells .entry)) (now (layer .entry)) (now (marks .entry)) (now (cells .exit)) (now (layer .exit)) (now (marks .exit)) ⌝ }
+{
+    if place.waiting == 1 {
+        onward(frame, place, cells, layer, marks)
+    } else {
+        place
+    }
+}
+
+// The step to column 1 of the next line, the one step of both rules, and "the mark on the line left": after the step, or a lift, that is
+// the line above.
 fn onward(frame: Frame, place: Place, cells: &mut [u8], layer: &mut [u8], marks: &mut [u8]) -> Place
     requires { ⌜ Ready frame place (now cells) (now layer) ⌝ }
     requires { ⌜ length (now marks) ≡ 96 ⌝ }

@@ -21,14 +21,14 @@ ghost use Rattle.model.specs.Checks.{InRanges};
 ghost use Rattle.model.specs.Judging.{ranges, legal?};
 ghost use Rattle.model.specs.State.{State, putAt};
 ghost use Rattle.model.specs.Screens.{here};
-ghost use Rattle.model.specs.Rules.{printed, control, placed, trackedFar};
+ghost use Rattle.model.specs.Rules.{printed, control, placed, right, stored, tracked, trackedFar};
 ghost use Rattle.screen.specs.Frame.{Stands, LayerOf, Ready, FrameOf, limitsIn};
 ghost use Rattle.screen.specs.Acts.{ActsAbove, ActsWith};
 ghost use Rattle.model.specs.OnScreen.{onScreen?};
 ghost use Rattle.screen.specs.Obeys.{Obeys};
 
 // Of the selected screen: its first cell, its first mark, its lines and columns; the rows of the shown screen that show text and the window's height H; by
-// how many columns the picture shows it further right (mode 2, screen 2); the step of the window, and whether it tracks the cursor.
+// how many columns the picture shows it further right (mode 2, screen 2); the step of the window, whether it tracks the cursor, and the rule of the last column.
 // `bare` is no setting: it says that the layer is known to be empty, so that it need not be emptied again.
 pub struct Frame {
     pub base: usize,
@@ -40,6 +40,7 @@ pub struct Frame {
     pub shift: u8,
     pub step: u8,
     pub tracking: u8,
+    pub rule: u8,
     pub bare: bool,
 }
 
@@ -59,6 +60,7 @@ pub fn frame_of(settings: Settings, bare: bool) -> Frame
             shift: 0,
             step: settings.step,
             tracking: settings.tracking,
+            rule: settings.rule,
             bare,
         }
     } else {
@@ -72,12 +74,13 @@ pub fn frame_of(settings: Settings, bare: bool) -> Frame
             shift: shift_of(settings.mode, settings.columns1),
             step: settings.step,
             tracking: settings.tracking,
+            rule: settings.rule,
             bare,
         }
     }
 }
 
-// A printed byte, and ESC 37: it is stored, and the cursor moves right.
+// A printed byte, and ESC 37: where the cursor waits, the step comes first.
 pub fn print(
     frame: Frame,
     place: Place,
@@ -89,6 +92,23 @@ pub fn print(
     requires { ⌜ Ready frame place (now cells) (now layer) ⌝ }
     requires { ⌜ length (now marks) ≡ 96 ⌝ }
     ensures { λ r. ⌜ ActsWith (printed code) frame place r (now (cells .entry)) (now (layer .entry)) (now (marks .entry)) (now (cells .exit)) (now (layer .exit)) (now (marks .exit)) ⌝ }
+{
+    let first = cursor::awaited(frame, place, cells, layer, marks);
+    print_here(frame, first, code, cells, layer, marks)
+}
+
+// The rest of it: the byte is stored where the cursor now stands, and the cursor moves right.
+fn print_here(
+    frame: Frame,
+    place: Place,
+    code: u8,
+    cells: &mut [u8],
+    layer: &mut [u8],
+    marks: &mut [u8],
+) -> Place
+    requires { ⌜ Ready frame place (now cells) (now layer) ⌝ }
+    requires { ⌜ length (now marks) ≡ 96 ⌝ }
+    ensures { λ r. ⌜ ActsWith (λ (st : State). tracked (right (stored code st))) frame place r (now (cells .entry)) (now (layer .entry)) (now (marks .entry)) (now (cells .exit)) (now (layer .exit)) (now (marks .exit)) ⌝ }
 {
     cursor::store(frame, place, code, cells, layer);
     let next = cursor::right(frame, place, cells, layer, marks);

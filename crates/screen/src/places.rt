@@ -1,9 +1,9 @@
 // A place of the selected screen made from another: the only functions that name every field of it.
 use model::Place;
 ghost use mathlib.Core.Path.{_≡_};
-ghost use Rattle.model.specs.State.{home, putAt, topAt};
+ghost use Rattle.model.specs.State.{home, putAt, topAt, waitAt};
 
-// The cursor elsewhere.
+// The cursor elsewhere, or put where it stands: it no longer waits.
 pub(crate) fn put_at(place: Place, line: u8, column: u8) -> Place
     ensures { λ r. ⌜ r ≡ putAt line column place ⌝ }
 {
@@ -11,6 +11,7 @@ pub(crate) fn put_at(place: Place, line: u8, column: u8) -> Place
         line: line,
         column: column,
         top: place.top,
+        waiting: 0,
     }
 }
 
@@ -22,6 +23,19 @@ pub(crate) fn top_at(place: Place, top: u8) -> Place
         line: place.line,
         column: place.column,
         top: top,
+        waiting: place.waiting,
+    }
+}
+
+// P9: "sets the screen's waiting flag".
+pub(crate) fn wait_at(place: Place) -> Place
+    ensures { λ r. ⌜ r ≡ waitAt place ⌝ }
+{
+    Place {
+        line: place.line,
+        column: place.column,
+        top: place.top,
+        waiting: 1,
     }
 }
 
@@ -33,5 +47,6 @@ pub(crate) fn home_place() -> Place
         line: 1,
         column: 1,
         top: 1,
+        waiting: 0,
     }
 }

@@ -13,7 +13,7 @@ use crate::least;
 use crate::lines;
 use crate::marks;
 use crate::places;
-use crate::print;
+use crate::print_here;
 use crate::wide;
 use crate::window;
 use model::Place;
@@ -70,7 +70,7 @@ fn run_end(message: &[u8], at: usize) -> usize
     i
 }
 
-// Bytes that stay in the cursor's line, while the window does not move: they are copied, and the places that show them emptied.
+// Bytes that stay in the cursor's line, at least one, while the window does not move: they are copied, and the places that show them emptied.
 fn print_chunk(
     frame: Frame,
     place: Place,
@@ -82,7 +82,7 @@ fn print_chunk(
 ) -> Place
     requires { ⌜ Ready frame place (now cells) (now layer) ⌝ }
     requires { ⌜ Reads lost frame place false ⌝ }
-    requires { ⌜ (place .column + count ≤ frame .columns) × (at + count ≤ length (now message)) ⌝ }
+    requires { ⌜ (1 ≤ count) × ((place .column + count ≤ frame .columns) × (at + count ≤ length (now message))) ⌝ }
     ensures { λ r. ⌜ Acts (printedAll (take count (drop at (now (message .entry))))) frame place r (now (cells .entry)) (now (layer .entry)) (now (cells .exit)) (now (layer .exit)) ⌝ }
 {
     let from = lines::cell(frame, place);
@@ -92,7 +92,7 @@ fn print_chunk(
 }
 
 // The bytes up to `end` as far as they stay in the cursor's line short of its last column, or one byte where the cursor or the
-// window is about to leave.
+// window is about to leave. A step that waited comes before either.
 fn print_part(
     frame: Frame,
     place: Place,
@@ -108,15 +108,16 @@ fn print_part(
     requires { ⌜ (at < end) × (end ≤ length (now message)) ⌝ }
     ensures { λ r. ⌜ Part (now (message .entry)) at end frame place r (now (cells .entry)) (now (layer .entry)) (now (marks .entry)) (now (cells .exit)) (now (layer .exit)) (now (marks .exit)) ⌝ }
 {
-    let count = least(end - at, wide(frame.columns - place.column));
-    if (count < 1) | window::misses(frame, place) {
-        let next = print(frame, place, message[at], cells, layer, marks);
+    let first = cursor::awaited(frame, place, cells, layer, marks);
+    let count = least(end - at, wide(frame.columns - first.column));
+    if (count < 1) | window::misses(frame, first) {
+        let next = print_here(frame, first, message[at], cells, layer, marks);
         Run {
             place: next,
             at: at + 1,
         }
     } else {
-        let next = print_chunk(frame, place, message, at, count, cells, layer);
+        let next = print_chunk(frame, first, message, at, count, cells, layer);
         Run {
             place: next,
             at: at + count,

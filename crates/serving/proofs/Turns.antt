@@ -80,7 +80,7 @@ away (Refused n p) h = refl
 
 -- a frame that says otherwise of the layer
 abbrev bared : Frame → Bool → Frame
-bared f b = record { base = f .base; first = f .first; lines = f .lines; columns = f .columns; rows = f .rows; height = f .height; shift = f .shift; step = f .step; tracking = f .tracking; bare = b }
+bared f b = record { base = f .base; first = f .first; lines = f .lines; columns = f .columns; rows = f .rows; height = f .height; shift = f .shift; step = f .step; tracking = f .tracking; rule = f .rule; bare = b }
 
 framed-bared : {s : Settings} {f : Frame} (b : Bool) → Framed s f → Framed s (bared f b)
 framed-bared b e = record {
@@ -95,6 +95,7 @@ framed-bared b e = record {
   shift-is = e .shift-is;
   step-is = e .step-is;
   tracking-is = e .tracking-is;
+  rule-is = e .rule-is;
 }
 
 ready-bared : {f : Frame} {p : Place} {c l : List ℕ} (b : Bool) → Ready f p c l → (b ≡ true → l ≡ replicate 1280 0) → Ready (bared f b) p c l

@@ -1,5 +1,6 @@
 // 208: "An accepted 208 blanks all cells, empties the layer, puts cursors and tops at 1, selects screen 1, sets step 1 and
-// tracking on. Other settings stay, save the boundary in mode 2." P5: it clears all marks.
+// tracking on. Other settings stay, save the boundary in mode 2." P5: it clears all marks; P9: and both
+// waiting flags, and keeps the rule.
 ghost use mathlib.Core.Path.{_≡_};
 ghost use Prim.Native.Nat.{_-_, _≤_};
 ghost use Rattle.model.specs.State.{state, withMode};
@@ -78,6 +79,7 @@ fn set(
         line: 1,
         column: 1,
         top: 1,
+        waiting: 0,
     };
     let places = [home, home];
     let marks = [0u8; 96];

@@ -14,7 +14,7 @@ fn main() {
     let mut layer = [0u8; LAYER];
     let mut shown = [0u8; SHOWN];
     let mut printer = [0u8; COPY];
-    let opened = terminal::opening(&mut cells, &mut layer, &mut shown);
+    let opened = terminal::opening(1, &mut cells, &mut layer, &mut shown);
     let settings = opened.settings;
     let outcome = terminal::message(
         settings,

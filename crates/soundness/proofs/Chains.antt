@@ -14,10 +14,7 @@ use Rattle.model.specs.Screens.{columnsOf, height, linesOf, placeOf}
 use Rattle.model.specs.State.{nowhere}
 use Rattle.model.proofs.Keep.{height-low}
 use Rattle.model.specs.Line.{line?}
-use Rattle.model.specs.Sound.{arrayRanges, charsets, inside?, insideRanges, keyRanges, marks?, otherRanges, plainRanges, shapeRanges, shifts, sound?}
-
-pub three : (a b c d e f : Bool) → (a && b && c && d && e && f) ≡ ((a && b) && ((c && d) && ((e && f) && true)))
-three a b c d e f = simp (and-assoc, and-true)
+use Rattle.model.specs.Sound.{arrayRanges, charsets, inside?, insideRanges, keyRanges, marks?, mostWait, otherRanges, plainRanges, shapeRanges, shifts, sound?}
 
 pub four : (a b c d e f g h : Bool) → (a && b && c && d && e && f && g && h) ≡ ((a && b) && ((c && d) && ((e && f) && ((g && h) && true))))
 four a b c d e f g h = simp (and-assoc, and-true)
@@ -31,9 +28,9 @@ pub keys : (a b c d e f g h s i j k l m n o p t : Bool)
     ≡ ((a && b) && ((c && d) && ((e && f) && ((g && h) && (s && ((i && j) && ((k && l) && ((m && n) && ((o && p) && (t && true))))))))))
 keys a b c d e f g h s i j k l m n o p t = simp (and-assoc, and-true)
 
--- four ranges, and what is behind them
-plain : (a b c d e f g h k : Bool) → (a && b && c && d && e && f && g && h && k) ≡ ((a && b) && ((c && d) && ((e && f) && ((g && h) && k))))
-plain a b c d e f g h k = simp and-assoc
+-- five ranges, and what is behind them
+plain : (a b c d e f g h i j k : Bool) → (a && b && c && d && e && f && g && h && i && j && k) ≡ ((a && b) && ((c && d) && ((e && f) && ((g && h) && ((i && j) && k)))))
+plain a b c d e f g h i j k = simp and-assoc
 
 -- the parts of the whole test, in the order in which they are asked and in that of the rules
 turn : (x y u v k l n : Bool) → (x && (((y && (u && v)) && k && n) && l)) ≡ (true && (x && (y && (k && (u && (v && (l && n)))))))
@@ -60,12 +57,13 @@ module _ (l1 l2 c1 c2 : ℕ) where
   unfolding inRanges? passes
   mode-2 m beside = five (leb 2 m) (leb m 2) (leb 1 c1) (leb c1 78) (leb beside c2) (leb c2 beside) (leb 8 l1) (leb l1 48) (leb l1 l2) (leb l2 l1)
 
-pub window : (lines columns less : ℕ) (p : Place)
-    → (leb 1 (p .line) && leb (p .line) lines && leb 1 (p .column) && leb (p .column) columns && leb 1 (p .top) && leb (p .top) (lines - less)) ≡ inRanges? (insideRanges lines columns (less + 1) p)
+pub window : (rule lines columns less : ℕ) (p : Place)
+    → (leb 1 (p .line) && leb (p .line) lines && leb 1 (p .column) && leb (p .column) columns && leb 1 (p .top) && leb (p .top) (lines - less) && leb 0 (p .waiting) && leb (p .waiting) (mostWait rule columns (p .column)))
+    ≡ inRanges? (insideRanges rule lines columns (less + 1) p)
 unfolding inRanges? passes insideRanges
-window lines columns less p =
+window rule lines columns less p =
     let e : lines + 1 - (less + 1) ≡ lines - less = omega arith in
-    rw e (three (leb 1 (p .line)) (leb (p .line) lines) (leb 1 (p .column)) (leb (p .column) columns) (leb 1 (p .top)) (leb (p .top) (lines - less)))
+    rw e (four (leb 1 (p .line)) (leb (p .line) lines) (leb 1 (p .column)) (leb (p .column) columns) (leb 1 (p .top)) (leb (p .top) (lines - less)) (leb 0 (p .waiting)) (leb (p .waiting) (mostWait rule columns (p .column))))
 
 pub stored : (kind : ℕ) (k : Keys) (s t : Bool) → s ≡ member (k .charset) charsets → t ≡ member (k .shift) shifts
     → (leb 0 kind && leb kind 3 && leb 0 (getD (k .leds) 0 0) && leb (getD (k .leds) 0 0) 1 && leb 0 (getD (k .leds) 1 0) && leb (getD (k .leds) 1 0) 1 && leb 0 (getD (k .leds) 2 0) && leb (getD (k .leds) 2 0) 1 && s
@@ -77,10 +75,10 @@ stored kind k s t e f =
     (leb 0 (k .strings)) (leb (k .strings) 1) (leb 0 (k .repeat)) (leb (k .repeat) 1) (leb 1 (k .delay)) (leb (k .delay) 127) (leb 1 (k .interval)) (leb (k .interval) 127) t)
 
 pub plain-of : (s : Settings) (k : Bool) → k ≡ inRanges? (keyRanges (s .kind) (s .keys))
-    → (leb 0 (s .tracking) && leb (s .tracking) 1 && leb 0 (s .secret) && leb (s .secret) 1 && leb 0 (s .cursor) && leb (s .cursor) 1 && leb 0 (s .display) && leb (s .display) 1 && k) ≡ inRanges? (plainRanges s)
+    → (leb 0 (s .tracking) && leb (s .tracking) 1 && leb 0 (s .secret) && leb (s .secret) 1 && leb 0 (s .cursor) && leb (s .cursor) 1 && leb 0 (s .display) && leb (s .display) 1 && leb 1 (s .rule) && leb (s .rule) 2 && k) ≡ inRanges? (plainRanges s)
 unfolding plainRanges inRanges? passes
 plain-of s k e =
-    rw (← e) (plain (leb 0 (s .tracking)) (leb (s .tracking) 1) (leb 0 (s .secret)) (leb (s .secret) 1) (leb 0 (s .cursor)) (leb (s .cursor) 1) (leb 0 (s .display)) (leb (s .display) 1) k)
+    rw (← e) (plain (leb 0 (s .tracking)) (leb (s .tracking) 1) (leb 0 (s .secret)) (leb (s .secret) 1) (leb 0 (s .cursor)) (leb (s .cursor) 1) (leb 0 (s .display)) (leb (s .display) 1) (leb 1 (s .rule)) (leb (s .rule) 2) k)
 
 -- the whole test by its parts
 module _ (s : Settings) where
@@ -120,10 +118,10 @@ module _ (s : Settings) (h : ℕ) (e : h ≡ height s) where
   pub step-of : inRanges? (otherRanges (s .selected) (s .step) h) ≡ inRanges? (otherRanges (s .selected) (s .step) (height s))
   step-of = ap (λ (n : ℕ). inRanges? (otherRanges (s .selected) (s .step) n)) e
 
-  pub first-of : inRanges? (insideRanges (s .lines1) (s .columns1) (h - 1 + 1) (getD (s .places) 0 nowhere)) ≡ inside? s 0
+  pub first-of : inRanges? (insideRanges (s .rule) (s .lines1) (s .columns1) (h - 1 + 1) (getD (s .places) 0 nowhere)) ≡ inside? s 0
   unfolding inside? linesOf columnsOf placeOf
-  first-of = ap (λ (n : ℕ). inRanges? (insideRanges (s .lines1) (s .columns1) n (getD (s .places) 0 nowhere))) tall
+  first-of = ap (λ (n : ℕ). inRanges? (insideRanges (s .rule) (s .lines1) (s .columns1) n (getD (s .places) 0 nowhere))) tall
 
-  pub second-of : inRanges? (insideRanges (s .lines2) (s .columns2) (h - 1 + 1) (getD (s .places) 1 nowhere)) ≡ inside? s 1
+  pub second-of : inRanges? (insideRanges (s .rule) (s .lines2) (s .columns2) (h - 1 + 1) (getD (s .places) 1 nowhere)) ≡ inside? s 1
   unfolding inside? linesOf columnsOf placeOf
-  second-of = ap (λ (n : ℕ). inRanges? (insideRanges (s .lines2) (s .columns2) n (getD (s .places) 1 nowhere))) tall
+  second-of = ap (λ (n : ℕ). inRanges? (insideRanges (s .rule) (s .lines2) (s .columns2) n (getD (s .places) 1 nowhere))) tall

@@ -7,7 +7,7 @@ ghost use Prim.Native.Nat.{_+_, _-_, _≤_, ℕ};
 ghost use Rattle.model.specs.Checks.{inRanges?};
 ghost use Rattle.model.specs.Screens.{height};
 ghost use Rattle.model.specs.Marks.{marked?, mostMark};
-ghost use Rattle.model.specs.Sound.{arrayRanges, inside?, insideRanges, keyRanges, marks?, otherRanges, plainRanges, shapeRanges, sound?};
+ghost use Rattle.model.specs.Sound.{arrayRanges, inside?, insideRanges, keyRanges, marks?, mostWait, otherRanges, plainRanges, shapeRanges, sound?};
 use model::Keys;
 use model::Place;
 use model::Settings;
@@ -57,17 +57,31 @@ fn shape(mode: u8, lines1: u8, lines2: u8, columns1: u8, columns2: u8) -> bool
         & (lines2 <= lines1)
 }
 
-// a cursor and a window in lines of columns; `less` is H less one
-fn inside(lines: u8, columns: u8, less: u8, p: Place) -> bool
-    ensures { λ r. ⌜ r ≡ inRanges? (insideRanges lines columns (less + 1) p) ⌝ }
+// P9, the greatest flag of a cursor in a column: "the flag is sound only in the last column under rule 2"
+fn most_wait(rule: u8, columns: u8, column: u8) -> u8
+    ensures { λ r. ⌜ r ≡ mostWait rule columns column ⌝ }
+{
+    if (rule == 2) & (column == columns) {
+        1
+    } else {
+        0
+    }
+}
+
+// a cursor with its flag and a window in lines of columns; `less` is H less one
+fn inside(rule: u8, lines: u8, columns: u8, less: u8, p: Place) -> bool
+    ensures { λ r. ⌜ r ≡ inRanges? (insideRanges rule lines columns (less + 1) p) ⌝ }
 {
     let top = minus(lines, less);
+    let most = most_wait(rule, columns, p.column);
     (1 <= p.line)
         & (p.line <= lines)
         & (1 <= p.column)
         & (p.column <= columns)
         & (1 <= p.top)
         & (p.top <= top)
+        & (0 <= p.waiting)
+        & (p.waiting <= most)
 }
 
 // selection and step
@@ -128,8 +142,20 @@ pub fn placed(settings: Settings) -> bool
     let first = settings.places[0];
     let second = settings.places[1];
     let other = chosen(settings.selected, settings.step, height);
-    let one = inside(settings.lines1, settings.columns1, less, first);
-    let two = inside(settings.lines2, settings.columns2, less, second);
+    let one = inside(
+        settings.rule,
+        settings.lines1,
+        settings.columns1,
+        less,
+        first,
+    );
+    let two = inside(
+        settings.rule,
+        settings.lines2,
+        settings.columns2,
+        less,
+        second,
+    );
     other & (one & two)
 }
 
@@ -147,6 +173,8 @@ pub fn stored(settings: Settings) -> bool
         & (settings.cursor <= 1)
         & (0 <= settings.display)
         & (settings.display <= 1)
+        & (1 <= settings.rule)
+        & (settings.rule <= 2)
         & ranged
 }
 

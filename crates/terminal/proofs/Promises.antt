@@ -1,7 +1,8 @@
--- The opening's promise: from stores that were filled, or from stores left as they came.
-use mathlib.Core.Path.{_∙_, _≡_, ap}
-use Prim.Native.Nat.{ℕ}
-use mathlib.Core.Bool.{Bool, _&&_, cond, false, true}
+-- The opening's number, and its promise: from stores that were filled, or from stores left as they came.
+use mathlib.Core.Path.{_∙_, _≡_, ap, refl, sym}
+use Prim.Native.Nat.{_<_, ℕ}
+use native.Mathlib.Omega.{arith}
+use mathlib.Core.Bool.{Bool, _&&_, _||_, cond, false, true}
 use mathlib.Core.List.{List}
 use lib.ListN.{length, replicate}
 use lib.Dec.{eqb}
@@ -9,8 +10,8 @@ use borrow.Author.Tests.{eqb-true}
 use Rattle.model.specs.declared.Settings.{Settings}
 use Rattle.model.specs.State.{openedSettings}
 use Rattle.model.specs.Calls.{Terminal, sized}
-use Rattle.model.specs.Opening.{OpeningPromised, openedBy, openedTerminal, openingNumber, unopened}
-use Rattle.model.proofs.Tests.{and-left, and-right}
+use Rattle.model.specs.Opening.{OpeningPromised, openedBy, openingNumber, ruled, unopened}
+use Rattle.model.proofs.Tests.{and-left, and-right, differ}
 
 -- the sizes that number 1 is about
 pub sizes : (t : Terminal) → sized t ≡ true → (length (t .state .cells) ≡ 3840) × (length (t .state .layer) ≡ 1280) × (length (t .shown) ≡ 640)
@@ -21,26 +22,82 @@ sizes t e =
     let s : Bool = eqb (length (t .shown)) 640 in
     (eqb-true _ _ (and-left c (l && s) e), eqb-true _ _ (and-left l s (and-right c (l && s) e)), eqb-true _ _ (and-right l s (and-right c (l && s) e)))
 
-module _ (cells layer shown : List ℕ) (s : Settings) (cells′ layer′ shown′ : List ℕ) (e : s ≡ openedSettings) where
+-- a rule's number fits a byte
+few : (rule : ℕ) → ruled rule ≡ true → rule < 256
+unfolding ruled
+few rule = go (eqb rule 1) (eqb rule 2) refl refl
+  where
+    go : (a b : Bool) → eqb rule 1 ≡ a → eqb rule 2 ≡ b → (a || b) ≡ true → rule < 256
+    go true b p q h = omega (arith, eqb-true rule 1 p)
+    go false true p q h = omega (arith, eqb-true rule 2 q)
+    go false false p q h = absurd (differ (sym h))
+
+module _ (rule : ℕ) (cells layer shown : List ℕ) where
   abbrev given : Terminal
   given = unopened cells layer shown
 
-  abbrev left : Bool → Terminal
-  left b = cond b openedTerminal given
+  -- the number by its two tests, the stores' first
+  pub no-number : (sized given && ruled rule) ≡ true → 0 ≡ openingNumber rule given
+  unfolding openingNumber
+  no-number = go (sized given) (ruled rule)
+    where
+      go : (a b : Bool) → (a && b) ≡ true → _≡_ {A = ℕ} 0 (cond a (cond b 0 23) 1)
+      go true true e = refl
+      go true false e = absurd (differ (sym e))
+      go false b e = absurd (differ (sym e))
 
-  pub filled : sized given ≡ true → cells′ ≡ replicate (length cells) 32 → layer′ ≡ replicate (length layer) 0 → shown′ ≡ replicate (length shown) 32
-      → OpeningPromised cells layer shown s 0 cells′ layer′ shown′
-  unfolding openedBy openingNumber
-  filled t c l p =
-      let z = sizes given t in
-      record {
-        number-is = rw t;
-        settings-are = e;
-        cells-are = rw t (c ∙ ap (λ (n : ℕ). replicate n 32) (z .0));
-        layer-is = rw t (l ∙ ap (λ (n : ℕ). replicate n 0) (z .1));
-        shown-is = rw t (p ∙ ap (λ (n : ℕ). replicate n 32) (z .2));
-      }
+  pub bad-rule : (sized given && ruled rule) ≡ false → sized given ≡ true → 23 ≡ openingNumber rule given
+  unfolding openingNumber
+  bad-rule = go (sized given) (ruled rule)
+    where
+      go : (a b : Bool) → (a && b) ≡ false → a ≡ true → _≡_ {A = ℕ} 23 (cond a (cond b 0 23) 1)
+      go true true e f = absurd (differ e)
+      go true false e f = refl
+      go false b e f = absurd (differ (sym f))
 
-  pub kept : sized given ≡ false → cells′ ≡ cells → layer′ ≡ layer → shown′ ≡ shown → OpeningPromised cells layer shown s 1 cells′ layer′ shown′
-  unfolding openedBy openingNumber
-  kept f c l p = record { number-is = rw f; settings-are = e; cells-are = rw f c; layer-is = rw f l; shown-is = rw f p }
+  pub bad-size : sized given ≡ false → 1 ≡ openingNumber rule given
+  unfolding openingNumber
+  bad-size e = ap (λ (a : Bool). cond a (cond (ruled rule) 0 23) 1) (sym e)
+
+  -- number 0: both hold; any other: one does not
+  both : openingNumber rule given ≡ 0 → (sized given ≡ true) × (ruled rule ≡ true)
+  unfolding openingNumber
+  both = go (sized given) (ruled rule)
+    where
+      go : (a b : Bool) → _≡_ {A = ℕ} (cond a (cond b 0 23) 1) 0 → (a ≡ true) × (b ≡ true)
+      go true true e = (refl, refl)
+      go true false e = absurd (omega (arith, e))
+      go false b e = absurd (omega (arith, e))
+
+  not-both : (openingNumber rule given ≡ 0 → ⊥) → (sized given && ruled rule) ≡ false
+  unfolding openingNumber
+  not-both = go (sized given) (ruled rule)
+    where
+      go : (a b : Bool) → (_≡_ {A = ℕ} (cond a (cond b 0 23) 1) 0 → ⊥) → (a && b) ≡ false
+      go true true e = absurd (e refl)
+      go true false e = refl
+      go false b e = refl
+
+  pub byte : openingNumber rule given ≡ 0 → rule < 256
+  byte e = few rule (both e .1)
+
+  module _ (s : Settings) (number : ℕ) (cells′ layer′ shown′ : List ℕ) (n : number ≡ openingNumber rule given) where
+    pub filled : number ≡ 0 → s ≡ openedSettings rule → cells′ ≡ replicate (length cells) 32 → layer′ ≡ replicate (length layer) 0 → shown′ ≡ replicate (length shown) 32
+        → OpeningPromised rule cells layer shown s number cells′ layer′ shown′
+    unfolding openedBy
+    filled o e c l p =
+        let t = both (sym n ∙ o) in
+        let z = sizes given (t .0) in
+        record {
+          number-is = n;
+          settings-are = rw (t .0, t .1) e;
+          cells-are = rw (t .0, t .1) (c ∙ ap (λ (k : ℕ). replicate k 32) (z .0));
+          layer-is = rw (t .0, t .1) (l ∙ ap (λ (k : ℕ). replicate k 0) (z .1));
+          shown-is = rw (t .0, t .1) (p ∙ ap (λ (k : ℕ). replicate k 32) (z .2));
+        }
+
+    pub kept : (number ≡ 0 → ⊥) → s ≡ openedSettings 1 → cells′ ≡ cells → layer′ ≡ layer → shown′ ≡ shown → OpeningPromised rule cells layer shown s number cells′ layer′ shown′
+    unfolding openedBy
+    kept o e c l p =
+        let f = not-both (λ k. o (n ∙ k)) in
+        record { number-is = n; settings-are = rw f e; cells-are = rw f c; layer-is = rw f l; shown-is = rw f p }

@@ -9,28 +9,25 @@ use model::Outcome;
 use model::Settings;
 use numbers::call_number;
 use numbers::key_number;
+use numbers::opening_number;
 use numbers::refusal;
-use numbers::stores_sized;
 use opened::opened_settings;
 
-// "It blanks (32) all cells and the shown screen, and zeroes the layer"; a store not of its size is 1, and nothing is altered
-pub fn opening(cells: &mut [u8], layer: &mut [u8], shown: &mut [u8]) -> Opened
-    ensures { λ r. ⌜ OpeningPromised (now (cells .entry)) (now (layer .entry)) (now (shown .entry)) (r .settings) (r .number) (now (cells .exit)) (now (layer .exit)) (now (shown .exit)) ⌝ }
+// "It blanks (32) all cells and the shown screen, and zeroes the layer"; P9: it "takes the rule". Or it is refused by 1 or 23, and nothing is
+// altered. The rule is as wide as a length: one of 257 is none.
+pub fn opening(rule: usize, cells: &mut [u8], layer: &mut [u8], shown: &mut [u8]) -> Opened
+    ensures { λ r. ⌜ OpeningPromised rule (now (cells .entry)) (now (layer .entry)) (now (shown .entry)) (r .settings) (r .number) (now (cells .exit)) (now (layer .exit)) (now (shown .exit)) ⌝ }
 {
-    let settings = opened_settings();
-    if stores_sized(cells, layer, shown) {
+    let number = opening_number(rule, cells, layer, shown);
+    if number == 0 {
         store::fill(cells, 32);
         store::fill(layer, 0);
         store::fill(shown, 32);
-        return Opened {
-            settings,
-            number: 0,
-        };
+        let settings = opened_settings(rule as u8);
+        return Opened { settings, number };
     }
-    Opened {
-        settings,
-        number: 1,
-    }
+    let settings = opened_settings(1);
+    Opened { settings, number }
 }
 
 // The message call: every item of the message obeyed in turn, then all 640 places painted; or refused by 1, 2, 3 or 16, and nothing altered.

@@ -3,7 +3,7 @@ ghost use mathlib.Core.Path.{_≡_};
 ghost use mathlib.Core.List.{[]};
 ghost use Rattle.model.specs.Calls.{Asked, firstOf, keyable, reasons, sized, terminal};
 ghost use Rattle.model.specs.Items.{blankAnswer};
-ghost use Rattle.model.specs.Opening.{unopened};
+ghost use Rattle.model.specs.Opening.{openingNumber, ruled, unopened};
 use model::Answer;
 use model::CELLS;
 use model::LAYER;
@@ -16,6 +16,25 @@ pub fn stores_sized(cells: &[u8], layer: &[u8], shown: &[u8]) -> bool
     ensures { λ r. ⌜ r ≡ sized (unopened (now (cells .entry)) (now (layer .entry)) (now (shown .entry))) ⌝ }
 {
     (cells.len() == CELLS) & ((layer.len() == LAYER) & (shown.len() == SHOWN))
+}
+
+// P9: the rule numbers are 1 and 2
+fn ruled(rule: usize) -> bool
+    ensures { λ r. ⌜ r ≡ ruled rule ⌝ }
+{
+    (rule == 1) | (rule == 2)
+}
+
+// "Another rule number is 23, after 1": the number of an opening call
+pub(crate) fn opening_number(rule: usize, cells: &[u8], layer: &[u8], shown: &[u8]) -> u8
+    ensures { λ r. ⌜ r ≡ openingNumber rule (unopened (now (cells .entry)) (now (layer .entry)) (now (shown .entry))) ⌝ }
+{
+    let sized = stores_sized(cells, layer, shown);
+    let known = ruled(rule);
+    if sized & known {
+        return 0;
+    }
+    if sized { 23 } else { 1 }
 }
 
 // "Calls are checked in the order 1, 2, 3"; 16, "a whole message while bytes wait", is after 3: the number of a message call.

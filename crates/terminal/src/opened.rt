@@ -5,14 +5,15 @@ use model::Keys;
 use model::Place;
 use model::Settings;
 
-// "Opening settings"
-pub(crate) fn opened_settings() -> Settings
-    ensures { λ r. ⌜ r ≡ openedSettings ⌝ }
+// "Opening settings", with a rule of the last column (P9)
+pub(crate) fn opened_settings(rule: u8) -> Settings
+    ensures { λ r. ⌜ r ≡ openedSettings rule ⌝ }
 {
     let home = Place {
         line: 1,
         column: 1,
         top: 1,
+        waiting: 0,
     };
     let keys = Keys {
         leds: [0, 0, 0],
@@ -47,5 +48,6 @@ pub(crate) fn opened_settings() -> Settings
         count: 0,
         texts: [32u8; 80],
         marks: [0u8; 96],
+        rule,
     }
 }

@@ -21,7 +21,7 @@ pub record Row : Type 0 where
 
 -- the opening's settings with another key repeat: on or off, delay, interval
 abbrev pub repeating : ℕ → ℕ → ℕ → Settings
-repeating on delay interval = withStored openedSettings 0 (repeatWith openedKeys on delay interval 0 (openedKeys .arrows)) (openedSettings .patterns)
+repeating on delay interval = withStored (openedSettings 1) 0 (repeatWith openedKeys on delay interval 0 (openedKeys .arrows)) (openedSettings 1 .patterns)
 
 -- a record: kind, tick, key
 abbrev pub stroke : ℕ → ℕ → ℕ → List ℕ
@@ -29,7 +29,7 @@ stroke kind tick key = 5 ∷ 0 ∷ kind ∷ 0 ∷ (bytesOf 4 tick ++ (key ∷ []
 
 -- under the opening's settings
 abbrev pub row : List ℕ → ℕ → ℕ → List ℕ → Row
-row trace room number ticks = record { settings = openedSettings; trace = trace; room = room; number = number; ticks = ticks }
+row trace room number ticks = record { settings = openedSettings 1; trace = trace; room = room; number = number; ticks = ticks }
 
 -- under others
 abbrev pub under : Settings → List ℕ → ℕ → ℕ → List ℕ → Row
@@ -85,4 +85,4 @@ rows =
 
 -- a key held for 1,000 ticks: 56 codes
 unfoldable pub held : ℕ
-held = length (listed openedSettings (stroke 1 0 65 ++ stroke 2 1000 66) 65535)
+held = length (listed (openedSettings 1) (stroke 1 0 65 ++ stroke 2 1000 66) 65535)

@@ -52,7 +52,7 @@ impl Calls for Board {
     type Settings = px8::Settings;
 
     fn opening(cells: &mut [u8], layer: &mut [u8], shown: &mut [u8]) -> px8::Settings {
-        px8::opening(cells, layer, shown).0
+        px8::opening(1, cells, layer, shown).0
     }
 
     fn message(
@@ -96,7 +96,7 @@ impl Calls for Plain {
     type Settings = tuned::Settings;
 
     fn opening(cells: &mut [u8], layer: &mut [u8], shown: &mut [u8]) -> tuned::Settings {
-        tuned::opening(cells, layer, shown).0
+        tuned::opening(1, cells, layer, shown).0
     }
 
     fn message(

@@ -45,8 +45,8 @@ pub fn bench(word: &str) {
 
 fn measure(case: &Case) -> [f64; 2] {
     let (mut cells, mut layer, mut shown) = ([0; px8::CELLS], [0; px8::LAYER], [0; px8::SHOWN]);
-    let mut given = px8::opening(&mut cells, &mut layer, &mut shown).0;
-    let mut plain_given = tuned::opening(&mut cells, &mut layer, &mut shown).0;
+    let mut given = px8::opening(1, &mut cells, &mut layer, &mut shown).0;
+    let mut plain_given = tuned::opening(1, &mut cells, &mut layer, &mut shown).0;
     given.keys.interval = 1;
     plain_given.keys.interval = 1;
     let ours = |output: &mut [u8]| {

@@ -6,6 +6,7 @@ mod before;
 mod ends;
 mod items;
 mod keyline;
+mod late;
 mod lines;
 mod list;
 mod parameters;
@@ -13,10 +14,12 @@ mod streams;
 
 use self::before::Before;
 use self::keyline::KeyLine;
+use self::late::Late;
 use self::lines::Lines;
 use self::list::{CLASSES, JUDGED};
 use self::parameters::Parameters;
 use self::streams::Streams;
+use crate::generate::late::RULE_FAULTS;
 use crate::generate::lines::MARK_FAULTS;
 use crate::generate::sequences::SECONDS;
 use crate::generate::streams::STREAM_FAULTS;
@@ -41,6 +44,7 @@ pub struct Coverage {
     streams: Streams,
     key_line: KeyLine,
     lines: Lines,
+    late: Late,
     cells: Vec<u8>,
     layer: Vec<u8>,
 }
@@ -59,6 +63,7 @@ impl Coverage {
                 .map(|&(name, _)| name)
                 .chain(STREAM_FAULTS)
                 .chain(MARK_FAULTS)
+                .chain(RULE_FAULTS)
                 .map(|name| (name, 0))
                 .collect(),
             parameters: Parameters::new(),
@@ -96,8 +101,14 @@ impl Coverage {
         }
     }
 
-    pub fn opening(&mut self, sizes: [usize; 3], number: u8) {
-        self.count(if number == 0 { "opening 0" } else { "opening 1" });
+    pub fn opening(&mut self, rule: usize, sizes: [usize; 3], number: u8) {
+        self.count(match (number, rule) {
+            (0, 1) => "opening 0 by rule 1",
+            (0, _) => "opening 0 by rule 2",
+            (1, _) => "opening 1",
+            _ => "opening 23",
+        });
+        self.count_if(number == 1 && !(1..=2).contains(&rule), "order: opening 1 with 23");
         self.count_sizes("opening", sizes);
     }
 
@@ -144,6 +155,8 @@ impl Coverage {
             Kind::Closing => self.count_sizes("closing", call.sizes),
             // it reads nothing
             Kind::KeyText(number) => return self.key_line.key_text(number, call, settings, answer),
+            // counted at the list's start
+            Kind::Opening(_) => return,
         }
         if answer.number == 0 {
             self.refusals(answer);
@@ -238,6 +251,7 @@ impl Coverage {
             } else {
                 self.item(&item, length, &before, &standing);
                 self.lines.item(&item, &before, &standing);
+                self.late.item(&item, &before, &standing);
             }
             offset += length;
         }
@@ -268,6 +282,7 @@ impl Coverage {
         let text = before.settings.mode == 0 && cells.iter().any(|&code| code != 32);
         self.count_if(second == 208 && text, "208 refused with text standing");
         self.lines.refused(second, before);
+        self.late.refused(before);
     }
 
     /// Every class with its count, in lines of words.
@@ -290,6 +305,7 @@ impl Coverage {
         lines.extend(self.streams.lines());
         lines.extend(self.key_line.lines());
         lines.extend(self.lines.lines());
+        lines.extend(self.late.lines());
         lines.extend(self.unsound.iter().map(|(name, &count)| (format!("unsound: {name}"), count)));
         lines.extend(self.sizes.iter().map(|(name, &count)| (format!("size: {name}"), count)));
         lines

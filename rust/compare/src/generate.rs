@@ -6,8 +6,10 @@
 //! - `streams`: pieces of a line, and what waits
 //! - `keyline`: key texts
 //! - `lines`: lines that run on
+//! - `late`: the late wrap
 
 mod keyline;
+pub mod late;
 pub mod lines;
 mod messages;
 pub mod sequences;
@@ -31,6 +33,8 @@ pub enum Kind {
     Closing,
     /// with the key's number
     KeyText(usize),
+    /// with the rule; a list has it only at its start
+    Opening(usize),
 }
 
 /// A call: settings of its own if it breaks some, sizes of its stores, the
@@ -49,7 +53,7 @@ pub fn call(random: &mut Random, settings: &Settings, line: &mut Vec<u8>) -> Cal
     let message = match kind {
         Kind::Message => message(random, settings),
         Kind::Piece => streams::piece(random, settings, line),
-        Kind::Closing => Vec::new(),
+        Kind::Closing | Kind::Opening(_) => Vec::new(),
         Kind::KeyText(_) => keyline::text(random),
     };
     // a message that is too long is more often refused for more than that

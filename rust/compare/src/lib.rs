@@ -32,7 +32,13 @@ use reference::{Answer, Settings};
 pub trait Terminal {
     fn name(&self) -> &str;
 
-    fn opening(&mut self, cells: &mut [u8], layer: &mut [u8], shown: &mut [u8]) -> (Settings, u8);
+    fn opening(
+        &mut self,
+        rule: usize,
+        cells: &mut [u8],
+        layer: &mut [u8],
+        shown: &mut [u8],
+    ) -> (Settings, u8);
 
     fn message(
         &mut self,
@@ -79,7 +85,7 @@ pub struct Functions {
     pub printed: for<'a> fn(&'a [u8], usize) -> &'a [u8],
 }
 
-pub type OpeningCall = fn(&mut [u8], &mut [u8], &mut [u8]) -> (Settings, u8);
+pub type OpeningCall = fn(usize, &mut [u8], &mut [u8], &mut [u8]) -> (Settings, u8);
 pub type MessageCall = fn(Settings, &[u8], &mut [u8], &mut [u8], &mut [u8], &mut [u8]) -> (Settings, Answer);
 
 pub type ClosingCall = fn(Settings, &mut [u8], &mut [u8], &mut [u8]) -> (Settings, Answer);
@@ -112,8 +118,14 @@ impl Terminal for Functions {
         self.name
     }
 
-    fn opening(&mut self, cells: &mut [u8], layer: &mut [u8], shown: &mut [u8]) -> (Settings, u8) {
-        (self.opening)(cells, layer, shown)
+    fn opening(
+        &mut self,
+        rule: usize,
+        cells: &mut [u8],
+        layer: &mut [u8],
+        shown: &mut [u8],
+    ) -> (Settings, u8) {
+        (self.opening)(rule, cells, layer, shown)
     }
 
     fn message(

@@ -49,8 +49,14 @@ impl Terminal for Guarded {
         self.0.name
     }
 
-    fn opening(&mut self, cells: &mut [u8], layer: &mut [u8], shown: &mut [u8]) -> (Settings, u8) {
-        self.0.opening(cells, layer, shown)
+    fn opening(
+        &mut self,
+        rule: usize,
+        cells: &mut [u8],
+        layer: &mut [u8],
+        shown: &mut [u8],
+    ) -> (Settings, u8) {
+        self.0.opening(rule, cells, layer, shown)
     }
 
     fn message(

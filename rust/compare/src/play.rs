@@ -1,6 +1,7 @@
 //! Plays the lists on two implementations and looks for a difference.
 
 use crate::coverage::Coverage;
+use crate::generate::late::no_rule;
 use crate::generate::{self, Call, Kind, SIZES};
 use crate::random::Random;
 use crate::Terminal;
@@ -121,22 +122,28 @@ impl Game<'_> {
         if random.one_in(2) {
             return Ok(());
         }
+        let rule = self.random.pick(&[1, 2]);
         if self.random.one_in(8) {
             let sizes = generate::wrong_sizes(&mut self.random);
-            self.opening_call(sizes)?;
+            let rule = if self.random.one_in(2) { no_rule(&mut self.random) } else { rule };
+            self.opening_call(rule, sizes)?;
         }
-        self.opening_call(SIZES)
+        if self.random.one_in(8) {
+            let rule = no_rule(&mut self.random);
+            self.opening_call(rule, SIZES)?;
+        }
+        self.opening_call(rule, SIZES)
     }
 
-    fn opening_call(&mut self, sizes: [usize; 3]) -> Found {
+    fn opening_call(&mut self, rule: usize, sizes: [usize; 3]) -> Found {
         self.calls += 1;
         let mut given = self.sides.clone().map(|side| resized(&side.stores, sizes));
         let [left, right] = &mut given;
-        let (settings, number) = opening(self.left, left);
-        let other = opening(self.right, right);
+        let (settings, number) = opening(self.left, rule, left);
+        let other = opening(self.right, rule, right);
         let fail = |what: &str| {
             let what = format!("opening: {what}");
-            Err(Box::new((what, Kind::Message, settings, 0, Vec::new())))
+            Err(Box::new((what, Kind::Opening(rule), settings, 0, Vec::new())))
         };
         if (settings, number) != other {
             return fail(&format!("settings or number {number} {}", other.1));
@@ -145,7 +152,7 @@ impl Game<'_> {
             return fail("stores");
         }
         if let Some(coverage) = &mut self.coverage {
-            coverage.opening(sizes, number);
+            coverage.opening(rule, sizes, number);
         }
         if number == 0 {
             self.sides = given.map(|stores| Side { settings, stores });
@@ -209,7 +216,7 @@ impl Game<'_> {
             self.sides[0].settings = after;
             self.sides[1].settings = after;
             match call.kind {
-                Kind::Message | Kind::KeyText(_) => {}
+                Kind::Message | Kind::KeyText(_) | Kind::Opening(_) => {}
                 Kind::Piece => drop(self.line.drain(..call.message.len())),
                 Kind::Closing => self.line.clear(),
             }
@@ -237,9 +244,9 @@ impl Game<'_> {
     }
 }
 
-fn opening(terminal: &mut dyn Terminal, stores: &mut [Vec<u8>; 3]) -> (Settings, u8) {
+fn opening(terminal: &mut dyn Terminal, rule: usize, stores: &mut [Vec<u8>; 3]) -> (Settings, u8) {
     let [cells, layer, shown] = stores;
-    terminal.opening(cells, layer, shown)
+    terminal.opening(rule, cells, layer, shown)
 }
 
 fn made(
@@ -255,6 +262,10 @@ fn made(
         Kind::Piece => terminal.piece(settings, &call.message, cells, layer, shown, printer),
         Kind::Closing => terminal.closing(settings, cells, layer, shown),
         Kind::KeyText(number) => terminal.key_text(settings, number, &call.message),
+        Kind::Opening(rule) => {
+            let (settings, number) = terminal.opening(rule, cells, layer, shown);
+            (settings, Answer { number, ..Answer::default() })
+        }
     }
 }
 

@@ -13,19 +13,23 @@
 //!   of just that room.
 //! - kind 3: a piece call, as a message call. Kind 4: a closing call, with an
 //!   empty body. Kind 5: a key text call; the body is the key's number, eight
-//!   bytes, little-endian, and the text. `vectors --every N` leaves out the
-//!   cases that have these.
+//!   bytes, little-endian, and the text. Kind 6: an opening call on the stores
+//!   as they stand; the body is the rule, eight bytes, little-endian, and what
+//!   it returns is used from then on. `vectors --every N` leaves out the cases
+//!   that have these.
 //!
 //! The text (`vectors`) has for each case, in order:
 //! - a line `case NAME`,
 //! - a line `K answer A taken T accepted C refused R first F at O printed P
-//!   parameter N` for each call, K from 1; for a key text only `K answer A`,
-//! - what stands after the last call: the settings' nine lines, the line of
+//!   parameter N` for each call, K from 1; for a key text and an opening only
+//!   `K answer A`,
+//! - what stands after the last call: the settings' ten lines, the line of
 //!   sums (Adler-32; printer: over the printer bytes of all calls of the
 //!   case) and the eight rows, as `replay` prints them.
 
 mod examples;
 mod keyline;
+mod late;
 mod layer;
 mod lines;
 mod parameters;
@@ -36,7 +40,7 @@ mod streams;
 
 use crate::generate::Kind;
 use crate::{Terminal, REFERENCE};
-use reference::text::{key_answer, numbered_answer, record, Session, MESSAGE, REPLAY_ROOM};
+use reference::text::{numbered_answer, record, short_answer, Session, MESSAGE, REPLAY_ROOM};
 use reference::Answer;
 
 pub const NEW_CASE: u16 = 0;
@@ -44,6 +48,7 @@ pub const PRINTER_ROOM: u16 = 2;
 pub const PIECE: u16 = 3;
 pub const CLOSING: u16 = 4;
 pub const KEY_TEXT: u16 = 5;
+pub const OPENING: u16 = 6;
 
 pub struct Case {
     pub name: String,
@@ -101,6 +106,7 @@ pub fn cases() -> Vec<Case> {
     streams::cases(&mut cases);
     keyline::cases(&mut cases);
     lines::cases(&mut cases);
+    late::cases(&mut cases);
     cases.0
 }
 
@@ -124,6 +130,7 @@ pub fn recording(cases: &[Case]) -> Vec<u8> {
                     let number = (*key as u64).to_le_bytes();
                     put(&mut bytes, KEY_TEXT, &[&number, &message[..]].concat());
                 }
+                Kind::Opening(rule) => put(&mut bytes, OPENING, &(*rule as u64).to_le_bytes()),
             }
         }
     }
@@ -156,12 +163,13 @@ pub fn play_on(terminal: &mut dyn Terminal, recording: &[u8]) -> Option<String> 
                 (session, room, number) = (Some(open_on(terminal)), REPLAY_ROOM, 0);
             }
             PRINTER_ROOM => room = u32::from_le_bytes(body.try_into().ok()?) as usize,
-            KEY_TEXT => {
+            KEY_TEXT | OPENING => {
                 number += 1;
-                let (key, words) = body.split_first_chunk()?;
-                let kind = Kind::KeyText(u64::from_le_bytes(*key) as usize);
+                let (eight, words) = body.split_first_chunk()?;
+                let given = u64::from_le_bytes(*eight) as usize;
+                let kind = if kind == OPENING { Kind::Opening(given) } else { Kind::KeyText(given) };
                 let answer = call_on(terminal, session.as_mut()?, kind, words, room);
-                text += &key_answer(number, &answer);
+                text += &short_answer(number, answer.number);
             }
             _ => {
                 let kind = match kind {
@@ -186,7 +194,7 @@ fn open_on(terminal: &mut dyn Terminal) -> Session {
     for store in [&mut *cells, &mut *layer, &mut *shown] {
         store.fill(1);
     }
-    session.settings = terminal.opening(cells, layer, shown).0;
+    session.settings = terminal.opening(1, cells, layer, shown).0;
     session
 }
 
@@ -204,6 +212,10 @@ fn call_on(
         Kind::Piece => terminal.piece(*settings, bytes, cells, layer, shown, &mut printer),
         Kind::Closing => terminal.closing(*settings, cells, layer, shown),
         Kind::KeyText(number) => terminal.key_text(*settings, number, bytes),
+        Kind::Opening(rule) => {
+            let (settings, number) = terminal.opening(rule, cells, layer, shown);
+            (settings, Answer { number, ..Answer::default() })
+        }
     };
     *settings = after;
     printed.extend_from_slice(terminal.printed(&printer, answer.printed));

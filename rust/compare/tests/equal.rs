@@ -71,7 +71,7 @@ fn tuned_equals_the_reference_on_the_named_cases() {
     for case in cases() {
         let mut sides = [REFERENCE, TUNED].map(|side| {
             let mut stores = (vec![1; 3840], vec![1; 1280], vec![1; 640]);
-            let settings = (side.opening)(&mut stores.0, &mut stores.1, &mut stores.2).0;
+            let settings = (side.opening)(1, &mut stores.0, &mut stores.1, &mut stores.2).0;
             (settings, stores)
         });
         for call in &case.calls {
@@ -94,6 +94,10 @@ fn play_one(terminal: &Functions, side: &mut Side, call: &(Kind, usize, Vec<u8>)
         Kind::Piece => (terminal.piece)(*settings, bytes, cells, layer, shown, &mut printer),
         Kind::Closing => (terminal.closing)(*settings, cells, layer, shown),
         Kind::KeyText(number) => (terminal.key_text)(*settings, *number, bytes),
+        Kind::Opening(rule) => {
+            let (settings, number) = (terminal.opening)(*rule, cells, layer, shown);
+            (settings, Answer { number, ..Answer::default() })
+        }
     };
     *settings = after;
     (answer, printer)

@@ -17,8 +17,14 @@ impl Terminal for Board {
         "board"
     }
 
-    fn opening(&mut self, cells: &mut [u8], layer: &mut [u8], shown: &mut [u8]) -> (Settings, u8) {
-        let (settings, number) = px8::opening(cells, layer, shown);
+    fn opening(
+        &mut self,
+        rule: usize,
+        cells: &mut [u8],
+        layer: &mut [u8],
+        shown: &mut [u8],
+    ) -> (Settings, u8) {
+        let (settings, number) = px8::opening(rule, cells, layer, shown);
         (settings_from_board(&settings), number)
     }
 
@@ -116,7 +122,7 @@ impl Repeats for Board {
 }
 
 pub fn settings_to_board(s: &Settings) -> px8::Settings {
-    let place = |p: Place| px8::Place { line: p.line, column: p.column, top: p.top };
+    let place = |p: Place| px8::Place { line: p.line, column: p.column, top: p.top, waiting: p.waiting };
     let keys = &s.keys;
     px8::Settings {
         mode: s.mode,
@@ -149,11 +155,12 @@ pub fn settings_to_board(s: &Settings) -> px8::Settings {
         count: s.count,
         texts: s.texts,
         marks: s.marks,
+        rule: s.rule,
     }
 }
 
 pub fn settings_from_board(s: &px8::Settings) -> Settings {
-    let place = |p: px8::Place| Place { line: p.line, column: p.column, top: p.top };
+    let place = |p: px8::Place| Place { line: p.line, column: p.column, top: p.top, waiting: p.waiting };
     let keys = &s.keys;
     Settings {
         mode: s.mode,
@@ -186,6 +193,7 @@ pub fn settings_from_board(s: &px8::Settings) -> Settings {
         count: s.count,
         texts: s.texts,
         marks: s.marks,
+        rule: s.rule,
     }
 }
 

@@ -47,7 +47,7 @@ fn settings_are_carried_over_whole() {
     for (at, byte) in settings.patterns.iter_mut().enumerate() {
         *byte = at as u8;
     }
-    settings.places[1].column = 77;
+    (settings.places[1].column, settings.places[1].waiting, settings.rule) = (77, 5, 6);
     settings.keys.arrows = [1, 2, 3, 4, 5, 6, 7, 8, 9, 10, 11, 12];
     settings.waiting = [21, 22, 23, 24, 25, 26, 27, 28, 29, 30, 31, 32];
     (settings.held, settings.count) = (33, 0x0102_0304);

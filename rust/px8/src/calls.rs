@@ -18,6 +18,7 @@ struct Opened {
 
 extern "C" {
     fn px8_opening(
+        rule: usize,
         cells: *mut u8,
         cells_length: usize,
         layer: *mut u8,
@@ -77,26 +78,30 @@ extern "C" {
     ) -> Repeats;
 }
 
-/// The opening call: the opening settings, and 0 or 1. Unless the stores are
-/// of their sizes it is refused with 1 and alters nothing.
+/// The opening call: the opening settings by rule 1 or 2, and 0. Unless the
+/// stores are of their sizes it is refused with 1, by another rule with 23;
+/// it then alters nothing, and returns the opening settings by rule 1.
 ///
 /// ```
 /// let (mut cells, mut layer, mut shown) = ([0; px8::CELLS], [1; px8::LAYER], [0; px8::SHOWN]);
-/// let (settings, number) = px8::opening(&mut cells, &mut layer, &mut shown);
+/// let (settings, number) = px8::opening(1, &mut cells, &mut layer, &mut shown);
 /// assert_eq!((number, settings.lines1, settings.keys.charset), (0, 24, b'U'));
 /// assert!(cells.iter().chain(&shown).all(|&code| code == 32));
 /// assert_eq!(layer, [0; px8::LAYER]);
 ///
 /// shown.fill(7);
-/// let (same, number) = px8::opening(&mut cells[1..], &mut layer, &mut shown);
+/// let (same, number) = px8::opening(2, &mut cells[1..], &mut layer, &mut shown);
 /// assert_eq!((same, number, shown), (settings, px8::STORE_SIZE, [7; px8::SHOWN]));
+/// let (same, number) = px8::opening(3, &mut cells, &mut layer, &mut shown);
+/// assert_eq!((same, number, shown), (settings, px8::BAD_RULE, [7; px8::SHOWN]));
 /// ```
 #[inline]
-pub fn opening(cells: &mut [u8], layer: &mut [u8], shown: &mut [u8]) -> (Settings, u8) {
+pub fn opening(rule: usize, cells: &mut [u8], layer: &mut [u8], shown: &mut [u8]) -> (Settings, u8) {
     // SAFETY: each pointer goes with its own length, and exclusive borrows do
     // not overlap. The call keeps no pointer.
     let opened = unsafe {
         px8_opening(
+            rule,
             cells.as_mut_ptr(),
             cells.len(),
             layer.as_mut_ptr(),
@@ -113,7 +118,7 @@ pub fn opening(cells: &mut [u8], layer: &mut [u8], shown: &mut [u8]) -> (Setting
 ///
 /// ```
 /// let (mut cells, mut layer, mut shown) = ([0; px8::CELLS], [0; px8::LAYER], [0; px8::SHOWN]);
-/// let (settings, _) = px8::opening(&mut cells, &mut layer, &mut shown);
+/// let (settings, _) = px8::opening(1, &mut cells, &mut layer, &mut shown);
 /// let (after, answer) =
 ///     px8::message(settings, &[65, 27, 27, 66], &mut cells, &mut layer, &mut shown, &mut []);
 /// assert_eq!(answer.to_string(), "answer 0 taken 4 accepted 0 refused 1 first 10 at 1");
@@ -156,7 +161,7 @@ pub fn message(
 ///
 /// ```
 /// let (mut cells, mut layer, mut shown) = ([0; px8::CELLS], [0; px8::LAYER], [0; px8::SHOWN]);
-/// let (settings, _) = px8::opening(&mut cells, &mut layer, &mut shown);
+/// let (settings, _) = px8::opening(1, &mut cells, &mut layer, &mut shown);
 /// let (after, answer) =
 ///     px8::piece(settings, &[65, 27], &mut cells, &mut layer, &mut shown, &mut []);
 /// assert_eq!((answer.taken, answer.refused, after.waiting()), (2, 0, &[27][..]));
@@ -200,7 +205,7 @@ pub fn piece(
 ///
 /// ```
 /// let (mut cells, mut layer, mut shown) = ([0; px8::CELLS], [0; px8::LAYER], [0; px8::SHOWN]);
-/// let (settings, _) = px8::opening(&mut cells, &mut layer, &mut shown);
+/// let (settings, _) = px8::opening(1, &mut cells, &mut layer, &mut shown);
 /// let (after, _) = px8::piece(settings, &[65, 27, 61], &mut cells, &mut layer, &mut shown, &mut []);
 /// let (after, answer) = px8::closing(after, &mut cells, &mut layer, &mut shown);
 /// assert_eq!(answer.to_string(), "answer 0 taken 0 accepted 0 refused 1 first 12 at 1");
@@ -295,8 +300,8 @@ mod tests {
     fn results_are_laid_out_as_in_the_header() {
         assert_eq!((size_of::<Outcome>(), align_of::<Outcome>()), (520, 8));
         assert_eq!((offset_of!(Outcome, settings), offset_of!(Outcome, answer)), (0, 488));
-        assert_eq!((size_of::<Opened>(), align_of::<Opened>()), (488, 4));
-        assert_eq!((offset_of!(Opened, settings), offset_of!(Opened, number)), (0, 484));
+        assert_eq!((size_of::<Opened>(), align_of::<Opened>()), (492, 4));
+        assert_eq!((offset_of!(Opened, settings), offset_of!(Opened, number)), (0, 488));
         assert_eq!((size_of::<Repeats>(), align_of::<Repeats>()), (16, 8));
         assert_eq!((offset_of!(Repeats, number), offset_of!(Repeats, count)), (0, 8));
     }

@@ -29,13 +29,35 @@ pub struct Reply {
 }
 
 impl Terminal {
-    /// A terminal as the opening call leaves it.
+    /// A terminal as the opening call by rule 1 leaves it.
     pub fn open() -> Terminal {
+        // the stores are of their sizes, and rule 1 is one
+        Terminal::open_with(1).expect("rule 1 is served")
+    }
+
+    /// A terminal as the opening call by this rule leaves it; or the number by
+    /// which the opening is refused, [`BAD_RULE`](crate::BAD_RULE). By rule 2 the
+    /// cursor waits in the last column until the next character is printed.
+    ///
+    /// ```
+    /// let mut terminal = px8::Terminal::open_with(2)?;
+    /// terminal.message(&[b'x'; 80]);
+    /// let place = terminal.settings().places[0];
+    /// assert_eq!((place.line, place.column, place.waiting), (1, 80, 1));
+    /// terminal.message(b"yz");
+    /// let place = terminal.settings().places[0];
+    /// assert_eq!((place.line, place.column, place.waiting), (2, 3, 0));
+    ///
+    /// assert_eq!(px8::Terminal::open_with(3), Err(px8::BAD_RULE));
+    /// # Ok::<(), u8>(())
+    /// ```
+    pub fn open_with(rule: usize) -> Result<Terminal, u8> {
         let (mut cells, mut layer, mut shown) = ([0; CELLS], [0; LAYER], [0; SHOWN]);
-        let (settings, number) = calls::opening(&mut cells, &mut layer, &mut shown);
-        // the stores are of their sizes, and nothing else is refused
-        assert_eq!(number, crate::SERVED);
-        Terminal { settings, cells, layer, shown }
+        let (settings, number) = calls::opening(rule, &mut cells, &mut layer, &mut shown);
+        match number {
+            crate::SERVED => Ok(Terminal { settings, cells, layer, shown }),
+            refused => Err(refused),
+        }
     }
 
     /// A terminal taken up again from what was saved, in the middle of a

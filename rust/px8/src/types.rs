@@ -49,6 +49,8 @@ pub const BYTES_WAIT: u8 = 16;
 /// The key is not 1 to [`KEYS`], or its text not of [`KEY_TEXT`] bytes; the
 /// whole call is refused.
 pub const BAD_KEY_TEXT: u8 = 17;
+/// An opening by another rule than 1 or 2; the whole call is refused.
+pub const BAD_RULE: u8 = 23;
 /// More places differ than the list has records; the whole call is refused.
 pub const LIST_SHORT: u8 = 18;
 /// First refusal: the byte after ESC is not in the list.
@@ -85,6 +87,9 @@ pub struct Place {
     pub column: u8,
     /// The window's first line, 1 to lines − H + 1.
     pub top: u8,
+    /// 1 while the cursor waits in the last column, where the next printed
+    /// character first goes to the next line; only by rule 2. Else 0.
+    pub waiting: u8,
 }
 
 /// The keyboard's settings: stored for the board. Of what the library does
@@ -168,6 +173,10 @@ pub struct Settings {
     /// Line l of screen 1 is byte l − 1, of screen 2 byte 47 + l. From a
     /// screen's last line on they are 0. See [`Settings::marked_lines`].
     pub marks: [u8; LINE_MARKS],
+    /// 1 or 2, as the opening was given it: by rule 1 printing in the last
+    /// column goes to the next line at once, by rule 2 the next printed
+    /// character does. No sequence changes it.
+    pub rule: u8,
 }
 
 impl Settings {

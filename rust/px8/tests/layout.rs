@@ -5,8 +5,9 @@ use std::mem::{align_of, offset_of, size_of};
 
 #[test]
 fn place() {
-    assert_eq!((size_of::<Place>(), align_of::<Place>()), (3, 1));
+    assert_eq!((size_of::<Place>(), align_of::<Place>()), (4, 1));
     assert_eq!([offset_of!(Place, line), offset_of!(Place, column), offset_of!(Place, top)], [0, 1, 2]);
+    assert_eq!(offset_of!(Place, waiting), 3);
 }
 
 #[test]
@@ -24,7 +25,7 @@ fn keys() {
 
 #[test]
 fn settings() {
-    assert_eq!((size_of::<Settings>(), align_of::<Settings>()), (484, 4));
+    assert_eq!((size_of::<Settings>(), align_of::<Settings>()), (488, 4));
     assert_eq!(offset_of!(Settings, mode), 0);
     assert_eq!(offset_of!(Settings, lines1), 1);
     assert_eq!(offset_of!(Settings, lines2), 2);
@@ -33,19 +34,20 @@ fn settings() {
     assert_eq!(offset_of!(Settings, boundary), 5);
     assert_eq!(offset_of!(Settings, selected), 6);
     assert_eq!(offset_of!(Settings, places), 7);
-    assert_eq!(offset_of!(Settings, tracking), 13);
-    assert_eq!(offset_of!(Settings, step), 14);
-    assert_eq!(offset_of!(Settings, secret), 15);
-    assert_eq!(offset_of!(Settings, cursor), 16);
-    assert_eq!(offset_of!(Settings, display), 17);
-    assert_eq!(offset_of!(Settings, kind), 18);
-    assert_eq!(offset_of!(Settings, keys), 19);
-    assert_eq!(offset_of!(Settings, patterns), 40);
-    assert_eq!(offset_of!(Settings, held), 288);
-    assert_eq!(offset_of!(Settings, waiting), 289);
+    assert_eq!(offset_of!(Settings, tracking), 15);
+    assert_eq!(offset_of!(Settings, step), 16);
+    assert_eq!(offset_of!(Settings, secret), 17);
+    assert_eq!(offset_of!(Settings, cursor), 18);
+    assert_eq!(offset_of!(Settings, display), 19);
+    assert_eq!(offset_of!(Settings, kind), 20);
+    assert_eq!(offset_of!(Settings, keys), 21);
+    assert_eq!(offset_of!(Settings, patterns), 42);
+    assert_eq!(offset_of!(Settings, held), 290);
+    assert_eq!(offset_of!(Settings, waiting), 291);
     assert_eq!(offset_of!(Settings, count), 304);
     assert_eq!(offset_of!(Settings, texts), 308);
     assert_eq!(offset_of!(Settings, marks), 388);
+    assert_eq!(offset_of!(Settings, rule), 484);
 }
 
 #[test]

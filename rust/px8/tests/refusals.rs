@@ -59,11 +59,26 @@ fn stores_of_a_wrong_size() {
             let mut stores = sizes.map(guarded);
             let before = stores.clone();
             let [cells, layer, shown, _] = &mut stores;
-            let opened = px8::opening(inner(cells), inner(layer), inner(shown));
-            assert_eq!(opened, (settings, px8::STORE_SIZE));
+            for rule in [1, 2, 3] {
+                let opened = px8::opening(rule, inner(cells), inner(layer), inner(shown));
+                assert_eq!(opened, (settings, px8::STORE_SIZE));
+            }
             assert_eq!(stores, before);
         }
     }
+}
+
+#[test]
+fn rules_that_are_none() {
+    let mut stores = SIZES.map(guarded);
+    let before = stores.clone();
+    for rule in [0, 3, 255, 256, 257, 258, usize::MAX] {
+        let [cells, layer, shown, _] = &mut stores;
+        let opened = px8::opening(rule, inner(cells), inner(layer), inner(shown));
+        assert_eq!(opened, (opening_settings(), px8::BAD_RULE));
+        assert_eq!(Terminal::open_with(rule), Err(px8::BAD_RULE));
+    }
+    assert_eq!(stores, before);
 }
 
 #[test]
@@ -78,7 +93,7 @@ fn message_or_piece_too_long() {
 /// One field after the other just outside its range.
 #[test]
 fn settings_not_sound() {
-    let changes: [fn(&mut Settings); 31] = [
+    let changes: [fn(&mut Settings); 37] = [
         |s| s.mode = 3,
         |s| s.mode = 255,
         |s| s.lines1 = 7,
@@ -110,6 +125,12 @@ fn settings_not_sound() {
         |s| s.marks[47] = 1,
         |s| s.marks[48 + 23] = 1,
         |s| s.marks[95] = 255,
+        |s| s.rule = 0,
+        |s| s.rule = 3,
+        |s| (s.places[0].column, s.places[0].waiting) = (80, 1),
+        |s| (s.rule, s.places[0].column, s.places[0].waiting) = (2, 79, 1),
+        |s| (s.rule, s.places[1].column, s.places[1].waiting) = (2, 1, 1),
+        |s| (s.rule, s.places[1].column, s.places[1].waiting) = (2, 80, 2),
     ];
     for change in changes {
         let mut settings = opening_settings();
@@ -249,7 +270,7 @@ fn served_calls_stay_inside() {
     let mut stores = [CELLS, LAYER, SHOWN, COPY + 10].map(guarded);
     let before = stores.clone();
     let [cells, layer, shown, printer] = &mut stores;
-    let (settings, _) = px8::opening(inner(cells), inner(layer), inner(shown));
+    let (settings, _) = px8::opening(1, inner(cells), inner(layer), inner(shown));
     let bytes = [&[10; 60][..], &[27, 210, 8, 80, 42, 27, 80]].concat();
     let (_, answer) =
         px8::message(settings, &bytes, inner(cells), inner(layer), inner(shown), inner(printer));

@@ -40,7 +40,11 @@ impl Standing<'_> {
 
     /// "8 one column back, staying at column 1; 10 one line down; 13 to
     /// column 1; 12 as ESC 42; other codes below 32 but 27 do nothing."
+    /// "Codes 8, 10, 12, 13 and accepted 42, 61 clear the flag".
     fn code(&mut self, code: u8) {
+        if matches!(code, 8 | 10 | 12 | 13) {
+            self.here_mut().waiting = 0;
+        }
         match code {
             8 => {
                 let column = self.here().column;
@@ -71,6 +75,7 @@ impl Standing<'_> {
             61 => {
                 self.here_mut().line = p[0] - 31;
                 self.here_mut().column = p[1] - 31;
+                self.here_mut().waiting = 0;
                 self.track(Tracking::Centre);
             }
             80 => self.append_copy(),
@@ -195,8 +200,14 @@ impl Standing<'_> {
 
     /// "Printing stores the byte, empties the layer at the place where the
     /// picture without secret and layer shows that cell, if any, and moves
-    /// right. From the last column it goes to column 1 of the next line."
+    /// right. From the last column it goes to column 1 of the next line." By
+    /// rule 2 "printing there stores the byte and sets the screen's waiting flag;
+    /// the next printed character (37's too) first steps to the next line".
     fn print(&mut self, byte: u8) {
+        if self.here().waiting == 1 {
+            self.here_mut().waiting = 0;
+            self.next_line();
+        }
         let here = self.here();
         let at = self.cell(usize::from(here.line), usize::from(here.column));
         self.cells[at] = byte;
@@ -207,6 +218,8 @@ impl Standing<'_> {
         }
         if usize::from(here.column) < self.columns() {
             self.here_mut().column = here.column + 1;
+        } else if self.settings.rule == 2 {
+            self.here_mut().waiting = 1;
         } else {
             self.next_line();
         }

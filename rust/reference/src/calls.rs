@@ -9,16 +9,21 @@ use super::settings::{BLANK, CELLS, KEYS, KEY_TEXT, LAYER, LONGEST_MESSAGE, LONG
 use super::sound::sound;
 use super::stream::Line;
 
-/// "It blanks (32) all cells and the shown screen, and zeroes the layer." A
-/// refused opening alters no store and returns the opening settings with 1.
-pub fn opening(cells: &mut [u8], layer: &mut [u8], shown: &mut [u8]) -> (Settings, u8) {
+/// "It blanks (32) all cells and the shown screen, and zeroes the layer", and
+/// "takes the rule". A refused opening alters no store and returns the opening
+/// settings: "another rule number is 23, after 1; a refused opening returns rule
+/// 1".
+pub fn opening(rule: usize, cells: &mut [u8], layer: &mut [u8], shown: &mut [u8]) -> (Settings, u8) {
     if !sizes_right(cells, layer, shown) {
         return (OPENING, 1);
+    }
+    if rule != 1 && rule != 2 {
+        return (OPENING, 23);
     }
     cells.fill(BLANK);
     layer.fill(0);
     shown.fill(BLANK);
-    (OPENING, 0)
+    (Settings { rule: rule as u8, ..OPENING }, 0)
 }
 
 /// "Calls are checked in the order 1, 2, 3", then "16, a whole message while

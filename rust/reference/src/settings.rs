@@ -33,6 +33,8 @@ pub struct Place {
     pub line: u8,
     pub column: u8,
     pub top: u8,
+    /// 1 while the cursor waits in the last column (rule 2)
+    pub waiting: u8,
 }
 
 #[derive(Clone, Copy, Debug, PartialEq, Eq)]
@@ -82,6 +84,8 @@ pub struct Settings {
     pub texts: [u8; KEYS * KEY_TEXT],
     /// "mark each line that runs on": 1, by `mark_of`
     pub marks: [u8; 2 * MOST_LINES],
+    /// 1 or 2: when printing in the last column goes to the next line
+    pub rule: u8,
 }
 
 #[derive(Clone, Copy, Debug, Default, PartialEq, Eq)]
@@ -109,9 +113,9 @@ pub struct Record {
     pub second: u8,
 }
 
-pub const HOME: Place = Place { line: 1, column: 1, top: 1 };
+pub const HOME: Place = Place { line: 1, column: 1, top: 1, waiting: 0 };
 
-/// "Opening settings (house rule)".
+/// "Opening settings (house rule)", with rule 1.
 pub const OPENING: Settings = Settings {
     mode: 0,
     lines1: 24,
@@ -143,6 +147,7 @@ pub const OPENING: Settings = Settings {
     count: 0,
     texts: [BLANK; KEYS * KEY_TEXT],
     marks: [0; 2 * MOST_LINES],
+    rule: 1,
 };
 
 /// Where the mark of a screen's line stands.

@@ -42,6 +42,17 @@ fn place_sound(s: &Settings, screen: usize) -> bool {
     (1..=s.lines(screen)).contains(&usize::from(place.line))
         && (1..=s.columns(screen)).contains(&usize::from(place.column))
         && (1..=s.greatest_top(screen)).contains(&usize::from(place.top))
+        && flag_sound(s, screen)
+}
+
+/// "the flag is sound only in the last column under rule 2".
+fn flag_sound(s: &Settings, screen: usize) -> bool {
+    let place = s.places[screen];
+    match place.waiting {
+        0 => true,
+        1 => s.rule == 2 && usize::from(place.column) == s.columns(screen),
+        _ => false,
+    }
 }
 
 /// "A screen's last line is never marked; sound settings include that." The
@@ -56,7 +67,10 @@ fn marks_sound(s: &Settings, screen: usize) -> bool {
 
 fn switches_sound(s: &Settings) -> bool {
     let flags = [s.selected, s.tracking, s.secret, s.cursor, s.display];
-    flags.iter().all(|&flag| flag <= 1) && (1..=s.height()).contains(&usize::from(s.step)) && s.kind <= 3
+    flags.iter().all(|&flag| flag <= 1)
+        && (1..=s.height()).contains(&usize::from(s.step))
+        && s.kind <= 3
+        && (1..=2).contains(&s.rule)
 }
 
 fn keys_sound(keys: &Keys) -> bool {

@@ -16,6 +16,7 @@ pub const MESSAGE: u16 = 1;
 pub const PIECE: u16 = 2;
 pub const CLOSING: u16 = 3;
 pub const KEY_TEXT: u16 = 4;
+pub const OPENING_CALL: u16 = 7;
 
 /// The message call and the piece call.
 type MessageCall = fn(Settings, &[u8], &mut [u8], &mut [u8], &mut [u8], &mut [u8]) -> (Settings, Answer);
@@ -38,9 +39,17 @@ impl Session {
             shown: vec![0; SHOWN],
             printed: Vec::new(),
         };
-        let stores = (&mut session.cells, &mut session.layer, &mut session.shown);
-        session.settings = opening(stores.0, stores.1, stores.2).0;
+        session.opening(1);
         session
+    }
+
+    /// Opens anew by a rule: the settings that this returns are used from then
+    /// on, refused or not.
+    pub fn opening(&mut self, rule: usize) -> u8 {
+        let stores = (&mut self.cells, &mut self.layer, &mut self.shown);
+        let (settings, number) = opening(rule, stores.0, stores.1, stores.2);
+        self.settings = settings;
+        number
     }
 
     pub fn play(&mut self, bytes: &[u8], room: usize) -> Answer {
@@ -82,7 +91,11 @@ impl Session {
             (CLOSING, []) => self.closing(),
             (KEY_TEXT, [key, text @ ..]) => {
                 let answer = self.key_text(usize::from(*key), text);
-                return Some(key_answer(number, &answer));
+                return Some(short_answer(number, answer.number));
+            }
+            (OPENING_CALL, [rule]) => {
+                let answer = self.opening((*rule).into());
+                return Some(short_answer(number, answer));
             }
             _ => return None,
         };
@@ -156,9 +169,9 @@ pub fn numbered_answer(number: usize, answer: &Answer) -> String {
     format!("{number} {} printed {printed} parameter {parameter}\n", answer_text(answer))
 }
 
-/// A key text's line in a replay: it counts nothing.
-pub fn key_answer(number: usize, answer: &Answer) -> String {
-    format!("{number} answer {}\n", answer.number)
+/// The line of a key text and of an opening in a replay: they count nothing.
+pub fn short_answer(number: usize, answer: u8) -> String {
+    format!("{number} answer {answer}\n")
 }
 
 pub fn settings_text(s: &Settings) -> String {
@@ -200,7 +213,9 @@ pub fn settings_text(s: &Settings) -> String {
     for byte in waits(s) {
         write!(text, " {byte}").unwrap();
     }
-    text + "\n" + &runs(s, 0) + &runs(s, 1)
+    let flags = s.places.map(|place| place.waiting);
+    let rule = format!("rule {} flags {} {}\n", s.rule, flags[0], flags[1]);
+    text + "\n" + &runs(s, 0) + &runs(s, 1) + &rule
 }
 
 /// The marked lines of a screen.

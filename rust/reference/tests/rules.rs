@@ -238,7 +238,7 @@ fn calls_are_checked_in_order() {
 fn refused_opening() {
     for (cells, layer, shown) in [(3839, 1280, 640), (3840, 1281, 640), (3840, 1280, 0)] {
         let mut stores = (vec![9; cells], vec![9; layer], vec![9; shown]);
-        let (settings, number) = opening(&mut stores.0, &mut stores.1, &mut stores.2);
+        let (settings, number) = opening(1, &mut stores.0, &mut stores.1, &mut stores.2);
         assert_eq!((settings, number), (OPENING, 1));
         assert!(stores.0.iter().chain(&stores.1).chain(&stores.2).all(|&byte| byte == 9));
     }
@@ -247,7 +247,7 @@ fn refused_opening() {
 #[test]
 fn accepted_opening() {
     let mut stores = (vec![9; CELLS], vec![9; LAYER], vec![9; SHOWN]);
-    assert_eq!(opening(&mut stores.0, &mut stores.1, &mut stores.2), (OPENING, 0));
+    assert_eq!(opening(1, &mut stores.0, &mut stores.1, &mut stores.2), (OPENING, 0));
     assert!(stores.0.iter().chain(&stores.2).all(|&byte| byte == 32));
     assert!(stores.1.iter().all(|&byte| byte == 0));
 }
@@ -443,9 +443,9 @@ fn replay_of_good_records() {
     assert_eq!(lines[6], "strings 1 display 1 repeat 1 32 16 shift 0");
     assert_eq!(lines[7], "arrows 0 0 0 0 0 0 0 0 0 0 0 0");
     assert_eq!(lines[8], "stream count 0 waiting");
-    assert_eq!(lines[9..11], ["runs 1", "runs 2"]);
-    assert!(lines[11].starts_with("sums cells "));
-    assert_eq!((lines[12], lines.len()), ("1 AB", 20));
+    assert_eq!(lines[9..12], ["runs 1", "runs 2", "rule 1 flags 0 0"]);
+    assert!(lines[12].starts_with("sums cells "));
+    assert_eq!((lines[13], lines.len()), ("1 AB", 21));
 }
 
 #[test]

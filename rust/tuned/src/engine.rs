@@ -41,6 +41,8 @@ pub struct Engine<'a> {
     pub line: usize,
     pub column: usize,
     pub top: usize,
+    /// the cursor waits in the last column
+    pub waiting: bool,
 }
 
 impl<'a> Engine<'a> {
@@ -60,6 +62,7 @@ impl<'a> Engine<'a> {
             line: 0,
             column: 0,
             top: 0,
+            waiting: false,
         };
         engine.load();
         engine
@@ -79,12 +82,17 @@ impl<'a> Engine<'a> {
         self.line = usize::from(place.line);
         self.column = usize::from(place.column);
         self.top = usize::from(place.top);
+        self.waiting = place.waiting == 1;
     }
 
     /// Puts the selected screen's place back into the settings.
     pub fn save(&mut self) {
-        self.settings.places[usize::from(self.settings.selected == 1)] =
-            Place { line: self.line as u8, column: self.column as u8, top: self.top as u8 };
+        self.settings.places[usize::from(self.settings.selected == 1)] = Place {
+            line: self.line as u8,
+            column: self.column as u8,
+            top: self.top as u8,
+            waiting: self.waiting.into(),
+        };
     }
 
     pub fn finish(mut self) -> Settings {
@@ -123,12 +131,17 @@ impl<'a> Engine<'a> {
             12 => return self.clear(),
             _ => return,
         }
+        self.waiting = false;
         self.follow();
     }
 
     /// Stores a run of printed bytes, a line's part at a time.
     pub fn text(&mut self, mut run: &[u8]) {
         while !run.is_empty() {
+            if self.waiting {
+                self.waiting = false;
+                self.step();
+            }
             let space = self.columns - self.column + 1;
             let (now, later) = run.split_at(run.len().min(space));
             let at = self.cursor_cell();
@@ -136,20 +149,28 @@ impl<'a> Engine<'a> {
             self.unmark(now.len());
             if now.len() < space {
                 self.column += now.len();
+            } else if self.settings.rule == 2 {
+                self.column = self.columns;
+                self.waiting = true;
             } else {
                 // All but the last of these bytes left the cursor on this
                 // line, and the window followed it here first.
                 if now.len() > 1 {
                     self.follow();
                 }
-                self.column = 1;
-                let left = self.line - 1;
-                self.runs()[left] = 1;
-                self.down();
+                self.step();
             }
             self.follow();
             run = later;
         }
+    }
+
+    /// To the start of the next line; this one runs on.
+    fn step(&mut self) {
+        self.column = 1;
+        let left = self.line - 1;
+        self.runs()[left] = 1;
+        self.down();
     }
 
     /// The marks of the selected screen's lines, which run on where they are 1.
@@ -239,6 +260,7 @@ impl<'a> Engine<'a> {
         let all = self.block(0, self.lines);
         self.stores.cells[all].fill(b' ');
         (self.line, self.column, self.top) = (1, 1, 1);
+        self.waiting = false;
         self.runs().fill(0);
         self.wipe();
     }

@@ -24,7 +24,7 @@ const START: Settings = Settings {
     columns2: 80,
     boundary: b' ',
     selected: 0,
-    places: [Place { line: 1, column: 1, top: 1 }; 2],
+    places: [Place { line: 1, column: 1, top: 1, waiting: 0 }; 2],
     tracking: 1,
     step: 1,
     secret: 0,
@@ -47,16 +47,22 @@ const START: Settings = Settings {
     count: 0,
     texts: [b' '; 80],
     marks: [0; 96],
+    rule: 1,
 };
 
-pub fn opening(cells: &mut [u8], layer: &mut [u8], shown: &mut [u8]) -> (Settings, u8) {
+pub fn opening(rule: usize, cells: &mut [u8], layer: &mut [u8], shown: &mut [u8]) -> (Settings, u8) {
     if (cells.len(), layer.len(), shown.len()) != (3840, 1280, 640) {
         return (START, 1);
     }
+    let rule = match rule {
+        1 => 1,
+        2 => 2,
+        _ => return (START, 23),
+    };
     cells.fill(b' ');
     layer.fill(0);
     shown.fill(b' ');
-    (START, 0)
+    (Settings { rule, ..START }, 0)
 }
 
 pub fn message(
@@ -150,6 +156,7 @@ fn sound(s: &Settings) -> bool {
         p.line.wrapping_sub(1) < lines
             && p.column.wrapping_sub(1) < columns
             && p.top.wrapping_sub(1) <= lines - height
+            && p.waiting <= u8::from(s.rule == 2 && p.column == columns)
     };
     let k = &s.keys;
     let flags = s.selected
@@ -167,6 +174,7 @@ fn sound(s: &Settings) -> bool {
         && flags <= 1
         && s.step.wrapping_sub(1) < height
         && s.kind < 4
+        && s.rule.wrapping_sub(1) < 2
         && k.delay.wrapping_sub(1) < 127
         && k.interval.wrapping_sub(1) < 127
         && sequences::is_charset(k.charset)

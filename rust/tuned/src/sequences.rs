@@ -239,6 +239,7 @@ impl Engine<'_> {
 
     fn put_cursor(&mut self, line: usize, column: usize) {
         (self.line, self.column) = (line, column);
+        self.waiting = false;
         let missed = line < self.top || line >= self.top + self.height;
         if missed && self.settings.tracking == 1 {
             self.centre();
@@ -304,7 +305,7 @@ impl Engine<'_> {
         if let [2, _, _, boundary] = *p {
             s.boundary = boundary;
         }
-        s.places = [Place { line: 1, column: 1, top: 1 }; 2];
+        s.places = [Place { line: 1, column: 1, top: 1, waiting: 0 }; 2];
         (s.selected, s.step, s.tracking) = (0, 1, 1);
         s.marks = [0; 96];
         self.stores.cells.fill(b' ');

@@ -9,7 +9,7 @@ use Rattle.recording.proofs.play_key.Tie as tie
 
 returns : tie.Need-returns
 returns c =
-    let key = c .before .before .before .before .before .before .before .before in
+    let key = c .before .before .before in
     let a = key .before .before .before .args in
     let out = key .key in
     record {
@@ -18,14 +18,4 @@ returns c =
     }
 
 pub play-key-spec : {M : Type 1} → statement M
-play-key-spec =
-    tie.close
-    (tie.spec
-    (λ c κs. search needs)
-    (λ c. search needs)
-    (λ c κs. search needs)
-    (λ c. search needs)
-    (λ c κs. search needs)
-    (λ c. search needs)
-    (λ c κs. search needs)
-    returns)
+play-key-spec = tie.close (tie.spec (λ c κs. search needs) (λ c κs. search needs) returns)

@@ -1,7 +1,7 @@
--- `print` meets its contract: it stores, moves right and tracks, as the rule does.
+-- `print` meets its contract: the step that waited, and the rest of the rule.
 use borrow.Author.Needs.{needs}
 use Rattle.model.specs.Rules.{printed}
-use Rattle.screen.proofs.Carried.{then-above-with, then-with, unmarked-acts}
+use Rattle.screen.proofs.Carried.{then-with}
 use Rattle.screen.proofs.print.Statement.{statement}
 use Rattle.screen.proofs.print.Tie as tie
 
@@ -12,8 +12,7 @@ print-spec =
     (tie.spec
     (λ c κs. search needs)
     (λ c κs. search needs)
-    (λ c κs. search needs)
     (λ c. search needs)
     (λ c. search needs)
     (λ c. search needs)
-    (λ c. then-above-with (then-with (unmarked-acts (c .before .before .before .before .before .before .before .before .before .before .before .before .before .before .before .before .before .before .before .before .before .before .before .before .pre .1) (c .before .before .before .before .before .before .before .before .before .before .before .before .before .before .before .before .before .before .store .ensures)) (c .before .before .before .before .before .before .before .before .before .before .right .ensures)) (c .before .before .track .ensures)))
+    (λ c. let here = c .before .before .before .before .before .before in then-with (here .before .before .before .before .before .before .before .before .before .before .awaited .ensures) (here .print-here .ensures)))

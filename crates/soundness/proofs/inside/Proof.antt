@@ -9,8 +9,9 @@ minus-requires c κs = search needs
 
 returns : tie.Need-returns
 returns c =
-    let a = c .before .before .before .before .before .before .before .args in
-    rw (c .before .before .before .before .before .before .minus .ensures) (window (a .lines) (a .columns) (a .less) (a .p))
+    let most = c .before .before .before .before .before .before .before .before in
+    let a = most .before .before .args in
+    rw (most .before .minus .ensures, most .most-wait .ensures) (window (a .rule) (a .lines) (a .columns) (a .less) (a .p))
 
 pub inside-spec : {M : Type 1} → statement M
-inside-spec = tie.close (tie.spec minus-requires returns)
+inside-spec = tie.close (tie.spec minus-requires (λ c κs. tt) returns)

@@ -9,7 +9,7 @@ use Rattle.soundness.proofs.stored.Tie as tie
 
 returns : tie.Need-returns
 returns c =
-    let keys = c .before .before .before .before .before .before .before .before in
+    let keys = c .before .before .before .before .before .before .before .before .before .before in
     let start = keys .before .before in
     let s = start .args .settings in
     let g = start .good .0 .1 .1 .1 .1 .1 .1 .1 in

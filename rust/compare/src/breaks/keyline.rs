@@ -107,7 +107,7 @@ pub const BREAKS: &[Break] = &[
         "let code = picture(settings, cells, layer, row, column).max(BLANK);
             room[at] = if row > settings.screen_rows() && layer[place(row, column)] == 0 { BLANK } else { code };"),
     // the key text call
-    entry("opening-texts-0", "calls.rs", "(OPENING, 0)", "(Settings { texts: [0; 80], ..OPENING }, 0)"),
+    entry("opening-texts-0", "calls.rs", "..OPENING }, 0)", "texts: [0; 80], ..OPENING }, 0)"),
     entry("key-0-served", "calls.rs",
         "if !(1..=KEYS).contains(&number)",
         "let number = if number == 0 { 1 } else { number };

@@ -7,10 +7,12 @@
 //! - `streams`: pieces and closings
 //! - `keyline`: the key line and its texts
 //! - `lines`: lines that run on
+//! - `late`: the late wrap
 //! - `screens`: the comparison of two screens
 //! - `traces`: key repeats
 
 mod keyline;
+mod late;
 mod lines;
 mod parameters;
 mod scope;
@@ -32,7 +34,7 @@ const fn entry(name: &'static str, file: &'static str, old: &'static str, new: &
 
 /// The broken copies of the terminal.
 pub const BREAKS: &[&[Break]] =
-    &[scope::BREAKS, parameters::BREAKS, streams::BREAKS, keyline::BREAKS, lines::BREAKS];
+    &[scope::BREAKS, parameters::BREAKS, streams::BREAKS, keyline::BREAKS, lines::BREAKS, late::BREAKS];
 
 /// The broken copies of the comparison of two screens.
 pub const SCREENS: &[&[Break]] = &[screens::BREAKS];

@@ -38,7 +38,21 @@ impl Before {
 
     /// Whether printing goes to the next line.
     pub fn leaves_its_line(&self) -> bool {
-        self.in_last_column()
+        match self.settings.rule {
+            1 => self.in_last_column(),
+            _ => self.place.waiting == 1,
+        }
+    }
+
+    /// Line and column of the cell that printing stores in, where it does not
+    /// lift the screen.
+    pub fn printed_at(&self) -> (usize, usize) {
+        let (line, column) = (self.place.line.into(), self.place.column.into());
+        if self.place.waiting == 1 {
+            (line + 1, 1)
+        } else {
+            (line, column)
+        }
     }
 
     pub fn in_last_column(&self) -> bool {

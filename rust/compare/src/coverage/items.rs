@@ -56,7 +56,7 @@ impl Coverage {
         let wrap = before.leaves_its_line();
         if wrap {
             self.count(["wrap in mode 0", "wrap in mode 1", "wrap in mode 2"][before.mode()]);
-            self.count_if(before.place.column == 1, "wrap on one column");
+            self.count_if(before.settings.columns(before.screen()) == 1, "wrap on one column");
         }
         let lift = wrap && before.in_last_line();
         let place = after.settings.places[before.screen()];
@@ -89,7 +89,7 @@ impl Coverage {
         if !emptied {
             return;
         }
-        let row = usize::from(before.place.line - before.place.top + 1);
+        let row = before.printed_at().0 + 1 - usize::from(before.place.top);
         self.count(if by_37 { "place emptied by 37" } else { "place emptied by printing" });
         self.count_if(before.settings.secret == 1, "place emptied under secret");
         let right = before.mode() == 1 && row > before.settings.screen_rows();

@@ -149,12 +149,13 @@ impl KeyLine {
         if before.settings.display == 1 {
             return;
         }
-        let row = usize::from(before.place.line + 1).saturating_sub(before.place.top.into());
+        let (line, column) = before.printed_at();
+        let row = (line + 1).saturating_sub(before.place.top.into());
         let right = before.mode() == 1 && row > 7;
         classes.count_if(emptied && right, "place emptied in the right half, key line");
         // where the window without the key line would show it
         let eighth = before.mode() == 0 && row == 8;
-        let marked = after.layer[place(8, before.place.column.into())] != 0;
+        let marked = after.layer[place(8, column)] != 0;
         classes.count_if(eighth && marked, "printed below the window, row 8 marked there");
     }
 

@@ -6,7 +6,8 @@ pub const JUDGED: [u8; 16] = [61, 67, 144, 145, 148, 149, 208, 209, 210, 211, 21
 /// Every class that a run must reach, besides those of the second bytes.
 #[rustfmt::skip]
 pub const CLASSES: &[&str] = &[
-    "opening 0", "opening 1", "call 0", "call 1", "call 2", "call 3", "call 16",
+    "opening 0 by rule 1", "opening 0 by rule 2", "opening 1", "opening 23", "order: opening 1 with 23",
+    "call 0", "call 1", "call 2", "call 3", "call 16",
     "first refusal 10", "first refusal 11", "first refusal 12", "first refusal 13", "first refusal 14",
     "refused 14 later", "several refusals in a call",
     "order: 1 with 2", "order: 1 with 3", "order: 2 with 3",

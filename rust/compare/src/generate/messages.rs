@@ -1,5 +1,6 @@
 //! Messages, part by part.
 
+use super::late::at_the_end;
 use super::lines::long_name;
 use super::sequences::{sequence, SECONDS};
 use super::settings::{height, inside};
@@ -60,7 +61,7 @@ pub fn message(random: &mut Random, settings: &Settings) -> Vec<u8> {
 }
 
 fn part(random: &mut Random, belief: &mut Belief, bytes: &mut Vec<u8>) {
-    match random.below(17) {
+    match random.below(18) {
         0..=2 => text(random, bytes),
         3 => codes(random, bytes),
         4 => to_the_edge(random, belief, bytes),
@@ -70,6 +71,7 @@ fn part(random: &mut Random, belief: &mut Belief, bytes: &mut Vec<u8>) {
         6 if random.one_in(3) => key_display(random, belief, bytes),
         7 => escape_in_parameter(random, belief, bytes),
         8 => long_name(random, belief, bytes),
+        9 => at_the_end(random, belief, bytes),
         _ => {
             let second = random.pick(&SECONDS);
             sequence(random, belief, second, bytes);

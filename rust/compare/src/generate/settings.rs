@@ -1,5 +1,6 @@
 //! Arbitrary sound settings, and settings with one thing wrong.
 
+use super::late::{break_rule, flag, RULE_FAULTS};
 use super::lines::{break_marks, marks, MARK_FAULTS};
 use super::streams::{break_stream, with_stream, STREAM_FAULTS};
 use crate::random::Random;
@@ -31,10 +32,15 @@ pub fn settings(random: &mut Random) -> Settings {
     let (mode, lines, columns) = measures(random);
     let display = random.byte() & 1;
     let height = height(mode, display);
-    let place = |random: &mut Random, screen: usize| Place {
-        line: inside(random, 1, lines[screen].into()),
-        column: inside(random, 1, columns[screen].into()),
-        top: inside(random, 1, usize::from(lines[screen]) - height + 1),
+    let rule = random.pick(&[1, 2]);
+    let place = |random: &mut Random, screen: usize| {
+        let column = inside(random, 1, columns[screen].into());
+        Place {
+            line: inside(random, 1, lines[screen].into()),
+            column,
+            top: inside(random, 1, usize::from(lines[screen]) - height + 1),
+            waiting: flag(random, rule, column == columns[screen]),
+        }
     };
     let mut patterns = [0; 248];
     random.fill(&mut patterns);
@@ -59,6 +65,7 @@ pub fn settings(random: &mut Random) -> Settings {
         patterns,
         texts,
         marks: marks(random, lines),
+        rule,
         ..OPENING
     };
     with_stream(random, whole)
@@ -126,6 +133,11 @@ pub fn unsound(random: &mut Random, sound: &Settings) -> (&'static str, Settings
     if random.one_in(6) {
         let name = random.pick(&MARK_FAULTS);
         break_marks(random, name, &mut settings);
+        return (name, settings);
+    }
+    if random.one_in(6) {
+        let name = random.pick(&RULE_FAULTS);
+        break_rule(random, name, &mut settings);
         return (name, settings);
     }
     let (name, field) = random.pick(&FIELDS);

@@ -1,4 +1,4 @@
--- `cursor::down` meets its contract: a line further down, or on the last line a lift.
+-- `cursor::down` meets its contract: a line further down, or on the last line a lift; the cursor is put anew in both.
 use native.Mathlib.Omega.{arith}
 use borrow.Author.Needs.{needs}
 use Rattle.screen.proofs.Carried.{unmarked-acts}
@@ -13,8 +13,9 @@ down-spec =
     (λ c. search needs)
     (λ c κs. search needs)
     (λ c κs. search needs)
-    (λ c. (unmarked-acts (c .before .before .before .before .before .before .before .before .pre .1) (down-moves (c .before .before .before .before .before .before .before .before .pre .0) (c .before .before .if1 .taken) (c .put-at .ensures)), rw (c .put-at .ensures) (omega arith)))
+    (λ c κs. search needs)
+    (λ c. let entry = c .before .before .before .before .before .before .before .before in (unmarked-acts (entry .pre .1) (down-moves (entry .pre .0) (c .before .before .if1 .taken) (c .put-at .ensures)), rw (c .put-at .ensures) (omega arith)))
     (λ c. search needs)
     (λ c. search needs)
     (λ c. search needs)
-    (λ c. (down-lifts (c .before .before .before .before .before .before .before .before .before .before .if1 .left) (c .before .before .before .before .before .before .lift .ensures), omega arith)))
+    (λ c. let lifted = c .before .before .before .before .before .before .before in (down-lifts (lifted .before .before .before .before .if1 .left) (lifted .lift .ensures) (c .put-at2 .ensures), rw (c .put-at2 .ensures) (omega arith))))

@@ -10,7 +10,7 @@ returns : tie.Need-returns
 returns c =
     let a = c .before .before .before .before .before .before .before .before .before .before .before .before .before .before .before .args in
     let h = c .before .before .before .before .before .before .before .before .before .before .before .before .before .before .before .pre in
-    copied-acts (a .message .now) (a .at) (a .count) (h .0) (h .1 .1 .1) (h .1 .1 .0) (h .1 .0) (c .before .before .before .before .before .before .before .before .before .before .before .cell .ensures) (c .before .before .before .before .before .before .before .before .before .copy-in .ensures) (c .before .before .before .before .before .before .shown .ensures) (c .before .before .before .before .empty-from .ensures) (c .put-at .ensures)
+    copied-acts (a .message .now) (a .at) (a .count) (h .0) (h .1 .1 .0) (h .1 .1 .1 .1) (h .1 .1 .1 .0) (h .1 .0) (c .before .before .before .before .before .before .before .before .before .before .before .cell .ensures) (c .before .before .before .before .before .before .before .before .before .copy-in .ensures) (c .before .before .before .before .before .before .shown .ensures) (c .before .before .before .before .empty-from .ensures) (c .put-at .ensures)
 
 pub print-chunk-spec : {M : Type 1} → statement M
 print-chunk-spec =

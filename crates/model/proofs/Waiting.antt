@@ -1,0 +1,128 @@
+-- P9: when the cursor waits, what clears the flag, and that rule 1 is what it was.
+use mathlib.Core.Path.{_∙_, _≡_, ap, refl, sym}
+use Prim.Native.Nat.{_+_, _-_, _<_, _≤_, max, ℕ}
+use native.Mathlib.Omega.{arith}
+use mathlib.Core.Bool.{Bool, _&&_, _||_, cond, false, true}
+use lib.Seq.{set-getD}
+use lib.Dec.{eqb, ltb}
+use borrow.Author.Tests.{eqb-true, ltb-false, ltb-true, ne-eqb}
+use Rattle.model.specs.declared.Place.{Place}
+use Rattle.model.specs.declared.Sequence.the-variants.{Put}
+use Rattle.model.specs.State.{State, home, nowhere, putAt, topAt, waitAt, withPlaces}
+use Rattle.model.specs.Checks.{InRanges}
+use Rattle.model.specs.Screens.{columnsHere, here, linesHere, placeOf}
+use Rattle.model.specs.Sound.{Good, mostWait}
+use Rattle.model.specs.Judging.{limitsOf, ranges}
+use Rattle.model.specs.Rules.{awaited, centred, cleared, control, down, emptied, lifted, missed, nearest, obeyed, onLines, onward, placed, printed, remarked, right, stored, toColumn, topped, tracked, trackedFar, withCells, withLayer, withSettings}
+use Rattle.model.proofs.Tests.{and-left, and-right, cond-at, differ}
+use Rattle.model.proofs.Keep.{Kept, place-same}
+use Rattle.model.proofs.ItemLaws.{kept-put}
+use Rattle.model.proofs.Steps.{columns-some, fits, kept-blanked-screen, kept-down, kept-lifted, kept-toColumn}
+
+-- "the flag is sound only in the last column under rule 2"
+pub wait-late : (rule columns column x : ℕ) → x ≤ mostWait rule columns column → 1 ≤ x → (rule ≡ 2) × (column ≡ columns)
+wait-late rule columns column x =
+    cond-at (λ (y : ℕ). x ≤ y → 1 ≤ x → (rule ≡ 2) × (column ≡ columns)) (eqb rule 2 && eqb column columns) 1 0
+    (λ e p q. (eqb-true rule 2 (and-left (eqb rule 2) (eqb column columns) e), eqb-true column columns (and-right (eqb rule 2) (eqb column columns) e)))
+    (λ e p q. absurd (omega arith))
+
+module _ (a : State) (g : Good a) where
+  pub waits-late : 1 ≤ here a .waiting → (a .settings .rule ≡ 2) × (here a .column ≡ columnsHere a)
+  waits-late h = wait-late (a .settings .rule) (columnsHere a) (here a .column) (here a .waiting) (fits a g .waits) h
+
+  waits-no : ((a .settings .rule ≡ 2) × (here a .column ≡ columnsHere a) → ⊥) → here a .waiting ≡ 0
+  waits-no h = go (ltb 0 (here a .waiting)) refl
+    where
+      go : (b : Bool) → ltb 0 (here a .waiting) ≡ b → here a .waiting ≡ 0
+      go true e = absurd (h (waits-late (ltb-true 0 (here a .waiting) e)))
+      go false e = omega (arith, ltb-false 0 (here a .waiting) e)
+
+  -- no cursor waits left of the last column (for a line's bytes printed at once), nor under rule 1
+  pub waits-not : here a .column < columnsHere a → here a .waiting ≡ 0
+  waits-not h = waits-no (λ z. omega arith)
+
+  pub waits-never : a .settings .rule ≡ 1 → here a .waiting ≡ 0
+  waits-never h = waits-no (λ z. omega arith)
+
+-- nothing is awaited where no cursor waits
+pub awaited-not : (a : State) → here a .waiting ≡ 0 → awaited a ≡ a
+unfolding awaited
+awaited-not a h = ap (λ (b : Bool). cond b (onward a) a) (ne-eqb (here a .waiting) 1 (λ e. omega arith))
+
+-- the cursor put where it stands
+placed-same : (x : State) (p : Place) → here x ≡ p → placed p x ≡ x
+unfolding placed placeOf
+placed-same x p e =
+    (λ i. placed (sym e i) x)
+    ∙ (λ i. record { settings = withPlaces (x .settings) (set-getD (x .settings .places) (x .settings .selected) nowhere i); cells = x .cells; layer = x .layer })
+
+-- rule 1 is today's: the move right and the step down of document 01, with P5's marks
+abbrev early : State → State
+early st = cond (ltb (here st .column) (columnsHere st)) (toColumn (here st .column + 1) st) (onward st)
+
+pub down-early : (a : State) → here a .waiting ≡ 0 → down a ≡ cond (ltb (here a .line) (linesHere a)) (placed (putAt (here a .line + 1) (here a .column) (here a)) a) (lifted a)
+unfolding down lifted remarked withSettings onLines emptied withLayer withCells placeOf
+down-early a h =
+    ap (λ (x : State). cond (ltb (here a .line) (linesHere a)) (placed (putAt (here a .line + 1) (here a .column) (here a)) a) x)
+    (placed-same (lifted a) (putAt (here a .line) (here a .column) (here a)) (λ i. record { line = here a .line; column = here a .column; top = here a .top; waiting = h i }))
+
+pub printed-early : (a : State) → Good a → a .settings .rule ≡ 1 → (c : ℕ) → printed c a ≡ tracked (early (stored c a))
+unfolding printed right stored
+printed-early a g h c =
+    ap (λ (x : State). tracked (right (stored c x))) (awaited-not a (waits-never a g h))
+    ∙ ap (λ (b : Bool). let x = stored c a in tracked (cond (ltb (here x .column) (columnsHere x)) (toColumn (here x .column + 1) x) (cond b (placed (waitAt (here x)) x) (onward x))))
+    (ne-eqb (a .settings .rule) 2 (λ e. omega arith))
+
+-- what puts the cursor anew clears the flag; a window that moves keeps it
+module _ (a : State) (g : Good a) where
+  flag-placed : (p : Place) → here (placed p a) .waiting ≡ p .waiting
+  flag-placed p = ap (λ (x : Place). x .waiting) (place-same a g p)
+
+  pub flag-topped : (t : ℕ) → here (topped t a) .waiting ≡ here a .waiting
+  unfolding topped emptied withLayer
+  flag-topped t = cond-at (λ (x : State). here x .waiting ≡ here a .waiting) (eqb t (here a .top)) a (emptied (placed (topAt t (here a)) a)) (λ e. refl) (λ e. flag-placed (topAt t (here a)))
+
+  pub flag-tracked : here (tracked a) .waiting ≡ here a .waiting
+  unfolding tracked
+  flag-tracked = cond-at (λ (x : State). here x .waiting ≡ here a .waiting) (eqb (a .settings .tracking) 1 && missed a) (topped (nearest a) a) a (λ e. flag-topped (nearest a)) (λ e. refl)
+
+  pub flag-trackedFar : here (trackedFar a) .waiting ≡ here a .waiting
+  unfolding trackedFar
+  flag-trackedFar = cond-at (λ (x : State). here x .waiting ≡ here a .waiting) (eqb (a .settings .tracking) 1 && missed a) (topped (centred a) a) a (λ e. flag-topped (centred a)) (λ e. refl)
+
+  pub flag-column : (c : ℕ) → here (toColumn c a) .waiting ≡ 0
+  unfolding toColumn
+  flag-column c = flag-placed (putAt (here a .line) c (here a))
+
+module _ (a : State) (g : Good a) where
+  -- a line step, on the last line too
+  pub flag-down : here (down a) .waiting ≡ 0
+  unfolding down
+  flag-down = cond-at (λ (x : State). here x .waiting ≡ 0) (ltb (here a .line) (linesHere a)) _ _
+      (λ e. flag-placed a g (putAt (here a .line + 1) (here a .column) (here a)))
+      (λ e. flag-placed (lifted a) (kept-lifted a g .good) (putAt (here a .line) (here a .column) (here a)))
+
+  pub flag-cleared : here (cleared a) .waiting ≡ 0
+  unfolding cleared
+  flag-cleared = flag-placed _ (kept-blanked-screen a g .good) home
+
+  -- "Codes 8, 10, 12, 13 .. clear the flag"
+  pub flag-control : (c : ℕ) → (eqb c 8 || eqb c 10 || eqb c 12 || eqb c 13) ≡ true → here (control c a) .waiting ≡ 0
+  unfolding control
+  flag-control c = go (eqb c 8) (eqb c 10) (eqb c 13) (eqb c 12)
+    where
+      after : (b : State) → Kept a b → here b .waiting ≡ 0 → here (tracked b) .waiting ≡ 0
+      after b k h = flag-tracked b (k .good) ∙ h
+
+      go : (p q r s : Bool) → (p || q || s || r) ≡ true
+          → here (cond p (tracked (toColumn (max 1 (here a .column - 1)) a)) (cond q (tracked (down a)) (cond r (tracked (toColumn 1 a)) (cond s (cleared a) a)))) .waiting ≡ 0
+      go true q r s e = after _ (kept-toColumn a g (max 1 (here a .column - 1)) (omega arith) (omega (arith, fits a g))) (flag-column a g (max 1 (here a .column - 1)))
+      go false true r s e = after _ (kept-down a g) flag-down
+      go false false true s e = after _ (kept-toColumn a g 1 (omega arith) (columns-some a g)) (flag-column a g 1)
+      go false false false true e = flag-cleared
+      go false false false false e = absurd (differ (sym e))
+
+  -- "and accepted .. 61", onto the last column too
+  pub flag-put : (ms : ℕ → ℕ) (l c : ℕ) → InRanges (ranges (Put l c) (limitsOf (a .settings))) → here (obeyed ms (Put l c) a) .waiting ≡ 0
+  unfolding obeyed
+  flag-put ms l c e = flag-trackedFar _ (kept-put a g l c e .good) ∙ flag-placed a g (putAt (l - 31) (c - 31) (here a))
