@@ -1,8 +1,9 @@
 /*
  * Holds the header and the archive together: every field of the settings is
  * set by a sequence, a piece or a key text of its own and read back through the
- * header's structures, as are the answer's fields; streams, the key line, long lines
- * and the late wrap give what document 02 says of them, and refused calls leave every byte alone.
+ * header's structures, as are the answer's fields; streams, the key line, long lines,
+ * the late wrap and mode 3 give what document 02 says of them, and refused calls leave
+ * every byte alone.
  *
  *   gcc -std=c99 -o abi abi.c libboard.a && ./abi
  *
@@ -14,7 +15,9 @@
 #include "px8.h"
 
 #define GUARD 64
-#define ROOM (2 * PX8_COPY)
+#define ROOM PX8_DOTS /* more than two copies of text */
+/* what the calls take, between the settings or the bytes and the printer buffer */
+#define STORES at.cells, PX8_CELLS, at.layer, PX8_LAYER, at.shown, PX8_SHOWN, at.dots, PX8_DOTS
 
 /* The stores with bytes between them that nobody may write. */
 typedef struct desk {
@@ -25,6 +28,8 @@ typedef struct desk {
     uint8_t between2[GUARD];
     uint8_t shown[PX8_SHOWN];
     uint8_t between3[GUARD];
+    uint8_t dots[PX8_DOTS];
+    uint8_t between4[GUARD];
     uint8_t printer[ROOM];
     uint8_t after[GUARD];
 } desk;
@@ -58,34 +63,33 @@ static int guards_stay(void)
            memcmp(at.between1, copy.between1, GUARD) == 0 &&
            memcmp(at.between2, copy.between2, GUARD) == 0 &&
            memcmp(at.between3, copy.between3, GUARD) == 0 &&
+           memcmp(at.between4, copy.between4, GUARD) == 0 &&
            memcmp(at.after, copy.after, GUARD) == 0;
 }
 
 static px8_opened open_desk(void)
 {
-    return px8_opening(1, at.cells, PX8_CELLS, at.layer, PX8_LAYER, at.shown, PX8_SHOWN);
+    return px8_opening(1, STORES);
 }
 
 static px8_opened open_late(void)
 {
-    return px8_opening(2, at.cells, PX8_CELLS, at.layer, PX8_LAYER, at.shown, PX8_SHOWN);
+    return px8_opening(2, STORES);
 }
 
 static px8_outcome send_message(px8_settings settings, const uint8_t *message, size_t length)
 {
-    return px8_message(settings, message, length, at.cells, PX8_CELLS, at.layer, PX8_LAYER,
-                       at.shown, PX8_SHOWN, at.printer, ROOM);
+    return px8_message(settings, message, length, STORES, at.printer, ROOM);
 }
 
 static px8_outcome send_piece(px8_settings settings, const uint8_t *piece, size_t length)
 {
-    return px8_piece(settings, piece, length, at.cells, PX8_CELLS, at.layer, PX8_LAYER,
-                     at.shown, PX8_SHOWN, at.printer, ROOM);
+    return px8_piece(settings, piece, length, STORES, at.printer, ROOM);
 }
 
 static px8_outcome close_stream(px8_settings settings)
 {
-    return px8_closing(settings, at.cells, PX8_CELLS, at.layer, PX8_LAYER, at.shown, PX8_SHOWN);
+    return px8_closing(settings, STORES);
 }
 
 /* ---- the opening ---- */
@@ -132,6 +136,7 @@ static void opening(void)
     check(all(at.cells, PX8_CELLS, PX8_BLANK), "opening: cells blank");
     check(all(at.layer, PX8_LAYER, 0), "opening: layer empty");
     check(all(at.shown, PX8_SHOWN, PX8_BLANK), "opening: shown screen blank");
+    check(all(at.dots, PX8_DOTS, 0), "opening: no dots");
     check(guards_stay(), "opening: guards");
     check(memcmp(at.printer, copy.printer, ROOM) == 0, "opening: printer buffer");
 }
@@ -184,6 +189,17 @@ static void screens(void)
     SETS((s.selected = 1, s.places[1].line = 4), 27, 209, 1, 10, 10, 10);
     SETS((s.selected = 1, s.places[1].column = 3), 27, 209, 1, 65, 66);
     SETS((s.selected = 1, s.places[1].top = 17), 27, 209, 1, 27, 213);
+}
+
+static void mode_3_fields(void)
+{
+    SETS((s.mode = 3, s.lines1 = 8, s.lines2 = 0, s.columns1 = 80, s.columns2 = 0, s.kind = 3), 27, 208, 3);
+    SETS((s.mode = 3, s.lines1 = 8, s.lines2 = 0, s.columns1 = 80, s.columns2 = 0, s.kind = 3), 27, 211, 0,
+         27, 148, 5, 27, 149, 1, 27, 209, 1, 27, 214, 1, 27, 208, 3);
+    SETS((s.mode = 3, s.lines1 = 8, s.lines2 = 0, s.columns1 = 80, s.columns2 = 0, s.kind = 3), 27, 208, 3,
+         27, 148, 9, 27, 149, 7, 27, 150, 27, 151, 27, 209, 1, 27, 211, 0, 27, 212, 27, 213, 27, 214, 1,
+         27, 215);
+    SETS(s.kind = 3, 27, 208, 3, 27, 208, 0, 24, 24);
 }
 
 static void switches(void)
@@ -430,8 +446,7 @@ static void stream_copies(void)
     fill_desk();
     out = send_piece(open_desk().settings, escape, sizeof escape);
     check(answers(out.answer, 3, 1, 0, 0, 0) && out.answer.printed == PX8_COPY, "stream: a copy");
-    check(answers(px8_piece(out.settings, copies, 1, at.cells, PX8_CELLS, at.layer, PX8_LAYER,
-                            at.shown, PX8_SHOWN, at.printer, PX8_COPY - 1).answer,
+    check(answers(px8_piece(out.settings, copies, 1, STORES, at.printer, PX8_COPY - 1).answer,
                   1, 0, 1, PX8_NO_ROOM, 2),
           "stream: 13 at 2");
     fill_desk();
@@ -539,6 +554,101 @@ static void key_line_windows(void)
     check(all(at.layer, PX8_LAYER, 0) && guards_stay(), "key line: marks go");
     send_message(open_desk().settings, half, sizeof half);
     check(at.shown[PX8_AT(1, 42)] == 'A', "key line: the right half");
+}
+
+/* ---- mode 3 ---- */
+
+/* Mode 3, then the bytes; just these two bytes of the dots are not 0. */
+static px8_outcome check_dots(const uint8_t *bytes, size_t length, size_t at1, uint8_t byte1, size_t at2,
+                              uint8_t byte2, const char *what)
+{
+    static const uint8_t mode[] = {27, 208, 3};
+    static uint8_t expected[PX8_DOTS];
+    px8_outcome out;
+    memset(expected, 0, sizeof expected);
+    expected[at1] = byte1;
+    expected[at2] = byte2;
+    fill_desk();
+    out = send_message(open_desk().settings, mode, sizeof mode);
+    out = send_message(out.settings, bytes, length);
+    check(out.answer.number == PX8_SERVED && memcmp(at.dots, expected, sizeof expected) == 0 && guards_stay(),
+          what);
+    return out;
+}
+
+#define DOTS(at1, byte1, at2, byte2, ...)                                                 \
+    do {                                                                                  \
+        static const uint8_t bytes[] = {__VA_ARGS__};                                     \
+        check_dots(bytes, sizeof bytes, at1, byte1, at2, byte2, "dots: " #__VA_ARGS__);   \
+    } while (0)
+
+static void dots(void)
+{
+    DOTS(0, 128, 0, 128, 27, 199, 1, 0, 0, 0);
+    DOTS(3839, 1, 3839, 1, 27, 199, 1, 63, 1, 223);
+    DOTS(PX8_DOT_AT(9, 300), PX8_DOT_WEIGHT(300), 0, 0, 27, 199, 1, 9, 1, 44);
+    DOTS(0, 0, 0, 0, 27, 199, 1, 9, 1, 44, 27, 199, 0, 9, 1, 44);
+    DOTS(0, 128, 60, 96, 27, 198, 0, 0, 0, 0, 0, 2, 0, 1, 255, 255, 2);
+    DOTS(0, 192, 60, 32, 27, 198, 0, 2, 0, 1, 0, 0, 0, 0, 255, 255, 2);
+    DOTS(300, 4, 300, 4, 27, 198, 0, 5, 0, 5, 0, 5, 0, 5, 128, 0, 3);
+    DOTS(0, 0, 0, 0, 27, 198, 0, 5, 0, 5, 0, 5, 0, 5, 127, 255, 3);
+    DOTS(480, 128, 480, 128, 27, 198, 0, 0, 0, 0, 0, 0, 0, 9, 0, 128, 2);
+    DOTS(0, 63, 0, 63, 27, 198, 0, 0, 0, 0, 0, 7, 0, 0, 255, 255, 2, 27, 198, 0, 1, 0, 0, 0, 0, 0, 0, 255, 255, 1);
+    DOTS(0, 0, 0, 0, 27, 199, 1, 9, 1, 44, 27, 42);
+    DOTS(0, 0, 0, 0, 27, 199, 1, 9, 1, 44, 12);
+    DOTS(0, 0, 0, 0, 27, 199, 1, 9, 1, 44, 27, 208, 0, 24, 24);
+    DOTS(0, 128, 0, 128, 27, 199, 1, 0, 0, 0, 10, 10, 10, 10, 10, 10, 10, 10, 27, 84, 27, 89, 27, 144, 0, 8);
+    DOTS(0, 0, 0, 0, 27, 208, 0, 24, 24, 27, 199, 1, 0, 0, 0, 27, 198, 9, 9, 9, 9, 9, 9, 9, 9, 9, 9, 9);
+}
+
+/* The first bad parameter, and nothing drawn. */
+static void check_bad_dots(const uint8_t *bytes, size_t length, uint8_t parameter, const char *what)
+{
+    const px8_answer a = check_dots(bytes, length, 0, 0, 0, 0, what).answer;
+    check(a.refused == 1 && a.first == PX8_OUT_OF_RANGE && a.parameter == parameter, what);
+}
+
+static void bad_dots(void)
+{
+    static const uint8_t all_bad[] = {27, 199, 2, 64, 2, 0}, vertical[] = {27, 199, 1, 64, 2, 0};
+    static const uint8_t horizontal[] = {27, 199, 1, 63, 1, 224};
+    uint8_t line[] = {27, 198, 0, 0, 0, 0, 0, 0, 0, 0, 255, 255, 2};
+    check_bad_dots(all_bad, sizeof all_bad, 1, "dots: 199, function");
+    check_bad_dots(vertical, sizeof vertical, 2, "dots: 199, vertical");
+    check_bad_dots(horizontal, sizeof horizontal, 4, "dots: 199, horizontal");
+    line[12] = 0;
+    check_bad_dots(line, sizeof line, 11, "dots: 198, function");
+    line[8] = 1;
+    check_bad_dots(line, sizeof line, 8, "dots: 198, vertical end");
+    line[6] = 2;
+    check_bad_dots(line, sizeof line, 6, "dots: 198, horizontal end");
+    line[5] = 64;
+    check_bad_dots(line, sizeof line, 4, "dots: 198, vertical start");
+    line[2] = 1;
+    line[3] = 224;
+    check_bad_dots(line, sizeof line, 2, "dots: 198, horizontal start");
+}
+
+/* The manual's line, and copies of it, under secret too. */
+static void manual_line(void)
+{
+    static const uint8_t bytes[] = {27, 208, 3, 'A', 27, 123, 27, 198, 1, 144, 0, 18, 0, 18, 0, 18, 170, 170, 2};
+    static const uint8_t copies[] = {27, 80};
+    px8_outcome out;
+    fill_desk();
+    out = send_message(open_desk().settings, bytes, sizeof bytes);
+    check(out.answer.refused == 0 && at.dots[1082] == 42 && all(at.dots + 1083, 47, 170) && at.dots[1130] == 128 &&
+              all(at.dots, 1082, 0) && all(at.dots + 1131, PX8_DOTS - 1131, 0),
+          "dots: the manual's line");
+    check(all(at.shown, PX8_SHOWN, PX8_BLANK) && at.cells[0] == 'A', "dots: secret hides text");
+    copy = at;
+    check(px8_message(out.settings, copies, 2, STORES, at.printer, PX8_DOTS - 1).answer.first == PX8_NO_ROOM &&
+              memcmp(at.printer, copy.printer, ROOM) == 0,
+          "dots: no room");
+    out = send_message(out.settings, copies, 2);
+    check(answers(out.answer, 2, 1, 0, 0, 0) && out.answer.printed == PX8_DOTS &&
+              memcmp(at.printer, at.dots, PX8_DOTS) == 0,
+          "dots: copied");
 }
 
 static void layer(void)
@@ -701,20 +811,26 @@ static void refused_openings(void)
     px8_opened opened;
     size_t n;
     fill_desk();
-    opened = px8_opening(2, at.cells, PX8_CELLS - 1, at.layer, PX8_LAYER, at.shown, PX8_SHOWN);
+    opened = px8_opening(2, at.cells, PX8_CELLS - 1, at.layer, PX8_LAYER, at.shown, PX8_SHOWN, at.dots,
+                         PX8_DOTS);
     check(opened.number == PX8_STORE_SIZE &&
               same_settings(opened.settings, settings) &&
               memcmp(&at, &copy, sizeof at) == 0,
           "opening refused: cells");
-    opened = px8_opening(1, at.cells, PX8_CELLS, at.layer, PX8_LAYER + 1, at.shown, PX8_SHOWN);
+    opened = px8_opening(1, at.cells, PX8_CELLS, at.layer, PX8_LAYER + 1, at.shown, PX8_SHOWN, at.dots,
+                         PX8_DOTS);
     check(opened.number == PX8_STORE_SIZE && memcmp(&at, &copy, sizeof at) == 0,
           "opening refused: layer");
-    opened = px8_opening(3, NULL, 0, NULL, 0, NULL, 0);
+    opened = px8_opening(1, at.cells, PX8_CELLS, at.layer, PX8_LAYER, at.shown, PX8_SHOWN, at.dots,
+                         PX8_DOTS - 1);
+    check(opened.number == PX8_STORE_SIZE && memcmp(&at, &copy, sizeof at) == 0,
+          "opening refused: dots");
+    opened = px8_opening(3, NULL, 0, NULL, 0, NULL, 0, NULL, 0);
     check(opened.number == PX8_STORE_SIZE &&
               same_settings(opened.settings, settings),
           "opening refused: null and 0");
     for (n = 0; n < sizeof wrong / sizeof wrong[0]; n++) {
-        opened = px8_opening(wrong[n], at.cells, PX8_CELLS, at.layer, PX8_LAYER, at.shown, PX8_SHOWN);
+        opened = px8_opening(wrong[n], STORES);
         check(opened.number == PX8_BAD_RULE && same_settings(opened.settings, settings) &&
                   memcmp(&at, &copy, sizeof at) == 0,
               "opening refused: rule");
@@ -730,9 +846,12 @@ static void refused_messages(void)
     memset(long_message, 'x', sizeof long_message);
     fill_desk();
     check_refused(px8_message(settings, long_message, 4, at.cells, PX8_CELLS, at.layer, PX8_LAYER,
-                              at.shown, PX8_SHOWN - 1, at.printer, ROOM),
+                              at.shown, PX8_SHOWN - 1, at.dots, PX8_DOTS, at.printer, ROOM),
                   settings, PX8_STORE_SIZE, "refused: shown screen too short");
-    check_refused(px8_message(unsound, NULL, 0, NULL, 0, NULL, 0, NULL, 0, NULL, 0), unsound,
+    check_refused(px8_message(settings, long_message, 4, at.cells, PX8_CELLS, at.layer, PX8_LAYER,
+                              at.shown, PX8_SHOWN, at.dots, PX8_DOTS + 1, at.printer, ROOM),
+                  settings, PX8_STORE_SIZE, "refused: dots too long");
+    check_refused(px8_message(unsound, NULL, 0, NULL, 0, NULL, 0, NULL, 0, NULL, 0, NULL, 0), unsound,
                   PX8_STORE_SIZE, "refused: null and 0");
     check_refused(send_message(unsound, long_message, sizeof long_message), unsound, PX8_TOO_LONG,
                   "refused: message too long");
@@ -804,18 +923,22 @@ static void refused_streams(void)
     unsound.step = 0;
     fill_desk();
     check_refused(px8_piece(unsound, long_piece, sizeof long_piece, at.cells, PX8_CELLS, at.layer,
-                            PX8_LAYER - 1, at.shown, PX8_SHOWN, at.printer, ROOM),
+                            PX8_LAYER - 1, at.shown, PX8_SHOWN, at.dots, PX8_DOTS, at.printer, ROOM),
                   unsound, PX8_STORE_SIZE, "refused: piece, layer too short");
-    check_refused(px8_piece(unsound, NULL, 0, NULL, 0, NULL, 0, NULL, 0, NULL, 0), unsound,
+    check_refused(px8_piece(unsound, NULL, 0, NULL, 0, NULL, 0, NULL, 0, NULL, 0, NULL, 0), unsound,
                   PX8_STORE_SIZE, "refused: piece, null and 0");
     check_refused(send_piece(unsound, long_piece, sizeof long_piece), unsound, PX8_TOO_LONG,
                   "refused: piece too long");
     check_refused(send_piece(unsound, long_piece, 5), unsound, PX8_UNSOUND,
                   "refused: piece, settings not sound");
     check_refused(send_piece(full, long_piece, 5), full, PX8_STREAM_TOO_LONG, "refused: piece, 15");
-    check_refused(px8_closing(unsound, at.cells, PX8_CELLS + 1, at.layer, PX8_LAYER, at.shown, PX8_SHOWN),
+    check_refused(px8_closing(unsound, at.cells, PX8_CELLS + 1, at.layer, PX8_LAYER, at.shown, PX8_SHOWN,
+                              at.dots, PX8_DOTS),
                   unsound, PX8_STORE_SIZE, "refused: closing, cells too long");
-    check_refused(px8_closing(full, NULL, 0, NULL, 0, NULL, 0), full, PX8_STORE_SIZE,
+    check_refused(px8_closing(unsound, at.cells, PX8_CELLS, at.layer, PX8_LAYER, at.shown, PX8_SHOWN,
+                              at.dots, PX8_DOTS - 1),
+                  unsound, PX8_STORE_SIZE, "refused: closing, dots too short");
+    check_refused(px8_closing(full, NULL, 0, NULL, 0, NULL, 0, NULL, 0), full, PX8_STORE_SIZE,
                   "refused: closing, null and 0");
     check_refused(close_stream(unsound), unsound, PX8_UNSOUND, "refused: closing, settings not sound");
     check_refused(send_message(full, long_piece, sizeof long_piece), full, PX8_TOO_LONG,
@@ -903,6 +1026,34 @@ static void unsound_flags(void)
     check(close_stream(settings).answer.number == PX8_SERVED, "sound: a flag in the last column");
 }
 
+/* Mode 3 has one screen, type 3 and display 1; step and tracking are free. */
+static void unsound_mode_3(void)
+{
+    static const uint8_t bytes[] = {27, 208, 3};
+    const px8_settings sound = send_message(open_desk().settings, bytes, sizeof bytes).settings;
+    px8_settings settings = sound;
+    settings.step = 8;
+    settings.tracking = 0;
+    check(close_stream(settings).answer.number == PX8_SERVED, "sound: step 8 in mode 3");
+    settings.kind = 2;
+    check_unsound(settings, "unsound: type 2 in mode 3");
+    settings = sound;
+    settings.display = 0;
+    check_unsound(settings, "unsound: the key line in mode 3");
+    settings = sound;
+    settings.selected = 1;
+    check_unsound(settings, "unsound: screen 2 in mode 3");
+    settings = sound;
+    settings.places[1].column = 2;
+    check_unsound(settings, "unsound: a cursor of screen 2 in mode 3");
+    settings = sound;
+    settings.lines2 = 8;
+    check_unsound(settings, "unsound: lines of screen 2 in mode 3");
+    settings = open_desk().settings;
+    settings.mode = 3;
+    check_unsound(settings, "unsound: the opening's lines in mode 3");
+}
+
 /* Lengths of 0 with null pointers are served where any length is. */
 static void empty_buffers(void)
 {
@@ -911,13 +1062,9 @@ static void empty_buffers(void)
     px8_answer a;
     fill_desk();
     settings = open_desk().settings;
-    a = px8_message(settings, NULL, 0, at.cells, PX8_CELLS, at.layer, PX8_LAYER, at.shown,
-                    PX8_SHOWN, NULL, 0)
-            .answer;
+    a = px8_message(settings, NULL, 0, STORES, NULL, 0).answer;
     check(a.number == PX8_SERVED && a.taken == 0, "empty: message and printer buffer");
-    a = px8_message(settings, bytes, sizeof bytes, at.cells, PX8_CELLS, at.layer, PX8_LAYER,
-                    at.shown, PX8_SHOWN, NULL, 0)
-            .answer;
+    a = px8_message(settings, bytes, sizeof bytes, STORES, NULL, 0).answer;
     check(a.refused == 1 && a.first == PX8_NO_ROOM && a.printed == 0, "empty: a copy refused");
 }
 
@@ -1015,6 +1162,7 @@ int main(void)
 {
     opening();
     screens();
+    mode_3_fields();
     switches();
     keys();
     patterns();
@@ -1034,6 +1182,9 @@ int main(void)
     key_line_windows();
     long_lines();
     late_wrap();
+    dots();
+    bad_dots();
+    manual_line();
     layer();
     printed();
     refused_openings();
@@ -1045,6 +1196,7 @@ int main(void)
     unsound_key_lines();
     unsound_marks();
     unsound_flags();
+    unsound_mode_3();
     empty_buffers();
     compared();
     repeats();

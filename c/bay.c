@@ -22,6 +22,7 @@ typedef struct bay {
     uint8_t cells[PX8_CELLS];
     uint8_t layer[PX8_LAYER];
     uint8_t shown[PX8_SHOWN];
+    uint8_t dots[PX8_DOTS];
     uint8_t printer[PX8_COPY]; /* room for one copy a message */
 } bay;
 
@@ -114,8 +115,8 @@ static void send_message(bay *at, const char *title, message *sent)
 {
     const px8_outcome outcome =
         px8_message(at->settings, sent->bytes, sent->length, at->cells, sizeof at->cells,
-                    at->layer, sizeof at->layer, at->shown, sizeof at->shown,
-                    at->printer, sizeof at->printer);
+                    at->layer, sizeof at->layer, at->shown, sizeof at->shown, at->dots,
+                    sizeof at->dots, at->printer, sizeof at->printer);
     const px8_answer answer = outcome.answer;
     at->settings = outcome.settings;
     sent->length = 0;
@@ -133,7 +134,8 @@ static void send_message(bay *at, const char *title, message *sent)
 static int open_bay(bay *at)
 {
     const px8_opened opened = px8_opening(1, at->cells, sizeof at->cells, at->layer,
-                                          sizeof at->layer, at->shown, sizeof at->shown);
+                                          sizeof at->layer, at->shown, sizeof at->shown,
+                                          at->dots, sizeof at->dots);
     at->settings = opened.settings;
     return opened.number == PX8_SERVED;
 }

@@ -2,8 +2,9 @@
  * px8.h: the terminal of a weighing bay, as a board's firmware links it.
  *
  * The library takes the byte stream that programs write for the Epson PX-8
- * and keeps two virtual screens, a shown screen of 8 rows by 80 and, on
- * request, a printed copy of it. There are these calls:
+ * and keeps two virtual screens, a shown screen of 8 rows by 80, in mode 3 a
+ * picture of 480 by 64 dots beside one text screen and, on request, a printed
+ * copy. There are these calls:
  *
  *   px8_opening   makes the stores ready and gives the opening settings
  *   px8_message   reads one message and brings everything up to date
@@ -20,17 +21,17 @@
  *
  * What the caller keeps. The library allocates nothing, keeps no state of its
  * own and does no input or output. Settings are a plain value that goes in and
- * comes back; the three stores (cells, layer, shown screen) and the printer
+ * comes back; the four stores (cells, layer, shown screen, dots) and the printer
  * buffer are the caller's memory, lent for the time of one call. A call's
  * results depend on its arguments and on the lent bytes alone, so several
  * terminals, threads or interrupt levels can use the library at once if each
  * has its own settings and stores.
  *
  * A list of calls. Open once; then hand each message, piece and closing the
- * settings and the three stores just as the call before left them; a key text,
+ * settings and the four stores just as the call before left them; a key text,
  * which has no store, the settings. Nobody else
- * should write them meanwhile. Settings, cells and layer can be saved and taken
- * up again later without an opening, in the middle of a stream too: they are
+ * should write them meanwhile. Settings, cells, layer and dots can be saved and
+ * taken up again later without an opening, in the middle of a stream too: they are
  * all that stands, and the next message, piece or closing that is served paints
  * the shown screen from them.
  *
@@ -68,9 +69,14 @@ extern "C" {
 #define PX8_PLACES 640        /* places of the shown screen, PX8_ROWS * PX8_WIDTH */
 #define PX8_LAYER 1280        /* bytes of the layer: 640 marks, then 640 codes */
 #define PX8_SHOWN 640         /* bytes of the shown screen */
+#define PX8_DOTS 3840         /* bytes of the dots, PX8_DOT_ROWS * PX8_DOT_ROW */
+#define PX8_DOT_ROW 60        /* bytes of a row of dots */
+#define PX8_DOT_ROWS 64       /* rows of dots, from 0 */
+#define PX8_DOT_COLUMNS 480   /* dots in a row, from 0 */
 #define PX8_MESSAGE_MOST 4096 /* the longest message that is taken, and the longest piece */
 #define PX8_COPY_ROW 82       /* bytes of a row of a printed copy: 80 codes, 13, 10 */
-#define PX8_COPY 656          /* bytes of a printed copy, PX8_ROWS * PX8_COPY_ROW */
+#define PX8_COPY 656          /* bytes of a printed copy, PX8_ROWS * PX8_COPY_ROW; in
+                               * mode 3 it has PX8_DOTS */
 #define PX8_PATTERNS 248      /* bytes of the patterns: 31 codes of 8 rows */
 #define PX8_PATTERN_ROWS 8    /* rows of one pattern */
 #define PX8_PATTERN_FIRST 224 /* the first code with a pattern; the last is 254 */
@@ -92,13 +98,18 @@ extern "C" {
 /* Byte of row 1 to 8, column 1 to 80 in the shown screen and in the marks. */
 #define PX8_AT(row, column) (PX8_WIDTH * ((row) - 1) + (column) - 1)
 
+/* Byte of a dot, vertical 0 to 63, horizontal 0 to 479, in the dots, and the weight
+ * of its bit there. */
+#define PX8_DOT_AT(vertical, horizontal) (PX8_DOT_ROW * (vertical) + (horizontal) / 8)
+#define PX8_DOT_WEIGHT(horizontal) (128 >> ((horizontal) % 8))
+
 /* ---- numbers ---- */
 
 /* The number of a call: 0, or why the whole call was refused. They are tried
  * in this order: 1, 23 by px8_opening, 1, 2, 3, 16 by px8_message, 1, 2, 3, 15 by
  * px8_piece, 1, 3 by px8_closing, 3, 17 by px8_key_text. */
 #define PX8_SERVED 0     /* the call was served */
-#define PX8_STORE_SIZE 1 /* cells, layer or shown screen are not of their size */
+#define PX8_STORE_SIZE 1 /* cells, layer, shown screen or dots are not of their size */
 #define PX8_TOO_LONG 2   /* the message or piece is longer than PX8_MESSAGE_MOST */
 #define PX8_UNSOUND 3    /* a setting is outside its range (see px8_settings) */
 #define PX8_STREAM_TOO_LONG 15 /* the piece would take the count past PX8_COUNT_MOST */
@@ -123,15 +134,16 @@ extern "C" {
 /* The number of the first refused sequence of a call that was served. A
  * refused sequence is skipped, and changes nothing but the counts and the
  * first refusal; in a stream its bytes are counted and wait no more. Sequences
- * are checked in the order 10, 12, 14, 11, 13. With 11 goes the first bad
+ * are checked in the order 10, 12, 11, 13. With 11 goes the first bad
  * parameter, see "which parameter" below. */
 #define PX8_NOT_LISTED 10   /* the byte after ESC is not in the list; 2 bytes skipped */
 #define PX8_OUT_OF_RANGE 11 /* a parameter is outside its range, or its sum with the
                              * one before is too large; whole sequence skipped */
 #define PX8_CUT 12          /* the message ends inside a sequence, or the stream is
                              * closed inside one; the rest skipped */
-#define PX8_NO_ROOM 13      /* ESC 80 with less than PX8_COPY of printer room left */
-#define PX8_MODE_3 14       /* ESC 208 with mode 3; 3 bytes skipped */
+#define PX8_NO_ROOM 13      /* ESC 80 with less than PX8_COPY of printer room left; in
+                             * mode 3 with less than PX8_DOTS */
+/* 14 is no number any more: mode 3 is served. */
 
 /* ---- settings ---- */
 
@@ -166,6 +178,10 @@ typedef struct px8_keys {
  *   0     each at least 8, together at most 48   80        80           8        7
  *   1     equal, 16 to 48                        39        39           16       14
  *   2     equal, 8 to 48                         m         79 - m       8        7
+ *   3     8 and 0                                80        0            8
+ *
+ * In mode 3 there is no screen 2: selected is 0, places[1] is 1, 1, 1 without a
+ * flag; display is 1 and kind 3.
  *
  * Settings are sound when every field lies in its range. What the calls return
  * is always sound, or else exactly what was given to a refused call; so only a
@@ -176,7 +192,7 @@ typedef struct px8_keys {
  * rule. Between `waiting` and `count` there is a padding byte of no fixed value, and
  * there are three behind `rule`: compare settings field by field. */
 typedef struct px8_settings {
-    uint8_t mode;        /* 0, 1 or 2 (ESC 208) */
+    uint8_t mode;        /* 0 to 3 (ESC 208) */
     uint8_t lines1;      /* lines of screen 1, by the table (ESC 208) */
     uint8_t lines2;      /* lines of screen 2 */
     uint8_t columns1;    /* columns of screen 1, by the table (ESC 208) */
@@ -221,14 +237,20 @@ typedef struct px8_settings {
 /* ---- stores ----
  *
  * cells   Screen 1 from byte 0, line after line; screen 2 right after it, at
- *         lines1 * columns1. What is left over belongs to no screen. Any bytes
- *         are accepted.
+ *         lines1 * columns1. What is left over belongs to no screen, in mode 3
+ *         all from byte 640 on. Any bytes are accepted.
  * layer   Marks over the shown screen (ESC 210): byte PX8_AT(row, column) is 0
  *         where there is no mark, else the code at PX8_PLACES further on is
  *         shown in place of the cell's. Any bytes are accepted.
  * shown   What the display shows: byte PX8_AT(row, column). Every message, piece
  *         and closing that is served paints all 640, an empty one too; the
  *         library never reads it.
+ * dots    The picture of mode 3, row after row of PX8_DOT_ROW bytes, the leftmost
+ *         dot in the highest bit: byte PX8_DOT_AT(vertical, horizontal) has it by
+ *         PX8_DOT_WEIGHT(horizontal). Only ESC 198 and 199 in mode 3 draw; ESC 42
+ *         and code 12 in mode 3, an accepted ESC 208 and px8_opening clear it.
+ *         Nothing else in any mode touches it, and any bytes are accepted. Behind
+ *         the line "P4 480 64" it is a portable bitmap.
  */
 
 /* ---- what a message holds ----
@@ -243,7 +265,8 @@ typedef struct px8_settings {
  * selected screen, of R lines; numbers outside the ranges are refusal 11.
  *
  *   ESC 37 n            prints n, 0 to 255
- *   ESC 42              blanks the screen, cursor home, top 1, no marks, no line runs on
+ *   ESC 42              blanks the screen, cursor home, top 1, no marks, no line runs
+ *                         on; in mode 3 no dot either
  *   ESC 50, 51          cursor off, on
  *   ESC 61 m+31 n+31    cursor to line m, 1 to R, and column n, 1 to columns
  *   ESC 67 c            character set, one of U F G E D W I S N
@@ -258,11 +281,15 @@ typedef struct px8_settings {
  *   ESC 150, 151        window up, down by the step, held inside the screen
  *   ESC 160 to 165      INS on, off, CAPS on, off, NUM on, off
  *   ESC 176, 177        key strings off, on
- *   ESC 198, 199        no operation, with 11 and 4 bytes that are not judged
+ *   ESC 198 h0 h0 v0 v0 h1 h1 v1 v1 m m f
+ *                       a line of dots, see "mode 3" below
+ *   ESC 199 f v h h     sets (f 1) or clears (0) a dot; in modes 0 to 2 both do
+ *                         nothing, and their 11 and 4 bytes are not judged
  *   ESC 208 0 n1 n2     mode 0, ESC 208 1 n1 mode 1, ESC 208 2 n1 m p mode 2 with
  *                         boundary p: blanks all cells, no marks, places 1, 1, 1,
  *                         screen 1 selected, step 1, tracking on, no line runs on,
- *                         no flag
+ *                         no flag, no dots
+ *   ESC 208 3           mode 3: the same, and cursor type 3, key display 1
  *   ESC 209 n           selects screen 1 (0) or 2 (1)
  *   ESC 210 x y p       marks row x, 1 to 8, column y, 1 to 80, with code p
  *   ESC 211 n           key display: 0 row 8 is the key line, 1 not
@@ -280,6 +307,19 @@ typedef struct px8_settings {
  * changes the display, with code 12, with a lifted screen and with a window that
  * moves. While tracking is on, a window that misses the cursor's line after
  * printing, codes 8, 10, 13 or ESC 61 moves.
+ *
+ * Mode 3. One text screen of 8 lines by 80, shown whole under the marks, and beside
+ * it the dots, which the library draws and prints but does not mix with the text.
+ * ESC 148 to 151, 209 and 211 to 215 do nothing there and take any parameter; all
+ * others act as ever. ESC 199 f v h h: function 0 or 1, vertical v 0 to 63,
+ * horizontal h 0 to 479. ESC 198 draws from h0, v0 to h1, v1, of the same ranges,
+ * each number in two bytes, the high one first. Of its N + 1 dots, N the longer
+ * distance (the horizontal one, if they are equal) and d the shorter, dot k, 0 to N,
+ * lies k along the longer and floor((2kd + N) / 2N) along the other, from the start
+ * towards the end. It acts if bit k mod 16 of the mask is 1, counted from the highest
+ * bit of its first byte. Function f: 1 clears, 2 sets, 3 inverts. A sequence that is
+ * refused draws nothing. Secret hides the text and not the dots. ESC 80 appends the
+ * PX8_DOTS bytes as they are.
  *
  * Late wrap. By rule 1 a byte printed in the last column goes to the next line at
  * once. By rule 2 the cursor waits there, and its screen's flag says so: the next
@@ -321,12 +361,18 @@ typedef struct px8_settings {
  *
  *   ESC 61 m+31 n+31    1: 32 to R+31       2: 32 to columns+31
  *   ESC 144, 145 a m    1: 0 to R-1         2: 1 to R, and a+m at most R
- *   ESC 208 k ..        1: 0 to 2 (3 is refusal 14)
+ *   ESC 208 k ..        1: 0 to 3
  *   ESC 208 0 n1 n2     2: 8 or more        3: 8 or more, and n1+n2 at most 48
  *   ESC 208 1 n1        2: 16 to 48
  *   ESC 208 2 n1 m p    2: 8 to 48          3: 1 to 78
  *   ESC 210 x y p       1: 1 to 8           2: 1 to 80
  *   ESC 67, 148, 149, 209, 211, 214, 224, 240, 241, 242, 247    1: as listed above
+ *
+ * and in mode 3, where 148, 149, 209, 211 and 214 are not judged, a number of two
+ * bytes being named by its low one:
+ *
+ *   ESC 198             2, 6: horizontal    4, 8: vertical    11: function 1 to 3
+ *   ESC 199             1: function 0, 1    2: vertical       4: horizontal
  *
  * No other parameter is judged.
  */
@@ -343,12 +389,12 @@ typedef struct px8_answer {
                         * too that wait; none by closing */
     uint32_t accepted; /* sequences accepted (printed bytes and codes not counted) */
     uint32_t refused;  /* sequences refused */
-    uint8_t first;     /* number of the first refusal, 10 to 14; 0 if there is none */
+    uint8_t first;     /* number of the first refusal, 10 to 13; 0 if there is none */
     uint8_t parameter; /* its first bad parameter, from 1, if it is 11; else 0 */
     uint32_t offset;   /* where its ESC stands, counted from 0: in the message, or
                         * for a piece and a closing in the stream; 0 if there is
                         * none */
-    size_t printed;    /* bytes of printed copies, a multiple of PX8_COPY */
+    size_t printed;    /* bytes of printed copies: PX8_COPY each, in mode 3 PX8_DOTS */
 } px8_answer;
 
 typedef struct px8_outcome {
@@ -390,28 +436,29 @@ typedef struct px8_repeats {
 
 /*
  * Opens a terminal by rule 1 or 2: blanks (32) all cells and the shown screen,
- * zeroes the layer, and returns the opening settings with number 0. By rule 1 a
- * byte in the last column goes to the next line at once, by rule 2 late (see "late
- * wrap" above); the settings carry the rule from then on.
+ * zeroes the layer and the dots, and returns the opening settings with number 0. By
+ * rule 1 a byte in the last column goes to the next line at once, by rule 2 late (see
+ * "late wrap" above); the settings carry the rule from then on.
  *
- * Refused with 1 unless the lengths are PX8_CELLS, PX8_LAYER and PX8_SHOWN, else
- * with 23 for any other rule. A refused opening alters no byte; the settings that
- * it returns are the opening settings by rule 1 all the same.
+ * Refused with 1 unless the lengths are PX8_CELLS, PX8_LAYER, PX8_SHOWN and
+ * PX8_DOTS, else with 23 for any other rule. A refused opening alters no byte; the
+ * settings that it returns are the opening settings by rule 1 all the same.
  */
 px8_opened px8_opening(size_t rule,
                        uint8_t *cells, size_t cells_length,
                        uint8_t *layer, size_t layer_length,
-                       uint8_t *shown, size_t shown_length);
+                       uint8_t *shown, size_t shown_length,
+                       uint8_t *dots, size_t dots_length);
 
 /*
  * Reads a message of up to PX8_MESSAGE_MOST bytes (it may be empty), brings
- * cells, layer and settings up to date and paints the shown screen.
+ * cells, layer, dots and settings up to date and paints the shown screen.
  *
  * Printed copies (ESC 80) are written to the printer buffer one behind the
  * other from its start, PX8_COPY bytes each: the picture at that moment, 8
- * rows of 80 with codes below 32 as 32, each followed by 13, 10. No other byte
- * of the buffer is written, and none is read. It may be of any length, and
- * another one each time.
+ * rows of 80 with codes below 32 as 32, each followed by 13, 10; in mode 3 the
+ * PX8_DOTS bytes of the dots. No other byte of the buffer is written, and none is
+ * read. It may be of any length, and another one each time.
  *
  * Each message is read by itself: a sequence does not run on into the next
  * one (number 12), save that 27, 209 at the very end means 27, 209, 0. A line
@@ -433,6 +480,7 @@ px8_outcome px8_message(px8_settings settings,
                         uint8_t *cells, size_t cells_length,
                         uint8_t *layer, size_t layer_length,
                         uint8_t *shown, size_t shown_length,
+                        uint8_t *dots, size_t dots_length,
                         uint8_t *printer, size_t printer_length);
 
 /*
@@ -441,12 +489,13 @@ px8_outcome px8_message(px8_settings settings,
  * in the settings are read before it. What is unfinished at its end, 27, 209
  * included, is not judged and waits in the settings that come back; the piece
  * takes all its bytes all the same, and the count grows by them. Everything else
- * is as with a message: cells, layer, settings and printed copies, and the shown
+ * is as with a message: cells, layer, dots, settings and printed copies, and the shown
  * screen is painted, a piece that finishes nothing included. answer.offset
  * counts from the stream's start; it may lie before this piece, where the
  * sequence began earlier.
  *
- * A copy (ESC 80) needs PX8_COPY bytes of room in the call that brings the 80.
+ * A copy (ESC 80) needs its room, PX8_COPY or PX8_DOTS bytes, in the call that brings
+ * the 80.
  *
  * A refused call (answer.number 1, 2, 3 or 15) changes nothing, as with a
  * message; the stream stands where it stood. After 15 closing still works.
@@ -456,6 +505,7 @@ px8_outcome px8_piece(px8_settings settings,
                       uint8_t *cells, size_t cells_length,
                       uint8_t *layer, size_t layer_length,
                       uint8_t *shown, size_t shown_length,
+                      uint8_t *dots, size_t dots_length,
                       uint8_t *printer, size_t printer_length);
 
 /*
@@ -471,7 +521,8 @@ px8_outcome px8_piece(px8_settings settings,
 px8_outcome px8_closing(px8_settings settings,
                         uint8_t *cells, size_t cells_length,
                         uint8_t *layer, size_t layer_length,
-                        uint8_t *shown, size_t shown_length);
+                        uint8_t *shown, size_t shown_length,
+                        uint8_t *dots, size_t dots_length);
 
 /*
  * Sets the text of a key, number 1 to PX8_KEYS, to these PX8_KEY_TEXT codes, which

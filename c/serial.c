@@ -27,13 +27,15 @@
 #endif
 
 /* All that a bay keeps. There is room for every copy that a part can ask for, so
- * that none is refused because of where the line is cut. */
+ * that none is refused because of where the line is cut, in mode 3 too, where a copy
+ * is the dots. */
 typedef struct bay {
     px8_settings settings;
     uint8_t cells[PX8_CELLS];
     uint8_t layer[PX8_LAYER];
     uint8_t shown[PX8_SHOWN];
-    uint8_t printer[(PART + 1) / 2 * PX8_COPY];
+    uint8_t dots[PX8_DOTS];
+    uint8_t printer[(PART + 1) / 2 * PX8_DOTS];
 } bay;
 
 /* What came of the whole line. */
@@ -63,7 +65,8 @@ static int add(total *to, px8_answer answer)
 }
 
 /* A board would send these bytes to its printer as they are. Here each row
- * stands between bars, without its 13 and 10. */
+ * stands between bars, without its 13 and 10. (A copy of mode 3 has no rows of text;
+ * the line that is stored beside this program has none.) */
 static void send_copies(const uint8_t *copies, size_t length)
 {
     size_t row;
@@ -75,7 +78,8 @@ static int take_part(bay *at, total *to, const uint8_t *part, size_t length)
 {
     const px8_outcome outcome =
         px8_piece(at->settings, part, length, at->cells, sizeof at->cells, at->layer,
-                  sizeof at->layer, at->shown, sizeof at->shown, at->printer, sizeof at->printer);
+                  sizeof at->layer, at->shown, sizeof at->shown, at->dots, sizeof at->dots,
+                  at->printer, sizeof at->printer);
     at->settings = outcome.settings;
     send_copies(at->printer, px8_printed(at->printer, sizeof at->printer, outcome.answer.printed));
     return add(to, outcome.answer);
@@ -84,7 +88,8 @@ static int take_part(bay *at, total *to, const uint8_t *part, size_t length)
 static int close_stream(bay *at, total *to)
 {
     const px8_outcome outcome = px8_closing(at->settings, at->cells, sizeof at->cells, at->layer,
-                                            sizeof at->layer, at->shown, sizeof at->shown);
+                                            sizeof at->layer, at->shown, sizeof at->shown, at->dots,
+                                            sizeof at->dots);
     const int served = add(to, outcome.answer);
     at->settings = outcome.settings;
     to->closed = to->taken;
@@ -128,7 +133,8 @@ int main(int words, char **word)
     static total line;
     const long most = words > 1 ? atol(word[1]) : PART;
     const px8_opened opened = px8_opening(1, here.cells, sizeof here.cells, here.layer,
-                                          sizeof here.layer, here.shown, sizeof here.shown);
+                                          sizeof here.layer, here.shown, sizeof here.shown,
+                                          here.dots, sizeof here.dots);
     here.settings = opened.settings;
     if (most < 1 || most > PART || opened.number != PX8_SERVED)
         return 2;

@@ -15,13 +15,13 @@
 #define MOST 4096        /* what the README says a call takes at most, */
 #define STREAM_MOST 8192 /* and a piece and a closing, which are made of message calls */
 
-static uint8_t cells[PX8_CELLS], layer[PX8_LAYER], shown[PX8_SHOWN], printer[2 * PX8_COPY];
+static uint8_t cells[PX8_CELLS], layer[PX8_LAYER], shown[PX8_SHOWN], dots[PX8_DOTS], printer[PX8_DOTS];
 static px8_settings settings;
 
 static void *nothing(void *unused) { return unused; }
 
 static void *opening(void *unused) {
-    settings = px8_opening(2, cells, sizeof cells, layer, sizeof layer, shown, sizeof shown).settings;
+    settings = px8_opening(2, cells, sizeof cells, layer, sizeof layer, shown, sizeof shown, dots, sizeof dots).settings;
     return unused;
 }
 
@@ -29,14 +29,24 @@ static void *opening(void *unused) {
 static void *message(void *unused) {
     static const uint8_t bytes[] = {'3', '8', ',', 27, 61, 55, 32, 10, 27, 80, 27, 208, 2, 10, 20, 35, 27, 210, 1, 1, 90, 27, 80,
                                     27, 224, 230, 1, 2, 3, 4, 5, 6, 7, 8, 27, 208, 1, 16, 'A', 27, 144, 0, 2};
-    settings = px8_message(settings, bytes, sizeof bytes, cells, sizeof cells, layer, sizeof layer, shown, sizeof shown, printer, sizeof printer).settings;
+    settings = px8_message(settings, bytes, sizeof bytes, cells, sizeof cells, layer, sizeof layer, shown, sizeof shown, dots, sizeof dots, printer, sizeof printer).settings;
+    return unused;
+}
+
+/* mode 3: a sloping line of dots, a dot, a copy; and back, as the calls after it expect */
+static void *drawing(void *unused) {
+    static const uint8_t bytes[] = {27, 208, 3, 'A', 27, 198, 1, 144, 0, 18, 0, 18, 0, 60, 170, 170, 3, 27, 199, 1, 63, 1, 223, 27, 80,
+                                    27, 208, 1, 16};
+    const px8_outcome out = px8_message(settings, bytes, sizeof bytes, cells, sizeof cells, layer, sizeof layer, shown, sizeof shown, dots, sizeof dots, printer, sizeof printer);
+    if (out.answer.printed != PX8_DOTS || out.answer.refused != 0) abort();
+    settings = out.settings;
     return unused;
 }
 
 /* the start of a line, cut inside a sequence */
 static void *piece(void *unused) {
     static const uint8_t bytes[] = {'3', '8', ',', 27, 61, 55, 32, 10, 27, 80, 27, 208, 2};
-    settings = px8_piece(settings, bytes, sizeof bytes, cells, sizeof cells, layer, sizeof layer, shown, sizeof shown, printer, sizeof printer).settings;
+    settings = px8_piece(settings, bytes, sizeof bytes, cells, sizeof cells, layer, sizeof layer, shown, sizeof shown, dots, sizeof dots, printer, sizeof printer).settings;
     if (settings.held != 3) abort();
     return unused;
 }
@@ -46,13 +56,13 @@ static void *next(void *unused) {
     static const uint8_t bytes[] = {10, 20, 35, 27, 210, 1, 1, 90, 27, 80, 27, 224, 230, 1, 2, 3, 4, 5, 6, 7, 8, 'A', 27, 61, 55, 32, 10,
                                     'L', 'O', 'A', 'D', ' ', 'k', 'g', ' ', '3', '8', ',', '5', '0', '0', 27, 208, 1, 16, 27, 210, 1, 1, 90,
                                     27, 80, 27, 144, 0, 2, 'A', 10, 27, 198, 1, 2, 3, 4, 5, 6, 7, 8, 9, 10};
-    settings = px8_piece(settings, bytes, sizeof bytes, cells, sizeof cells, layer, sizeof layer, shown, sizeof shown, printer, sizeof printer).settings;
+    settings = px8_piece(settings, bytes, sizeof bytes, cells, sizeof cells, layer, sizeof layer, shown, sizeof shown, dots, sizeof dots, printer, sizeof printer).settings;
     if (settings.held != PX8_WAITING_MOST) abort();
     return unused;
 }
 
 static void *closing(void *unused) {
-    settings = px8_closing(settings, cells, sizeof cells, layer, sizeof layer, shown, sizeof shown).settings;
+    settings = px8_closing(settings, cells, sizeof cells, layer, sizeof layer, shown, sizeof shown, dots, sizeof dots).settings;
     if (settings.held != 0) abort();
     return unused;
 }
@@ -101,12 +111,13 @@ int main(void) {
     size_t thread = used(nothing);
     size_t open = used(opening) - thread;
     size_t serve = used(message) - thread;
+    size_t draw = used(drawing) - thread;
     size_t start = used(piece) - thread;
     size_t rest = used(next) - thread;
     size_t end = used(closing) - thread;
     size_t name = used(key_text) - thread;
     size_t lay = used(compare) - thread;
     size_t work = used(repeats) - thread;
-    printf("opening %zu\nmessage %zu\npiece %zu\nnext piece %zu\nclosing %zu\nkey text %zu\ncompare %zu\nkey repeats %zu\n", open, serve, start, rest, end, name, lay, work);
-    return open <= MOST && serve <= MOST && start <= STREAM_MOST && rest <= STREAM_MOST && end <= STREAM_MOST && name <= MOST && lay <= MOST && work <= MOST ? 0 : 1;
+    printf("opening %zu\nmessage %zu\ndrawing %zu\npiece %zu\nnext piece %zu\nclosing %zu\nkey text %zu\ncompare %zu\nkey repeats %zu\n", open, serve, draw, start, rest, end, name, lay, work);
+    return open <= MOST && serve <= MOST && draw <= MOST && start <= STREAM_MOST && rest <= STREAM_MOST && end <= STREAM_MOST && name <= MOST && lay <= MOST && work <= MOST ? 0 : 1;
 }

@@ -26,7 +26,7 @@ const PARTS: [Part; 3] = [
         name: "terminal",
         breaks: BREAKS,
         list: "BROKEN: &[Functions]",
-        files: &["settings", "read", "stream", "sound", "picture", "apply", "calls"],
+        files: &["settings", "dots", "picture", "read", "stream", "sound", "apply", "calls"],
         calls: ("calls", &["opening", "message", "piece", "closing", "key_text", "printed"]),
     },
     Part {

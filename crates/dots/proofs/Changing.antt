@@ -6,7 +6,7 @@ use native.Mathlib.Omega.{arith}
 use lib.Bits.{and-block, and-mask, and-zero-r, bitAnd, bitOr, bitXor, or-add-and, xor-add-and}
 use lib.Pow.{pow-pos}
 use borrow.Author.Tests.{ne-eqb}
-use Rattle.dots.specs.Dot.{bitOf, wanted, weight, withBit}
+use Rattle.model.specs.Dot.{bitOf, wanted, weight, withBit}
 use Rattle.dots.proofs.Weights.{split, weight-pos, weight-pow}
 
 and-weight : (byte h : ℕ) → bitAnd byte (weight h) ≡ bitOf (weight h) byte * weight h

@@ -1,15 +1,16 @@
 -- The claims, from the laws of dots, places and lines.
-use mathlib.Core.Path.{_∙_, _≡_, ap, sym}
+use mathlib.Core.Path.{_≡_, ap}
 use Prim.Native.Nat.{_<_, ℕ}
 use native.Mathlib.Omega.{arith}
 use mathlib.Core.List.{List}
 use lib.ListN.{length}
-use Rattle.dots.specs.declared.Point.{Point}
-use Rattle.dots.specs.Dot.{OnScreen}
+use Rattle.model.specs.declared.Point.{Point}
+use Rattle.model.specs.Dot.{OnScreen}
+use Rattle.model.proofs.DotLaws.{length-lined, length-withDot}
 use Rattle.dots.specs.Claims.{Drawn, Places, PutDot}
 use Rattle.dots.proofs.Places.{line-box, line-end, line-once, line-start, same-point}
-use Rattle.dots.proofs.Dots.{dot-here, dot-there, length-withDot}
-use Rattle.dots.proofs.Drawing.{length-lined, lined-off, lined-on}
+use Rattle.dots.proofs.Dots.{dot-here, dot-there}
+use Rattle.dots.proofs.Drawing.{lined-off, lined-on}
 
 pub places : (from to : Point) → Places from to
 places from to =
@@ -33,5 +34,5 @@ drawn-line f mask from to dots a b size =
     record {
       acts = lined-on f mask from to a b dots size;
       others = λ q c miss. lined-off f mask from to a b dots size (q .v) (q .h) (c .horizontal) (λ k l on x y. miss k (omega arith) on (same-point _ q x y));
-      size = length-lined f mask from to a b dots size ∙ sym size;
+      size = length-lined f mask from to dots;
     }

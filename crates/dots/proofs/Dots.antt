@@ -4,17 +4,13 @@ use Prim.Native.Nat.{_%_, _*_, _+_, _/_, _<_, ℕ}
 use native.Mathlib.Nat.{zero-div}
 use native.Mathlib.Omega.{arith}
 use mathlib.Core.List.{List}
-use lib.ListN.{List·getD-eq-default, getD, getD-replicate, length, length-replicate, length-set, replicate, set}
+use lib.ListN.{List·getD-eq-default, getD, getD-replicate, length, length-replicate, replicate, set}
 use lib.Seq.{getD-set-other, getD-set-same}
 use lib.Dec.{eqb, ltb}
 use borrow.Author.Tests.{eqb-false, eqb-true, ltb-false, ltb-true}
-use Rattle.dots.specs.Dot.{acted, bitOf, byteOf, dotAt, wanted, weight, withBit, withDot}
+use Rattle.model.specs.Dot.{acted, bitOf, byteOf, dotAt, wanted, weight, withBit, withDot}
 use Rattle.dots.proofs.Outcomes.{by-outcome}
 use Rattle.dots.proofs.Weights.{bit-here, bit-there, wanted-below}
-
-pub length-withDot : (on v h : ℕ) (dots : List ℕ) → length (withDot on v h dots) ≡ length dots
-unfolding withDot
-length-withDot on v h dots = length-set dots (byteOf v h) (withBit on (weight h) (getD dots (byteOf v h) 0))
 
 -- the dot is what it was made ..
 pub dot-here : (on v h : ℕ) (dots : List ℕ) → on < 2 → byteOf v h < length dots → dotAt v h (withDot on v h dots) ≡ on
@@ -39,10 +35,6 @@ dot-there on v h v′ h′ dots two a b l ne =
 
 -- the same of 198's function
 module _ (f v h : ℕ) (dots : List ℕ) where
-  pub length-acted : length (acted f v h dots) ≡ length dots
-  unfolding acted
-  length-acted = length-withDot (wanted f (dotAt v h dots)) v h dots
-
   pub acted-here : byteOf v h < length dots → dotAt v h (acted f v h dots) ≡ wanted f (dotAt v h dots)
   unfolding acted
   acted-here l = dot-here (wanted f (dotAt v h dots)) v h dots (wanted-below f (dotAt v h dots)) l

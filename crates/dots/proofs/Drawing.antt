@@ -7,12 +7,13 @@ use mathlib.Core.List.{List}
 use lib.ListN.{length}
 use lib.Dec.{eqb}
 use borrow.Author.Tests.{eq-eqb, eqb-false, eqb-true, ne-eqb}
+use Rattle.model.specs.declared.Point.{Point}
+use Rattle.model.specs.Dot.{OnScreen, acted, byteOf, dotAt, wanted}
+use Rattle.model.specs.Strokes.{drawn, lineDot, lined, longer, maskBit, stepped}
 use Rattle.model.proofs.Tests.{cond-at}
-use Rattle.dots.specs.declared.Point.{Point}
-use Rattle.dots.specs.Dot.{OnScreen, acted, byteOf, dotAt, wanted}
-use Rattle.dots.specs.Line.{drawn, lineDot, lined, longer, maskBit, stepped}
+use Rattle.model.proofs.DotLaws.{length-drawn}
 use Rattle.dots.proofs.Outcomes.{by-outcome}
-use Rattle.dots.proofs.Dots.{acted-here, acted-there, length-acted}
+use Rattle.dots.proofs.Dots.{acted-here, acted-there}
 use Rattle.dots.proofs.Places.{line-once, line-seen}
 
 -- the two ways of `step`
@@ -48,15 +49,8 @@ module _ (f mask : ℕ) (from to : Point) (a : OnScreen from) (b : OnScreen to) 
   abbrev pub Missed : ℕ → ℕ → ℕ → Type 0
   Missed n v h = (k : ℕ) → k < n → maskBit mask k ≡ 1 → lineDot from to k .v ≡ v → lineDot from to k .h ≡ h → ⊥
 
-  length-drawn : (n : ℕ) → length (after n) ≡ 3840
-  unfolding drawn stepped
-  length-drawn zero = size
-  length-drawn (suc n) =
-      cond-at (λ l. length l ≡ 3840) (eqb (maskBit mask n) 1) (acted f (lineDot from to n .v) (lineDot from to n .h) (after n)) (after n)
-      (λ t. length-acted f (lineDot from to n .v) (lineDot from to n .h) (after n) ∙ length-drawn n) (λ t. length-drawn n)
-
   there : (n : ℕ) → n < longer from to + 1 → byteOf (lineDot from to n .v) (lineDot from to n .h) < length (after n)
-  there n l = let p = line-seen from to a b n (omega arith) in omega (arith, length-drawn n)
+  there n l = let p = line-seen from to a b n (omega arith) in omega (arith, size, length-drawn f mask from to dots n)
 
   drawn-off : (n v h : ℕ) → n ≤ longer from to + 1 → h < 480 → Missed n v h → dotAt v h (after n) ≡ dotAt v h dots
   unfolding drawn stepped
@@ -98,8 +92,3 @@ module _ (f mask : ℕ) (from to : Point) (a : OnScreen from) (b : OnScreen to) 
   pub lined-off : (v h : ℕ) → h < 480 → Missed (longer from to + 1) v h → dotAt v h (lined f mask from to dots) ≡ dotAt v h dots
   unfolding lined
   lined-off v h c miss = drawn-off (longer from to + 1) v h (omega arith) c miss
-
-  -- the store keeps its size
-  pub length-lined : length (lined f mask from to dots) ≡ 3840
-  unfolding lined
-  length-lined = length-drawn (longer from to + 1)

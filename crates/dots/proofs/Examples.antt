@@ -3,9 +3,9 @@ use mathlib.Core.Path.{_≡_, refl}
 use Prim.Native.Nat.{ℕ, _*_, _+_}
 use mathlib.Core.List.{List, [], _∷_, _++_}
 use lib.ListN.{getD, replicate}
-use Rattle.dots.specs.declared.Point.{Point}
-use Rattle.dots.specs.Dot.{acted, byteOf, dotAt, weight, withDot}
-use Rattle.dots.specs.Line.{drawn, flat, lineDot, lined, longer, maskBit, offsetAt, placed, shorter, stepped}
+use Rattle.model.specs.declared.Point.{Point}
+use Rattle.model.specs.Dot.{acted, byteOf, dotAt, weight, withDot}
+use Rattle.model.specs.Strokes.{drawn, flat, lineDot, lined, longer, maskBit, offsetAt, placed, shorter, stepped}
 
 abbrev point : ℕ → ℕ → Point
 point h v = record { v = v; h = h }

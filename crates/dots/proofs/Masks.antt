@@ -4,7 +4,7 @@ use Prim.Native.Nat.{_%_, _*_, _+_, _-_, _/_, _<_, _^_, _≤_, ℕ}
 use native.Mathlib.Nat.{div-div-eq-div-mul}
 use native.Mathlib.Omega.{arith}
 use lib.Pow.{pow-add, pow-pos}
-use Rattle.dots.specs.Line.{maskBit}
+use Rattle.model.specs.Strokes.{maskBit}
 use Rattle.dots.proofs.Weights.{bit-below}
 
 -- the mask of a first byte and a second one

@@ -3,7 +3,7 @@ use mathlib.Core.Path.{_∙_, _≡_}
 use Prim.Native.Nat.{_*_, _+_, _-_, _<_, _≤_, suc, zero, ℕ}
 use native.Mathlib.Nat.{div-eq-of-lt-le, div-lt-iff-lt-mul, div-zero, mul-le-mul-right}
 use native.Mathlib.Omega.{arith}
-use Rattle.dots.specs.Line.{offsetAt}
+use Rattle.model.specs.Strokes.{offsetAt}
 use Rattle.dots.specs.Walk.{Remains}
 
 -- with N = 0 there is no offset

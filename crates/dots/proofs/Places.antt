@@ -5,10 +5,10 @@ use native.Mathlib.Omega.{arith}
 use mathlib.Core.Bool.{Bool, cond, false, true}
 use lib.Dec.{leb}
 use borrow.Author.Tests.{le-leb, leb-false, leb-true, lt-leb}
-use Rattle.dots.specs.declared.Point.{Point}
+use Rattle.model.specs.declared.Point.{Point}
 use Rattle.model.proofs.Tests.{cond-at}
-use Rattle.dots.specs.Dot.{OnScreen}
-use Rattle.dots.specs.Line.{distance, flat, lineDot, longer, offsetAt, placed, shorter, towards}
+use Rattle.model.specs.Dot.{OnScreen}
+use Rattle.model.specs.Strokes.{distance, flat, lineDot, longer, offsetAt, placed, shorter, towards}
 use Rattle.dots.specs.Walk.{Measured}
 use Rattle.dots.proofs.Outcomes.{by-outcome}
 use Rattle.dots.proofs.Offsets.{offset-end, offset-le, offset-start}

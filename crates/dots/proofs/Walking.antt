@@ -5,9 +5,9 @@ use native.Mathlib.Omega.{arith}
 use mathlib.Core.Bool.{Bool, cond, false, true}
 use lib.Dec.{leb}
 use borrow.Author.Tests.{leb-false, lt-leb}
-use Rattle.dots.specs.declared.Point.{Point}
-use Rattle.dots.specs.Dot.{OnScreen}
-use Rattle.dots.specs.Line.{distance, lineDot, offsetAt, placed, towards}
+use Rattle.model.specs.declared.Point.{Point}
+use Rattle.model.specs.Dot.{OnScreen}
+use Rattle.model.specs.Strokes.{distance, lineDot, offsetAt, placed, towards}
 use Rattle.dots.specs.Walk.{Carried, Measured, shifted}
 use Rattle.dots.proofs.Outcomes.{by-outcome}
 use Rattle.dots.proofs.Offsets.{offset-le, offset-over, offset-same, offset-start, remains-over, remains-same, remains-start}

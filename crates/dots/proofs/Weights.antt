@@ -7,7 +7,7 @@ use borrow.Author.Tests.{ltb-false, ltb-true}
 use native.Mathlib.Omega.{arith}
 use lib.Dec.{eqb, ltb}
 use Rattle.model.proofs.Tests.{cond-at}
-use Rattle.dots.specs.Dot.{bitOf, wanted, weight, withBit}
+use Rattle.model.specs.Dot.{bitOf, wanted, weight, withBit}
 use Rattle.dots.proofs.Outcomes.{by-outcome}
 
 -- what holds of the eight weights holds of every dot's

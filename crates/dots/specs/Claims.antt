@@ -1,11 +1,11 @@
--- Document 02, P11: what holds of every dot, every line and the store after it, said of the definitions of Dot and Line, which the code's promises name.
+-- Document 02, P11: what holds of every dot, every line and the store after it, said of the model's definitions (Dot, Strokes), which the code's promises name.
 use mathlib.Core.Path.{_≡_}
-use Prim.Native.Nat.{ℕ, _≤_, _<_, min, max}
+use Prim.Native.Nat.{ℕ, _≤_, min, max}
 use mathlib.Core.List.{List}
 use lib.ListN.{length}
-use Rattle.dots.specs.declared.Point.{Point}
-use Rattle.dots.specs.Dot.{OnScreen, dotAt, wanted, withDot}
-use Rattle.dots.specs.Line.{lineDot, lined, longer, maskBit}
+use Rattle.model.specs.declared.Point.{Point}
+use Rattle.model.specs.Dot.{OnScreen, dotAt, wanted, withDot}
+use Rattle.model.specs.Strokes.{lineDot, lined, longer, maskBit}
 
 -- between the end points, on both axes
 pub record InBox (from to p : Point) : Type 0 where

@@ -1,4 +1,2 @@
-pub mod Dot
-pub mod Line
 pub mod Claims
 pub mod Walk

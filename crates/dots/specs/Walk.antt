@@ -3,8 +3,8 @@ use mathlib.Core.Path.{_≡_}
 use Prim.Native.Nat.{ℕ, _+_, _-_, _*_, _≤_, _<_}
 use mathlib.Core.Bool.{Bool, cond}
 use lib.Dec.{leb}
-use Rattle.dots.specs.declared.Point.{Point}
-use Rattle.dots.specs.Line.{flat, longer, offsetAt, placed, shorter}
+use Rattle.model.specs.declared.Point.{Point}
+use Rattle.model.specs.Strokes.{flat, longer, offsetAt, placed, shorter}
 
 -- x, further by `by` in the direction from a to b
 abbrev pub shifted : ℕ → ℕ → ℕ → ℕ → ℕ

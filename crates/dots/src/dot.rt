@@ -2,8 +2,8 @@
 ghost use mathlib.Core.Path.{_≡_};
 ghost use Prim.Native.Nat.{ℕ, _+_, _*_, _/_, _<_};
 ghost use lib.ListN.{length, replicate};
-ghost use Rattle.dots.specs.Dot.{OnScreen, acted, bitOf, wanted, weight, withBit, withDot};
-use crate::Point;
+ghost use Rattle.model.specs.Dot.{OnScreen, acted, bitOf, dotAt, wanted, weight, withBit, withDot};
+use model::Point;
 use store::fill;
 
 // "199 sets (1) or clears (0) a dot"
@@ -18,6 +18,14 @@ pub fn put_dot(dots: &mut [u8], p: Point, on: u8)
     } else {
         act(dots, row, h, 1);
     }
+}
+
+// A dot: 0 off, 1 on.
+pub fn dot_at(dots: &[u8], v: usize, h: usize) -> u8
+    requires { ⌜ (length (now dots) ≡ 3840) × ((v < 64) × (h < 480)) ⌝ }
+    ensures { λ r. ⌜ (r ≡ dotAt v h (now (dots .entry))) × (r < 2) ⌝ }
+{
+    dots[60 * v + h / 8] / weight_of(h) % 2
 }
 
 // "clear the dots"

@@ -2,11 +2,11 @@
 ghost use mathlib.Core.Path.{_≡_};
 ghost use Prim.Native.Nat.{ℕ, _+_, _*_, _/_, _≤_, _<_};
 ghost use lib.ListN.{length};
-ghost use Rattle.dots.specs.Dot.{OnScreen};
-ghost use Rattle.dots.specs.Line.{distance, lined, maskBit, stepped};
+ghost use Rattle.model.specs.Dot.{OnScreen};
+ghost use Rattle.model.specs.Strokes.{distance, lined, maskBit, stepped};
 ghost use Rattle.dots.specs.Walk.{Carried, Measured, shifted};
-use crate::Point;
 use crate::dot::act;
+use model::Point;
 
 // What is carried from dot to dot: the dot's number, the first byte of its row (so that no dot costs a product), its column, and the
 // remainder of 2kd+N by 2N (so that none costs a quotient). In `usize` a compiler takes it apart into registers, in `u16` it does not.

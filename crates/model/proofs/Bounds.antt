@@ -13,7 +13,7 @@ use Rattle.model.specs.Bytes.{joined}
 use Rattle.model.specs.State.{State}
 use Rattle.model.specs.Judging.{limitsOf}
 use Rattle.model.specs.Reading.{Read, uncut}
-use Rattle.model.specs.Items.{blankAnswer, counted, countedAll, obeyedBy, printerBytes, read, readsOf}
+use Rattle.model.specs.Items.{blankAnswer, counted, countedAll, obeyedBy, read, readsOf}
 use Rattle.model.specs.Calls.{Promised, Request, Terminal, accepted, answerOf, called, itemBytes, message, numberOf, readsBy, readsIn, request, startOf, takenIn}
 use Rattle.model.proofs.Tests.{cond-at}
 use Rattle.model.proofs.CallLaws.{refused-answer}
@@ -21,11 +21,11 @@ use Rattle.model.proofs.Gathering.{AllSome, joined-uncut, none, some, s
 use Rattle.model.proofs.Printing.{printed-is, prints-fit, taken-is}
 
 -- one item more is one sequence more at most
-few-counted : (i : Item) (at : ℕ) (a : Answer) → counted i at a .accepted + counted i at a .refused ≤ a .accepted + a .refused + 1
-few-counted (Printed c) at a = omega arith
-few-counted (Control c) at a = omega arith
-few-counted (Sequence q) at a = omega arith
-few-counted (Refused k p) at a = omega arith
+few-counted : (i : Item) (at n : ℕ) (a : Answer) → counted i at n a .accepted + counted i at n a .refused ≤ a .accepted + a .refused + 1
+few-counted (Printed c) at n a = omega arith
+few-counted (Control c) at n a = omega arith
+few-counted (Sequence q) at n a = omega arith
+few-counted (Refused k p) at n a = omega arith
 
 -- and every item has a byte
 few-all : {bss : List (List ℕ)} → AllSome bss → (at : ℕ) (st : State) (room : ℕ) (a : Answer) → let b = countedAll (readsOf bss at st room) a in
@@ -34,22 +34,22 @@ unfolding readsOf countedAll joined
 few-all none at st room a = omega arith
 few-all (some {x = x} {xs = xs} h p) at st room a =
     let r : Read = read at x (limitsOf (st .settings)) room in
-    let a₂ : Answer = counted (r .item) at a in
-    omega (arith, few-all p (at + length x) (obeyedBy r st) (room - printerBytes (r .item)) a₂, few-counted (r .item) at a, length-append x (joined xs))
+    let a₂ : Answer = counted (r .item) at (r .prints) a in
+    omega (arith, few-all p (at + length x) (obeyedBy r st) (room - r .prints) a₂, few-counted (r .item) at (r .prints) a, length-append x (joined xs))
 
 -- the first refusal begins at or before the end of the bytes
-near-counted : (i : Item) (at : ℕ) (a : Answer) (n : ℕ) → at ≤ n → a .offset ≤ n → counted i at a .offset ≤ n
-near-counted (Printed c) at a n h k = k
-near-counted (Control c) at a n h k = k
-near-counted (Sequence q) at a n h k = k
-near-counted (Refused c p) at a n h k = cond-at (λ (o : ℕ). o ≤ n) (eqb (a .refused) 0) at (a .offset) (λ e. h) (λ e. k)
+near-counted : (i : Item) (at p : ℕ) (a : Answer) (n : ℕ) → at ≤ n → a .offset ≤ n → counted i at p a .offset ≤ n
+near-counted (Printed c) at p a n h k = k
+near-counted (Control c) at p a n h k = k
+near-counted (Sequence q) at p a n h k = k
+near-counted (Refused c e) at p a n h k = cond-at (λ (o : ℕ). o ≤ n) (eqb (a .refused) 0) at (a .offset) (λ e. h) (λ e. k)
 
 near-all : (bss : List (List ℕ)) (at : ℕ) (st : State) (room : ℕ) (a : Answer) (n : ℕ) → at + length (joined bss) ≤ n → a .offset ≤ n → countedAll (readsOf bss at st room) a .offset ≤ n
 unfolding readsOf countedAll joined
 near-all [] at st room a n h k = k
 near-all (x ∷ xs) at st room a n h k =
     let r : Read = read at x (limitsOf (st .settings)) room in
-    near-all xs (at + length x) (obeyedBy r st) (room - printerBytes (r .item)) (counted (r .item) at a) n (omega (arith, h, length-append x (joined xs))) (near-counted (r .item) at a n (omega (arith, h)) k)
+    near-all xs (at + length x) (obeyedBy r st) (room - r .prints) (counted (r .item) at (r .prints) a) n (omega (arith, h, length-append x (joined xs))) (near-counted (r .item) at (r .prints) a n (omega (arith, h)) k)
 
 -- an answer to so many bytes, in so much printer room
 pub record Bounded (a : Answer) (n room : ℕ) : Type 0 where

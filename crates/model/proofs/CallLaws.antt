@@ -13,10 +13,10 @@ use Rattle.model.specs.declared.Item.{Item}
 use Rattle.model.specs.declared.Item.the-variants.{Control, Printed, Refused, Sequence}
 use Rattle.model.specs.State.{State, opened, openedKeys, openedSettings}
 use Rattle.model.specs.Checks.{Passes, inRanges?, member, passes, range}
-use Rattle.model.specs.Screens.{base, cellAt, columnsOf, height, lineAt, linesOf, placeOf, textRows}
+use Rattle.model.specs.Screens.{base, cellAt, columnsOf, height, lineAt, linesOf, placeOf, screens, textRows}
 use Rattle.model.specs.Line.{heldIn, limit, padded}
 use Rattle.model.specs.Marks.{markOf}
-use Rattle.model.specs.Sound.{Good, Inside, Sound, arrayRanges, keyRanges, mode0, plainRanges}
+use Rattle.model.specs.Sound.{Good, Inside, Sound, arrayRanges, keyRanges, mode0, plainRanges, aloneRanges}
 use Rattle.model.specs.Picture.{covered, painting, picture, pictureAt, textAt, under, windowAt}
 use Rattle.model.specs.Reading.{Read, remaining}
 use Rattle.model.specs.Items.{Event, applyAll, blankAnswer, copies, counted, countedAll, eventsOf}
@@ -81,7 +81,7 @@ refused-number t q n = go (accepted t q) refl
 pub refused-leaves : (t : Terminal) (q : Request) → accepted t q ≡ false → served t q ≡ t
 unfolding served eventsIn shownAfter applyAll
 refused-leaves t q e =
-    ap (λ (b : Bool). let st = applyAll (cond b (eventsBy t q) []) (t .state) in terminal (st .settings) (st .cells) (st .layer) (cond (b && paints? (q .asked)) (painting st) (t .shown))) e
+    ap (λ (b : Bool). let st = applyAll (cond b (eventsBy t q) []) (t .state) in terminal (st .settings) (st .cells) (st .layer) (st .dots) (cond (b && paints? (q .asked)) (painting st) (t .shown))) e
 
 pub refused-answer : (t : Terminal) (q : Request) → accepted t q ≡ false → answerOf t q ≡ blankAnswer (numberOf t q) 0
 unfolding answerOf readsIn takenIn countedAll
@@ -98,7 +98,7 @@ after t q = let st = applyAll (eventsBy t q) (t .state) in record { state = st; 
 pub accepted-leaves : (t : Terminal) (q : Request) → accepted t q ≡ true → served t q ≡ after t q
 unfolding served eventsIn shownAfter after
 accepted-leaves t q e =
-    ap (λ (b : Bool). let st = applyAll (cond b (eventsBy t q) []) (t .state) in terminal (st .settings) (st .cells) (st .layer) (cond (b && paints? (q .asked)) (painting st) (t .shown))) e
+    ap (λ (b : Bool). let st = applyAll (cond b (eventsBy t q) []) (t .state) in terminal (st .settings) (st .cells) (st .layer) (st .dots) (cond (b && paints? (q .asked)) (painting st) (t .shown))) e
 
 pub accepted-painted : (t : Terminal) (q : Request) → accepted t q ≡ true → paints? (q .asked) ≡ true → let st = applyAll (eventsBy t q) (t .state) in served t q ≡ record { state = st; shown = painting st }
 unfolding after
@@ -112,16 +112,16 @@ pub accepted-prints : (t : Terminal) (q : Request) → accepted t q ≡ true →
 accepted-prints t q e = printed-reads t q ∙ ap (λ (rs : List Read). copies (eventsOf rs) (t .state)) (reads-accepted t q e)
 
 -- counting leaves the number
-counted-number : (i : Item) (at : ℕ) (a : Answer) → counted i at a .number ≡ a .number
-counted-number (Printed c) at a = refl
-counted-number (Control c) at a = refl
-counted-number (Sequence q) at a = refl
-counted-number (Refused k p) at a = refl
+counted-number : (i : Item) (at n : ℕ) (a : Answer) → counted i at n a .number ≡ a .number
+counted-number (Printed c) at n a = refl
+counted-number (Control c) at n a = refl
+counted-number (Sequence q) at n a = refl
+counted-number (Refused k p) at n a = refl
 
 all-number : (rs : List Read) (a : Answer) → countedAll rs a .number ≡ a .number
 unfolding countedAll
 all-number [] a = refl
-all-number (r ∷ rs) a = all-number rs _ ∙ counted-number (r .item) (r .at) a
+all-number (r ∷ rs) a = all-number rs _ ∙ counted-number (r .item) (r .at) (r .prints) a
 
 pub answer-number : (t : Terminal) (q : Request) → answerOf t q .number ≡ numberOf t q
 unfolding answerOf
@@ -129,7 +129,7 @@ answer-number t q = all-number (readsIn t q) (blankAnswer (numberOf t q) (takenI
 
 -- the promise is an equation on the whole terminal
 pub left-is : (c : Call) → Promised c → c .left ≡ served (c .given) (requestOf c)
-left-is c p = λ i. record { state = record { settings = p .settings-are i; cells = p .cells-are i; layer = p .layer-is i }; shown = p .shown-is i }
+left-is c p = λ i. record { state = record { settings = p .settings-are i; cells = p .cells-are i; layer = p .layer-is i; dots = p .dots-are i }; shown = p .shown-is i }
 
 pub state-served : (t : Terminal) (q : Request) → served t q .state ≡ applyAll (eventsIn t q) (t .state)
 unfolding served
@@ -211,7 +211,7 @@ sized-served t q e = cond-at (λ (l : List ℕ). length l ≡ 640) (accepted t q
 -- which calls a good terminal accepts
 sized-good : (t : Terminal) → Good (t .state) → length (t .shown) ≡ 640 → sized t ≡ true
 unfolding sized
-sized-good t g e = and-both (eqb (length (t .state .cells)) 3840) _ (eq-eqb _ _ (g .cells-are)) (and-both (eqb (length (t .state .layer)) 1280) (eqb (length (t .shown)) 640) (eq-eqb _ _ (g .layer-are)) (eq-eqb _ _ e))
+sized-good t g e = and-both (eqb (length (t .state .cells)) 3840) _ (eq-eqb _ _ (g .cells-are)) (and-both (eqb (length (t .state .layer)) 1280) _ (eq-eqb _ _ (g .layer-are)) (and-both (eqb (length (t .state .dots)) 3840) (eqb (length (t .shown)) 640) (eq-eqb _ _ (g .dots-are)) (eq-eqb _ _ e)))
 
 sound-good : (t : Terminal) → Good (t .state) → soundIn t ≡ true
 unfolding soundIn
@@ -246,7 +246,7 @@ module _ (rule : ℕ) where
   shown-opened = subst Shown (λ i. record { state = opened rule; shown = sym opened-blank i }) (shown-painting (opened rule))
 
   resumed-opened : ruled rule ≡ true → Resumed (openedTerminal rule)
-  unfolding linesOf columnsOf height textRows placeOf inRanges? passes member keyRanges plainRanges arrayRanges markOf
+  unfolding linesOf columnsOf height textRows placeOf inRanges? passes member keyRanges plainRanges arrayRanges markOf screens aloneRanges
   resumed-opened e = record {
     sound = record {
       arrays = ranges-true (arrayRanges (openedSettings rule)) refl;
@@ -258,9 +258,11 @@ module _ (rule : ℕ) where
       plain = (omega arith, (omega arith, (omega arith, (omega arith, (ruled-range rule e, ranges-true (keyRanges 0 openedKeys) refl)))));
       line = sound-quiet;
       marked = λ k. none-marked (linesOf (openedSettings rule) k) k;
+      alone = tt;
     };
     cells-are = length-replicate {A = ℕ} 3840 32;
     layer-is = length-replicate {A = ℕ} 1280 0;
+    dots-are = length-replicate {A = ℕ} 3840 0;
     shown-is = length-replicate {A = ℕ} 640 32;
   }
     where
@@ -271,15 +273,15 @@ module _ (rule : ℕ) where
 
 module _ (t : Terminal) (o : Opening t) where
   given : Terminal
-  given = unopened (o .cells) (o .layer) (o .shown)
+  given = unopened (o .cells) (o .layer) (o .dots) (o .shown)
 
   -- an opening that keeps its promise and returns 0 leaves the opened terminal, its rule 1 or 2
   opening-leaves : t ≡ openedTerminal (o .rule)
   unfolding openedBy openingNumber given
-  opening-leaves = (λ i. terminal (o .promised .settings-are i) (o .promised .cells-are i) (o .promised .layer-is i) (o .promised .shown-is i)) ∙ go (sized given) (ruled (o .rule)) (o .promised .number-is)
+  opening-leaves = (λ i. terminal (o .promised .settings-are i) (o .promised .cells-are i) (o .promised .layer-is i) (o .promised .dots-are i) (o .promised .shown-is i)) ∙ go (sized given) (ruled (o .rule)) (o .promised .number-is)
     where
       go : (b c : Bool) → _≡_ {A = ℕ} 0 (cond b (cond c 0 23) 1)
-          → let u = cond (b && c) (openedTerminal (o .rule)) given in terminal (u .state .settings) (u .state .cells) (u .state .layer) (u .shown) ≡ openedTerminal (o .rule)
+          → let u = cond (b && c) (openedTerminal (o .rule)) given in terminal (u .state .settings) (u .state .cells) (u .state .layer) (u .state .dots) (u .shown) ≡ openedTerminal (o .rule)
       go true true e = refl
       go true false e = absurd (omega arith)
       go false c e = absurd (omega arith)

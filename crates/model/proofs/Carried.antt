@@ -7,11 +7,12 @@ use lib.Dec.{eqb, ltb}
 use Rattle.model.specs.declared.Item.{Item}
 use Rattle.model.specs.declared.Item.the-variants.{Control, Printed, Refused, Sequence}
 use Rattle.model.specs.declared.Sequence.{Sequence as Seq}
-use Rattle.model.specs.declared.Sequence.the-variants.{Arrows1, Arrows2, Arrows3, CapsOff, CapsOn, Charset, Clear, Copy, CursorKind, CursorOff, CursorOn, Display, DrawDot, DrawLine, EraseLine, EraseRest, InsOff, InsOn, LinesDown, LinesUp, Mark, Mode0, Mode1, Mode2, Nothing, NumOff, NumOn, Pattern, PrintCode, Put, Repeat, RepeatDelay, RepeatInterval, SecretOff, SecretOn, Select, Shift, Step, StringsOff, StringsOn, Tracking, WindowBottom, WindowCursor, WindowDown, WindowTop, WindowUp}
+use Rattle.model.specs.declared.Sequence.the-variants.{Arrows1, Arrows2, Arrows3, CapsOff, CapsOn, Charset, Clear, Copy, CursorKind, CursorOff, CursorOn, Display, DrawDot, DrawLine, EraseLine, EraseRest, InsOff, InsOn, LinesDown, LinesUp, Mark, Mode0, Mode1, Mode2, Mode3, Nothing, NumOff, NumOn, Pattern, PrintCode, Put, Repeat, RepeatDelay, RepeatInterval, SecretOff, SecretOn, Select, Shift, Step, StringsOff, StringsOn, Tracking, WindowBottom, WindowCursor, WindowDown, WindowTop, WindowUp}
 use Rattle.model.specs.State.{State, putAt, topAt, waitAt}
 use Rattle.model.specs.Screens.{columnsHere, height, here, linesHere}
+use Rattle.model.specs.Sequences.{codeOf, idle?}
 use Rattle.model.specs.Reading.{byteOf}
-use Rattle.model.specs.Rules.{applyItem, awaited, blankFrom, centred, cleared, control, displaying, down, emptied, erased, flagged, held, keyLine, lifted, missed, modeSet, nearest, obeyed, onLines, onward, placed, printed, remarked, right, runsOn, shifted, stored, toColumn, topped, tracked, trackedFar, withCells, withKeys, withKindPatterns, withLayer, withSettings}
+use Rattle.model.specs.Rules.{applyItem, awaited, blankFrom, centred, cleared, control, displaying, down, emptied, erased, flagged, held, keyLine, lifted, missed, modeSet, nearest, obeyed, onLines, onward, placed, printed, remarked, right, runsOn, shifted, stored, toColumn, topped, tracked, trackedFar, withCells, withDots, withKeys, withKindPatterns, withLayer, withSettings}
 use Rattle.model.specs.Items.{Event, applyAll, happened, itemRead, keySet, lineLeft, lined, texted}
 
 -- the rule of what stands
@@ -58,7 +59,7 @@ unfolding printed stored
 printed-rule c st = tracked-rule (right (stored c (awaited st))) ∙ right-rule (stored c (awaited st)) ∙ awaited-rule st
 
 control-rule : (c : ℕ) (st : State) → ruleOf (control c st) ≡ ruleOf st
-unfolding control toColumn cleared remarked onLines emptied withLayer withCells placed withSettings
+unfolding control toColumn cleared withDots remarked onLines emptied withLayer withCells placed withSettings
 control-rule c st =
     cond-rule (eqb c 8) _ _ (ruleOf st) (tracked-rule (toColumn (max 1 (here st .column - 1)) st))
     (cond-rule (eqb c 10) _ _ (ruleOf st) (tracked-rule (down st) ∙ down-rule st)
@@ -66,7 +67,7 @@ control-rule c st =
 
 -- every sequence: most name the other settings one by one
 obeyed-rule : (ms : ℕ → ℕ) (q : Seq) (st : State) → ruleOf (obeyed ms q st) ≡ ruleOf st
-unfolding obeyed keyLine displaying cleared remarked erased shifted onLines blankFrom modeSet flagged withKeys withKindPatterns emptied withLayer withCells placed withSettings
+unfolding obeyed keyLine displaying cleared withDots remarked erased shifted onLines blankFrom modeSet flagged withKeys withKindPatterns emptied withLayer withCells placed withSettings
 obeyed-rule ms (PrintCode c) st = printed-rule c st
 obeyed-rule ms Clear st = refl
 obeyed-rule ms CursorOff st = refl
@@ -97,6 +98,7 @@ obeyed-rule ms (DrawDot p1 p2 p3 p4) st = refl
 obeyed-rule ms (Mode0 a b) st = refl
 obeyed-rule ms (Mode1 a) st = refl
 obeyed-rule ms (Mode2 a m p) st = refl
+obeyed-rule ms Mode3 st = refl
 obeyed-rule ms (Select n) st = refl
 obeyed-rule ms (Mark r c p) st = refl
 obeyed-rule ms (Display n) st = cond-rule (eqb n (st .settings .display)) st _ (ruleOf st) refl refl
@@ -118,7 +120,7 @@ pub item-rule : (ms : ℕ → ℕ) (i : Item) (st : State) → ruleOf (applyItem
 unfolding applyItem
 item-rule ms (Printed c) st = printed-rule c st
 item-rule ms (Control c) st = control-rule c st
-item-rule ms (Sequence q) st = obeyed-rule ms q st
+item-rule ms (Sequence q) st = cond-rule (idle? (st .settings .mode) (codeOf q)) st (obeyed ms q st) (ruleOf st) refl (obeyed-rule ms q st)
 item-rule ms (Refused n p) st = refl
 
 pub event-rule : (e : Event) (st : State) → ruleOf (happened e st) ≡ ruleOf st

@@ -1,8 +1,8 @@
 -- What a `match` tells of a sequence: in the arm of one, what a legal sequence says of its parameters; in the last arm, which knows only the
 -- positions of the cases that are left, every test of the second byte.
-use mathlib.Core.Path.{_≡_, refl, subst}
+use mathlib.Core.Path.{_∙_, _≡_, ap, refl, subst, sym}
 use Prim.Native.Nat.{ℕ}
-use mathlib.Core.Bool.{Bool, true, false, not}
+use mathlib.Core.Bool.{Bool, cond, true, false, not}
 use mathlib.Core.List.{List, [], _∷_}
 use lib.ListN.{getD}
 use borrow.Author.Tests.{not-true}
@@ -10,22 +10,23 @@ use denote.Enum.Declared.{tagOf}
 use types.Run.{OneOf}
 use Rattle.model.specs.declared.Limits.{Limits}
 use Rattle.model.specs.declared.Sequence.{Sequence as Seq}
-use Rattle.model.specs.declared.Sequence.the-variants.{PrintCode, Clear, CursorOff, CursorOn, Put, Charset, Copy, EraseLine, EraseRest, SecretOn, SecretOff, LinesUp, LinesDown, Step, Tracking, WindowUp, WindowDown, InsOn, InsOff, CapsOn, CapsOff, NumOn, NumOff, StringsOff, StringsOn, DrawLine, DrawDot, Mode0, Mode1, Mode2, Select, Mark, Display, WindowTop, WindowBottom, CursorKind, WindowCursor, Pattern, Repeat, RepeatDelay, RepeatInterval, Arrows1, Arrows2, Arrows3, Nothing, Shift}
-use Rattle.model.specs.Checks.{InRanges}
-use Rattle.model.specs.Judging.{legal?, ranges}
-use Rattle.model.specs.Sequences.{codeOf}
+use Rattle.model.specs.declared.Sequence.the-variants.{PrintCode, Clear, CursorOff, CursorOn, Put, Charset, Copy, EraseLine, EraseRest, SecretOn, SecretOff, LinesUp, LinesDown, Step, Tracking, WindowUp, WindowDown, InsOn, InsOff, CapsOn, CapsOff, NumOn, NumOff, StringsOff, StringsOn, DrawLine, DrawDot, Mode0, Mode1, Mode2, Mode3, Select, Mark, Display, WindowTop, WindowBottom, CursorKind, WindowCursor, Pattern, Repeat, RepeatDelay, RepeatInterval, Arrows1, Arrows2, Arrows3, Nothing, Shift}
+use Rattle.model.specs.Checks.{InRanges, inRanges?}
+use Rattle.model.specs.Judging.{judgedRanges, legal?, ranges}
+use Rattle.model.specs.Sequences.{codeOf, idle?}
 use Rattle.model.proofs.Sequence.{the-type}
 use Rattle.model.proofs.Tests.{ranges-true}
 use Rattle.model.proofs.Arms.{every, one-of}
 
-pub ranged : {q k : Seq} (l : Limits) → legal? q l ≡ true → q ≡ k → InRanges (ranges k l)
-unfolding legal?
-ranged {q} {k} l h e = ranges-true (ranges k l) (subst (λ (q : Seq). legal? q l ≡ true) e h)
+-- P11: of what is not idle
+pub ranged : {q k : Seq} (l : Limits) → legal? q l ≡ true → q ≡ k → idle? (l .mode) (codeOf k) ≡ false → InRanges (ranges k l)
+unfolding legal? judgedRanges
+ranged {q} {k} l h e d = ranges-true (ranges k l) (sym (ap (λ (b : Bool). inRanges? (cond b [] (ranges k l))) d) ∙ subst (λ (q : Seq). legal? q l ≡ true) e h)
 
 -- the second bytes, by the position of the case
 abbrev pub codes : List ℕ
 codes =
-    37 ∷ 42 ∷ 50 ∷ 51 ∷ 61 ∷ 67 ∷ 80 ∷ 84 ∷ 89 ∷ 123 ∷ 125 ∷ 144 ∷ 145 ∷ 148 ∷ 149 ∷ 150 ∷ 151 ∷ 160 ∷ 161 ∷ 162 ∷ 163 ∷ 164 ∷ 165 ∷ 176 ∷ 177 ∷ 198 ∷ 199 ∷ 208 ∷ 208 ∷ 208
+    37 ∷ 42 ∷ 50 ∷ 51 ∷ 61 ∷ 67 ∷ 80 ∷ 84 ∷ 89 ∷ 123 ∷ 125 ∷ 144 ∷ 145 ∷ 148 ∷ 149 ∷ 150 ∷ 151 ∷ 160 ∷ 161 ∷ 162 ∷ 163 ∷ 164 ∷ 165 ∷ 176 ∷ 177 ∷ 198 ∷ 199 ∷ 208 ∷ 208 ∷ 208 ∷ 208
     ∷ 209 ∷ 210 ∷ 211 ∷ 212 ∷ 213 ∷ 214 ∷ 215 ∷ 224 ∷ 240 ∷ 241 ∷ 242 ∷ 243 ∷ 244 ∷ 245 ∷ 246 ∷ 247 ∷ []
 
 code-at : (q : Seq) → getD codes (tagOf the-type q) 0 ≡ codeOf q
@@ -59,6 +60,7 @@ code-at (DrawDot a b c d) = refl
 code-at (Mode0 a b) = refl
 code-at (Mode1 a) = refl
 code-at (Mode2 a b c) = refl
+code-at Mode3 = refl
 code-at (Select a) = refl
 code-at (Mark a b c) = refl
 code-at (Display a) = refl

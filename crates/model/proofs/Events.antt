@@ -8,12 +8,13 @@ use mathlib.Core.List.{List, [], _++_, _∷_}
 use lib.ListN.{getD, length, take}
 use lib.Dec.{eqb, leb, ltb}
 use borrow.Author.Tests.{eqb-true, leb-true}
+use Rattle.model.specs.Picture.{copySizeOf}
 use Rattle.model.specs.declared.Item.{Item}
 use Rattle.model.specs.declared.Place.{Place}
 use Rattle.model.specs.declared.Item.the-variants.{Control, Printed, Refused, Sequence}
 use Rattle.model.specs.Bytes.{put}
 use Rattle.model.specs.State.{State}
-use Rattle.model.specs.Screens.{base, cellAt, columnsOf, height, lineAt, linesOf, placeOf, size, textRows}
+use Rattle.model.specs.Screens.{base, cellAt, columnsOf, height, lineAt, linesOf, placeOf, screens, size, textRows}
 use Rattle.model.specs.Marks.{markOf}
 use Rattle.model.specs.Line.{LineSound, line?, padded}
 use Rattle.model.specs.Sound.{Good, arrayRanges, keyRanges, plainRanges}
@@ -42,11 +43,11 @@ legal-allowed (Control c) s = refl
 legal-allowed (Sequence q) s = cond-at (λ (i : Item). legalItem? i s ≡ true) (legal? q s) (Sequence q) (Refused 11 (badOf q s)) (λ e. e) (λ e. refl)
 legal-allowed (Refused n p) s = refl
 
-legal-fitting : (i : Item) (s : Limits) (room : ℕ) → legalItem? i s ≡ true → legalItem? (fitting i room) s ≡ true
+legal-fitting : (i : Item) (s : Limits) (room : ℕ) → legalItem? i s ≡ true → legalItem? (fitting (s .mode) i room) s ≡ true
 unfolding fitting
 legal-fitting (Printed c) s room e = e
 legal-fitting (Control c) s room e = e
-legal-fitting (Sequence q) s room e = cond-at (λ (i : Item). legalItem? i s ≡ true) (eqb (codeOf q) 80 && ltb room 656) (Refused 13 0) (Sequence q) (λ f. refl) (λ f. e)
+legal-fitting (Sequence q) s room e = cond-at (λ (i : Item). legalItem? i s ≡ true) (eqb (codeOf q) 80 && ltb room (copySizeOf (s .mode))) (Refused 13 0) (Sequence q) (λ f. refl) (λ f. e)
 legal-fitting (Refused n p) s room e = e
 
 pub legal-judged : (i : Item) (s : Limits) (room : ℕ) → legalItem? (judged i s room) s ≡ true
@@ -74,7 +75,7 @@ legal-append (e ∷ es) fs a p q = (p .0, legal-append es fs (happened e a) (p .
 
 -- a line that is left: nothing else moves
 good-lined : (w : List ℕ) (n : ℕ) (a : State) → Good a → line? (padded w) (length w) n ≡ true → Good (lined w n a)
-unfolding lined withSettings arrayRanges plainRanges keyRanges linesOf columnsOf height textRows placeOf markOf
+unfolding lined withSettings arrayRanges plainRanges keyRanges linesOf columnsOf height textRows placeOf markOf screens
 good-lined w n a g e =
     let l : LineSound (padded w) (length w) n = line-true (padded w) (length w) n e in
     let z : length (padded w) ≡ 12 = length-padded w (l .fits) in
@@ -90,9 +91,11 @@ good-lined w n a g e =
         plain = g .sound .plain;
         line = l;
         marked = g .sound .marked;
+        alone = g .sound .alone;
       };
       cells-are = g .cells-are;
       layer-are = g .layer-are;
+      dots-are = g .dots-are;
     }
 
 same-lined : (k : ℕ) (w : List ℕ) (n : ℕ) (a : State) → SameScreen k a (lined w n a)
@@ -101,7 +104,7 @@ same-lined k w n a = record { same-base = refl; same-lines = refl; same-columns 
 
 -- a key's text: nothing else moves
 good-texted : (k : ℕ) (x : List ℕ) (a : State) → Good a → keyable k x ≡ true → Good (texted k x a)
-unfolding texted withSettings arrayRanges plainRanges keyRanges linesOf columnsOf height textRows placeOf markOf keyable
+unfolding texted withSettings arrayRanges plainRanges keyRanges linesOf columnsOf height textRows placeOf markOf keyable screens
 good-texted k x a g e =
     let t : List ℕ = a .settings .texts in
     let e₂ = and-right (leb 1 k) (leb k 10 && eqb (length x) 8) e in
@@ -120,9 +123,11 @@ good-texted k x a g e =
         plain = g .sound .plain;
         line = g .sound .line;
         marked = g .sound .marked;
+        alone = g .sound .alone;
       };
       cells-are = g .cells-are;
       layer-are = g .layer-are;
+      dots-are = g .dots-are;
     }
 
 same-texted : (j k : ℕ) (x : List ℕ) (a : State) → SameScreen j a (texted k x a)

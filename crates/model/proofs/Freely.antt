@@ -7,6 +7,7 @@ use mathlib.Core.Bool.{Bool, _&&_, _||_, cond, false, true}
 use mathlib.Core.List.{List, [], _++_, _∷_, append-assoc}
 use lib.ListN.{length, length-append}
 use lib.Dec.{eqb, ltb}
+use Rattle.model.specs.Picture.{copySizeOf}
 use Rattle.model.specs.declared.Item.{Item}
 use Rattle.model.specs.declared.Item.the-variants.{Control, Printed, Refused, Sequence}
 use Rattle.model.specs.Bytes.{joined}
@@ -25,22 +26,22 @@ use Rattle.model.proofs.Lined.{item-lined}
 
 -- reading with always room
 abbrev free : ℕ → List ℕ → State → Read
-free at bs st = record { at = at; item = allowed (itemOf at bs) (limitsOf (st .settings)); bytes = bs }
+free at bs st = let i = allowed (itemOf at bs) (limitsOf (st .settings)) in record { at = at; item = i; bytes = bs; prints = printerBytes (st .settings .mode) i }
 
 unfoldable pub freely : List (List ℕ) → ℕ → State → List Read
 freely [] at st = []
 freely (bs ∷ bss) at st = free at bs st ∷ freely bss (at + length bs) (obeyedBy (free at bs st) st)
 
-fits : (i : Item) (room : ℕ) → roomless (fitting i room) ≡ false → fitting i room ≡ i
+fits : (mode : ℕ) (i : Item) (room : ℕ) → roomless (fitting mode i room) ≡ false → fitting mode i room ≡ i
 unfolding fitting
-fits (Printed c) room e = refl
-fits (Control c) room e = refl
-fits (Sequence q) room e = go (eqb (codeOf q) 80 && ltb room 656) e
+fits mode (Printed c) room e = refl
+fits mode (Control c) room e = refl
+fits mode (Sequence q) room e = go (eqb (codeOf q) 80 && ltb room (copySizeOf mode)) e
   where
     go : (b : Bool) → roomless (cond b (Refused 13 0) (Sequence q)) ≡ false → cond b (Refused 13 0) (Sequence q) ≡ Sequence q
     go true e = absurd (differ e)
     go false e = refl
-fits (Refused n p) room e = refl
+fits mode (Refused n p) room e = refl
 
 -- where no ESC P met 13, the room is not seen
 pub reads-free : (bss : List (List ℕ)) (at : ℕ) (st : State) (room : ℕ) → met13 (readsOf bss at st room) ≡ false → readsOf bss at st room ≡ freely bss at st
@@ -48,9 +49,9 @@ unfolding readsOf freely met13
 reads-free [] at st room e = refl
 reads-free (bs ∷ bss) at st room e =
     let r : Read = read at bs (limitsOf (st .settings)) room in
-    let more : Read → List Read = λ x. readsOf bss (at + length bs) (obeyedBy x st) (room - printerBytes (x .item)) in
+    let more : Read → List Read = λ x. readsOf bss (at + length bs) (obeyedBy x st) (room - x .prints) in
     let z = or-false (roomless (r .item)) (met13 (more r)) e in
-    let same : r ≡ free at bs st = ap (λ (i : Item). record { at = at; item = i; bytes = bs }) (fits (allowed (itemOf at bs) (limitsOf (st .settings))) room (z .0)) in
+    let same : r ≡ free at bs st = ap (λ (i : Item). record { at = at; item = i; bytes = bs; prints = printerBytes (st .settings .mode) i }) (fits (st .settings .mode) (allowed (itemOf at bs) (limitsOf (st .settings))) room (z .0)) in
     let z₂ : met13 (more (free at bs st)) ≡ false = subst (λ (x : Read). met13 (more x) ≡ false) same (z .1) in
     ap (λ (x : Read). x ∷ more x) same ∙ ap (λ (l : List Read). free at bs st ∷ l) (reads-free bss _ _ _ z₂)
 

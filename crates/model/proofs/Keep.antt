@@ -4,41 +4,91 @@ use Prim.Native.Nat.{_*_, _+_, _-_, _<_, _≤_, suc, zero, ℕ}
 use native.Mathlib.Nat.{add-mul, mul-add, mul-le-mul-right, suc-mul}
 use native.Mathlib.Omega.{arith}
 use native.Mathlib.Decide.{ℕ-discrete}
-use mathlib.Core.Bool.{cond}
+use mathlib.Core.Bool.{Bool, cond, false, true}
 use mathlib.Core.List.{List}
 use lib.ListN.{drop, length, length-replicate, length-set, replicate, set, take}
 use lib.Seq.{drop-set-lt, getD-set-other, getD-set-same}
 use lib.Dec.{eqb}
+use borrow.Author.Tests.{eq-eqb, eqb-true}
 use Rattle.model.specs.declared.Keys.{Keys}
 use Rattle.model.specs.declared.Place.{Place}
 use Rattle.model.specs.declared.Settings.{Settings}
 use Rattle.model.specs.Bytes.{onPart}
 use Rattle.model.specs.State.{State, nowhere, withStored}
 use Rattle.model.specs.Checks.{InRanges, Passes, range}
-use Rattle.model.specs.Screens.{base, columnsHere, columnsOf, height, here, linesHere, linesOf, placeOf, size, textRows}
+use Rattle.model.specs.Screens.{base, columnsHere, columnsOf, height, here, linesHere, linesOf, placeOf, screens, size, textRows}
 use Rattle.model.specs.Marks.{markOf}
-use Rattle.model.specs.Sound.{Fits, Good, Inside, Shaped, Sound, arrayRanges, keyRanges, mode0, mode1, mode2, plainRanges}
-use Rattle.model.specs.Rules.{emptied, flagged, placed, withCells, withLayer, withSettings}
+use Rattle.model.specs.Sound.{Fits, Good, Inside, Shaped, Sound, arrayRanges, keyRanges, mode0, mode1, mode2, plainRanges, aloneRanges, mode3}
+use Rattle.model.specs.Rules.{emptied, flagged, placed, withCells, withLayer, withSettings, withDots}
 use Rattle.model.proofs.Frames.{SameScreen, Spared, cellsOf}
-use Rattle.model.proofs.Tests.{cond-at, cond₂}
+use Rattle.model.proofs.Tests.{cond-at, cond₂, differ}
+use Rattle.model.proofs.SoundLaws.{not-alone}
 use Rattle.model.proofs.ByteLaws.{length-onPart, onPart-after, onPart-before, set-before}
 
 -- geometry
 pub shaped-room : {m l1 l2 c1 c2 : ℕ} → Shaped m l1 l2 c1 c2 → l1 * c1 + l2 * c2 ≤ 3840
 shaped-room (mode0 m p q a b c) = rw (p, q) (omega arith)
 shaped-room {m} {l1} {l2} {c1} {c2} (mode1 n p q a b c) = rw (p, q, c) (omega arith)
+shaped-room (mode3 n p q a b) = rw (p, q, a, b) (omega arith)
 shaped-room {m} {l1} {l2} {c1} {c2} (mode2 n p q e a b c) =
     rw (e, c) (rw (← mul-add l1 c1 (79 - c1)) (let z : c1 + (79 - c1) ≡ 79 = omega arith in rw z (omega arith)))
 
-pub shaped-columns : {m l1 l2 c1 c2 : ℕ} → Shaped m l1 l2 c1 c2 → (1 ≤ c1) × (1 ≤ c2) × (1 ≤ l1) × (1 ≤ l2)
+pub shaped-columns : {m l1 l2 c1 c2 : ℕ} → Shaped m l1 l2 c1 c2 → (1 ≤ c1) × (1 ≤ l1)
 shaped-columns (mode0 m p q a b c) = omega arith
 shaped-columns (mode1 n p q a b c) = omega arith
 shaped-columns (mode2 n p q e a b c) = omega arith
+shaped-columns (mode3 n p q a b) = omega arith
 
-pub shaped-height : {m l1 l2 c1 c2 : ℕ} → Shaped m l1 l2 c1 c2 → (cond (eqb m 1) 16 8 ≤ l1) × (cond (eqb m 1) 16 8 ≤ l2)
+-- screen 2, outside mode 3
+pub second-columns : {m l1 l2 c1 c2 : ℕ} → Shaped m l1 l2 c1 c2 → (m ≡ 3 → ⊥) → (1 ≤ c2) × (1 ≤ l2)
+second-columns (mode0 m p q a b c) d = omega arith
+second-columns (mode1 n p q a b c) d = omega arith
+second-columns (mode2 n p q e a b c) d = omega arith
+second-columns (mode3 n p q a b) d = absurd (d n)
+
+pub shaped-height : {m l1 l2 c1 c2 : ℕ} → Shaped m l1 l2 c1 c2 → cond (eqb m 1) 16 8 ≤ l1
 shaped-height (mode0 m p q a b c) = rw m (omega arith)
 shaped-height (mode1 n p q a b c) = rw n (omega arith)
 shaped-height (mode2 n p q e a b c) = rw n (omega arith)
+shaped-height (mode3 n p q a b) = rw n (omega arith)
+
+pub second-height : {m l1 l2 c1 c2 : ℕ} → Shaped m l1 l2 c1 c2 → (m ≡ 3 → ⊥) → cond (eqb m 1) 16 8 ≤ l2
+second-height (mode0 m p q a b c) d = rw m (omega arith)
+second-height (mode1 n p q a b c) d = rw n (omega arith)
+second-height (mode2 n p q e a b c) d = rw n (omega arith)
+second-height (mode3 n p q a b) d = absurd (d n)
+
+-- P11: one screen in mode 3, else two
+pub screens-most : (s : Settings) → screens s ≤ 2
+unfolding screens
+screens-most s = cond-at (λ (n : ℕ). n ≤ 2) (eqb (s .mode) 3) 1 2 (λ e. omega arith) (λ e. omega arith)
+
+pub screens-low : (s : Settings) → 1 ≤ screens s
+unfolding screens
+screens-low s = cond-at (λ (n : ℕ). 1 ≤ n) (eqb (s .mode) 3) 1 2 (λ e. omega arith) (λ e. omega arith)
+
+pub two-there : (s : Settings) → 1 < screens s → s .mode ≡ 3 → ⊥
+unfolding screens
+two-there s = cond-at (λ (n : ℕ). 1 < n → s .mode ≡ 3 → ⊥) (eqb (s .mode) 3) 1 2 (λ e l m. omega arith) (λ e l m. differ (sym (eq-eqb _ 3 m) ∙ e))
+
+pub both-there : (s : Settings) → (s .mode ≡ 3 → ⊥) → screens s ≡ 2
+unfolding screens
+both-there s d = cond-at (λ (n : ℕ). n ≡ 2) (eqb (s .mode) 3) 1 2 (λ e. absurd (d (eqb-true _ 3 e))) (λ e. refl)
+
+pub one-there : (s : Settings) → s .mode ≡ 3 → screens s ≡ 1
+unfolding screens
+one-there s m = rw m refl
+
+pub chosen : (s : Settings) → Sound s → s .selected < 2
+chosen s h = omega (arith, h .selected, screens-most s)
+
+-- nothing is asked of screen 2 alone but in mode 3
+pub alone-by : (m kind display : ℕ) (p : Place) → (m ≡ 3 → InRanges (aloneRanges m kind display p)) → InRanges (aloneRanges m kind display p)
+alone-by m kind display p f = by (eqb m 3) refl
+  where
+    by : (b : Bool) → eqb m 3 ≡ b → InRanges (aloneRanges m kind display p)
+    by true e = f (eqb-true m 3 e)
+    by false e = not-alone m kind display p e
 
 -- the rows that show text are seven or eight; only these two proofs know the rule
 pub rows-low : (s : Settings) → 7 ≤ textRows s
@@ -79,17 +129,17 @@ module _ (s : Settings) (h : Sound s) where
   apart zero (suc (suc j)) l m n = absurd (omega arith)
   apart (suc zero) (suc (suc j)) l m n = absurd (omega arith)
 
-  pub tall : (k : ℕ) → k < 2 → height s ≤ linesOf s k
+  pub tall : (k : ℕ) → k < screens s → height s ≤ linesOf s k
   unfolding linesOf
-  tall zero l = omega (arith, height-high s, shaped-height (h .shaped) .0)
-  tall (suc zero) l = omega (arith, height-high s, shaped-height (h .shaped) .1)
-  tall (suc (suc k)) l = absurd (omega arith)
+  tall zero l = omega (arith, height-high s, shaped-height (h .shaped))
+  tall (suc zero) l = omega (arith, height-high s, second-height (h .shaped) (two-there s l))
+  tall (suc (suc k)) l = absurd (omega (arith, screens-most s))
 
-  pub wide : (k : ℕ) → k < 2 → 1 ≤ columnsOf s k
+  pub wide : (k : ℕ) → k < screens s → 1 ≤ columnsOf s k
   unfolding columnsOf
   wide zero l = shaped-columns (h .shaped) .0
-  wide (suc zero) l = shaped-columns (h .shaped) .1
-  wide (suc (suc k)) l = absurd (omega arith)
+  wide (suc zero) l = second-columns (h .shaped) (two-there s l) .0
+  wide (suc (suc k)) l = absurd (omega (arith, screens-most s))
 
 -- what a step of an item keeps
 pub record Kept (a b : State) : Type 0 where
@@ -140,14 +190,14 @@ module _ (a : State) (g : Good a) where
   -- a new place
   pub place-same : (p : Place) → here (placed p a) ≡ p
   unfolding placed placeOf arrayRanges
-  place-same p = getD-set-same (a .settings .places) (a .settings .selected) p nowhere (omega (arith, g .sound .arrays .0, g .sound .selected))
+  place-same p = getD-set-same (a .settings .places) (a .settings .selected) p nowhere (omega (arith, g .sound .arrays .0, chosen (a .settings) (g .sound)))
 
   pub place-other : (p : Place) (k : ℕ) → (k ≡ a .settings .selected → ⊥) → placeOf (placed p a .settings) k ≡ placeOf (a .settings) k
   unfolding placed placeOf
   place-other p k n = getD-set-other (a .settings .places) (a .settings .selected) k p nowhere n
 
   pub kept-placed : (p : Place) → Fits (a .settings .rule) (linesHere a) (columnsHere a) (height (a .settings)) p → Kept a (placed p a)
-  unfolding placed plainRanges arrayRanges linesOf columnsOf height textRows base size markOf
+  unfolding placed plainRanges arrayRanges linesOf columnsOf height textRows base size markOf screens
   kept-placed p f = record {
     good = record {
       sound = record {
@@ -160,9 +210,11 @@ module _ (a : State) (g : Good a) where
         plain = g .sound .plain;
         line = g .sound .line;
         marked = g .sound .marked;
+        alone = alone-by _ _ _ _ (λ m. subst (λ (q : Place). InRanges (aloneRanges (a .settings .mode) (a .settings .kind) (a .settings .display) q)) (sym (place-other p 1 (λ e. omega (arith, e, g .sound .selected, one-there (a .settings) m)))) (g .sound .alone));
       };
       cells-are = g .cells-are;
       layer-are = g .layer-are;
+      dots-are = g .dots-are;
     };
     same-selected = refl;
     same-shape = λ k. (refl, refl);
@@ -170,7 +222,7 @@ module _ (a : State) (g : Good a) where
     other = λ k l n. record { same-base = refl; same-lines = refl; same-columns = refl; same-height = refl; same-place = place-other p k n; same-cells = refl; same-marks = refl };
   }
     where
-      fits : (k : ℕ) → k < 2 → Dec (k ≡ a .settings .selected) → Inside (placed p a .settings) k
+      fits : (k : ℕ) → k < screens (a .settings) → Dec (k ≡ a .settings .selected) → Inside (placed p a .settings) k
       fits k l (yes e) = rw e (subst (Fits (a .settings .rule) (linesHere a) (columnsHere a) (height (a .settings))) (sym (place-same p)) f)
       fits k l (no n) = subst (Fits (a .settings .rule) (linesOf (a .settings) k) (columnsOf (a .settings) k) (height (a .settings))) (sym (place-other p k n)) (g .sound .inside k l)
 
@@ -178,7 +230,18 @@ module _ (a : State) (g : Good a) where
   pub kept-layer : (xs : List ℕ) → length xs ≡ 1280 → Kept a (withLayer xs a)
   unfolding withLayer
   kept-layer xs e = record {
-    good = record { sound = g .sound; cells-are = g .cells-are; layer-are = e };
+    good = record { sound = g .sound; cells-are = g .cells-are; layer-are = e; dots-are = g .dots-are };
+    same-selected = refl;
+    same-shape = λ k. (refl, refl);
+    same-tracking = refl;
+    other = λ k l n. record { same-base = refl; same-lines = refl; same-columns = refl; same-height = refl; same-place = refl; same-cells = refl; same-marks = refl };
+  }
+
+  -- P11: dots of the right size
+  pub kept-dots : (xs : List ℕ) → length xs ≡ 3840 → Kept a (withDots xs a)
+  unfolding withDots
+  kept-dots xs e = record {
+    good = record { sound = g .sound; cells-are = g .cells-are; layer-are = g .layer-are; dots-are = e };
     same-selected = refl;
     same-shape = λ k. (refl, refl);
     same-tracking = refl;
@@ -193,7 +256,7 @@ module _ (a : State) (g : Good a) where
   pub kept-cells : (xs : List ℕ) → length xs ≡ 3840 → ((k : ℕ) → k < 2 → (k ≡ a .settings .selected → ⊥) → cellsOf (withCells xs a) k ≡ cellsOf a k) → Kept a (withCells xs a)
   unfolding withCells
   kept-cells xs e f = record {
-    good = record { sound = g .sound; cells-are = e; layer-are = g .layer-are };
+    good = record { sound = g .sound; cells-are = e; layer-are = g .layer-are; dots-are = g .dots-are };
     same-selected = refl;
     same-shape = λ k. (refl, refl);
     same-tracking = refl;
@@ -207,10 +270,10 @@ module _ (a : State) (g : Good a) where
   unfolding withCells
   kept-part from count f keeps low high =
       kept-cells (onPart from count f (a .cells)) (length-onPart from count f keeps (a .cells) fits ∙ g .cells-are)
-      (λ k l n. away k l (apart (a .settings) (g .sound) k (a .settings .selected) l (g .sound .selected) n))
+      (λ k l n. away k l (apart (a .settings) (g .sound) k (a .settings .selected) l (chosen (a .settings) (g .sound)) n))
     where
       fits : from + count ≤ length (a .cells)
-      fits = omega (arith, within (a .settings) (g .sound) (a .settings .selected) (g .sound .selected), g .cells-are)
+      fits = omega (arith, within (a .settings) (g .sound) (a .settings .selected) (chosen (a .settings) (g .sound)), g .cells-are)
 
       away : (k : ℕ) → k < 2 → Apart (base (a .settings) k) (size (a .settings) k) (base (a .settings) (a .settings .selected)) (size (a .settings) (a .settings .selected))
           → take (size (a .settings) k) (drop (base (a .settings) k) (onPart from count f (a .cells))) ≡ cellsOf a k
@@ -224,7 +287,7 @@ module _ (a : State) (g : Good a) where
   unfolding withCells
   kept-set i c low high =
       kept-cells (set (a .cells) i c) (length-set (a .cells) i c ∙ g .cells-are)
-      (λ k l n. away k l (apart (a .settings) (g .sound) k (a .settings .selected) l (g .sound .selected) n))
+      (λ k l n. away k l (apart (a .settings) (g .sound) k (a .settings .selected) l (chosen (a .settings) (g .sound)) n))
     where
       away : (k : ℕ) → k < 2 → Apart (base (a .settings) k) (size (a .settings) k) (base (a .settings) (a .settings .selected)) (size (a .settings) (a .settings .selected))
           → take (size (a .settings) k) (drop (base (a .settings) k) (set (a .cells) i c)) ≡ cellsOf a k
@@ -232,13 +295,14 @@ module _ (a : State) (g : Good a) where
       away k l (later h) = ap (take (size (a .settings) k)) (drop-set-lt (base (a .settings) k) (a .cells) i c (omega arith))
 
   -- what is only stored
-  pub kept-stored-only : (kind : ℕ) (ks : Keys) (ps : List ℕ) → InRanges (keyRanges kind ks) → InRanges (arrayRanges (withStored (a .settings) kind ks ps)) → Kept a (withSettings (withStored (a .settings) kind ks ps) a)
-  unfolding withSettings plainRanges keyRanges linesOf columnsOf height textRows placeOf base size markOf
-  kept-stored-only kind ks ps h l = record {
+  pub kept-stored-only : (kind : ℕ) (ks : Keys) (ps : List ℕ) → InRanges (keyRanges kind ks) → InRanges (arrayRanges (withStored (a .settings) kind ks ps)) → (a .settings .mode ≡ 3 → kind ≡ a .settings .kind) → Kept a (withSettings (withStored (a .settings) kind ks ps) a)
+  unfolding withSettings plainRanges keyRanges linesOf columnsOf height textRows placeOf base size markOf screens
+  kept-stored-only kind ks ps h l same = record {
     good = record {
-      sound = record { arrays = l; shaped = g .sound .shaped; selected = g .sound .selected; inside = g .sound .inside; step-low = g .sound .step-low; step-high = g .sound .step-high; plain = search (g .sound .plain, h) depth 30; line = g .sound .line; marked = g .sound .marked };
+      sound = record { arrays = l; shaped = g .sound .shaped; selected = g .sound .selected; inside = g .sound .inside; step-low = g .sound .step-low; step-high = g .sound .step-high; plain = search (g .sound .plain, h) depth 30; line = g .sound .line; marked = g .sound .marked; alone = alone-by _ _ _ _ (λ m. subst (λ (n : ℕ). InRanges (aloneRanges (a .settings .mode) n (a .settings .display) (placeOf (a .settings) 1))) (sym (same m)) (g .sound .alone)) };
       cells-are = g .cells-are;
       layer-are = g .layer-are;
+      dots-are = g .dots-are;
     };
     same-selected = refl;
     same-shape = λ k. (refl, refl);
@@ -247,11 +311,11 @@ module _ (a : State) (g : Good a) where
   }
 
   -- flags and numbers, and the selected screen
-  pub kept-flags : (sel tr st se cu : ℕ) → sel < 2 → Passes (range 0 tr 1) → 1 ≤ st → st ≤ height (a .settings) → Passes (range 0 se 1) → Passes (range 0 cu 1)
+  pub kept-flags : (sel tr st se cu : ℕ) → sel < screens (a .settings) → Passes (range 0 tr 1) → 1 ≤ st → st ≤ height (a .settings) → Passes (range 0 se 1) → Passes (range 0 cu 1)
       → Good (flagged sel tr st se cu a) × ((k : ℕ) → SameScreen k a (flagged sel tr st se cu a))
-  unfolding flagged withSettings plainRanges arrayRanges keyRanges linesOf columnsOf height textRows placeOf base size markOf
+  unfolding flagged withSettings plainRanges arrayRanges keyRanges linesOf columnsOf height textRows placeOf base size markOf screens
   kept-flags sel tr st se cu o p q r u v = (
-    record { sound = record { arrays = g .sound .arrays; shaped = g .sound .shaped; selected = o; inside = g .sound .inside; step-low = q; step-high = r; plain = search (g .sound .plain, p, u, v) depth 30; line = g .sound .line; marked = g .sound .marked }; cells-are = g .cells-are; layer-are = g .layer-are },
+    record { sound = record { arrays = g .sound .arrays; shaped = g .sound .shaped; selected = o; inside = g .sound .inside; step-low = q; step-high = r; plain = search (g .sound .plain, p, u, v) depth 30; line = g .sound .line; marked = g .sound .marked; alone = g .sound .alone }; cells-are = g .cells-are; layer-are = g .layer-are; dots-are = g .dots-are },
     λ k. record { same-base = refl; same-lines = refl; same-columns = refl; same-height = refl; same-place = refl; same-cells = refl; same-marks = refl },
   )
 

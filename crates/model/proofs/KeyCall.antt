@@ -24,27 +24,28 @@ module _ (k : ℕ) (x : List ℕ) (s : Settings) where
   abbrev asked : Request
   asked = request (keyText k x) 0
 
-  number-here : (cells layer shown : List ℕ) → numberOf (terminal s cells layer shown) asked ≡ keyNumber
+  number-here : (cells layer dots shown : List ℕ) → numberOf (terminal s cells layer dots shown) asked ≡ keyNumber
   unfolding numberOf reasons soundIn keyNumber
-  number-here cells layer shown = refl
+  number-here cells layer dots shown = refl
 
-  accepted-here : (cells layer shown : List ℕ) → accepted (terminal s cells layer shown) asked ≡ (sound? s && (keyable k x && true))
+  accepted-here : (cells layer dots shown : List ℕ) → accepted (terminal s cells layer dots shown) asked ≡ (sound? s && (keyable k x && true))
   unfolding accepted reasons allFree soundIn
-  accepted-here cells layer shown = refl
+  accepted-here cells layer dots shown = refl
 
   -- served: the text in its place
   pub promised-key : (answer : Answer) (left : Settings) → sound? s ≡ true → keyable k x ≡ true
       → left ≡ withTexts s (put ((k - 1) * 8) x (s .texts)) → answer ≡ blankAnswer 0 0 → KeyPromised k x s answer left
   unfolding texted withSettings readsBy itemBytes readsOf takenBy countedAll copies written
-  promised-key answer left e f l a cells layer shown =
-      let d : Terminal = terminal s cells layer shown in
-      let ok : accepted d asked ≡ true = accepted-here cells layer shown ∙ and-both (sound? s) (keyable k x && true) e (and-both (keyable k x) true f refl) in
+  promised-key answer left e f l a cells layer dots shown =
+      let d : Terminal = terminal s cells layer dots shown in
+      let ok : accepted d asked ≡ true = accepted-here cells layer dots shown ∙ and-both (sound? s) (keyable k x && true) e (and-both (keyable k x) true f refl) in
       let z : served d asked ≡ record { state = texted k x (d .state); shown = shown } = leaves-texted d k x 0 ok in
       record {
         answer-is = a ∙ sym (accepted-answer d asked ok);
         settings-are = l ∙ sym (ap (λ (y : Terminal). y .state .settings) z);
         cells-are = sym (ap (λ (y : Terminal). y .state .cells) z);
         layer-is = sym (ap (λ (y : Terminal). y .state .layer) z);
+        dots-are = sym (ap (λ (y : Terminal). y .state .dots) z);
         shown-is = sym (ap (λ (y : Terminal). y .shown) z);
         printer-is = ap (λ (ys : List ℕ). written ys []) (sym (accepted-prints d asked ok));
       }
@@ -52,6 +53,6 @@ module _ (k : ℕ) (x : List ℕ) (s : Settings) where
   -- refused: "17, after 3, nothing changed"
   pub promised-key-refused : (answer : Answer) (left : Settings) → (sound? s && (keyable k x && true)) ≡ false
       → left ≡ s → answer ≡ blankAnswer keyNumber 0 → KeyPromised k x s answer left
-  promised-key-refused answer left e l a cells layer shown =
-      promised-none (keyed k x s answer left cells layer shown) (accepted-here cells layer shown ∙ e) (λ i. terminal (l i) cells layer shown)
-      (a ∙ ap (λ (n : ℕ). blankAnswer n 0) (sym (number-here cells layer shown))) refl
+  promised-key-refused answer left e l a cells layer dots shown =
+      promised-none (keyed k x s answer left cells layer dots shown) (accepted-here cells layer dots shown ∙ e) (λ i. terminal (l i) cells layer dots shown)
+      (a ∙ ap (λ (n : ℕ). blankAnswer n 0) (sym (number-here cells layer dots shown))) refl

@@ -44,3 +44,5 @@ pub mod Joining
 pub mod Bounds
 pub mod Parts
 pub mod Witness
+pub mod DotLaws
+pub mod DotsStay

@@ -8,16 +8,16 @@ use lib.Dec.{eqb, ltb}
 use Rattle.model.specs.declared.Item.{Item}
 use Rattle.model.specs.declared.Item.the-variants.{Control, Printed, Refused, Sequence}
 use Rattle.model.specs.declared.Sequence.{Sequence as Seq}
-use Rattle.model.specs.declared.Sequence.the-variants.{Arrows1, Arrows2, Arrows3, CapsOff, CapsOn, Charset, Clear, Copy, CursorKind, CursorOff, CursorOn, Display, DrawDot, DrawLine, EraseLine, EraseRest, InsOff, InsOn, LinesDown, LinesUp, Mark, Mode0, Mode1, Mode2, Nothing, NumOff, NumOn, Pattern, PrintCode, Put, Repeat, RepeatDelay, RepeatInterval, SecretOff, SecretOn, Select, Shift, Step, StringsOff, StringsOn, Tracking, WindowBottom, WindowCursor, WindowDown, WindowTop, WindowUp}
+use Rattle.model.specs.declared.Sequence.the-variants.{Arrows1, Arrows2, Arrows3, CapsOff, CapsOn, Charset, Clear, Copy, CursorKind, CursorOff, CursorOn, Display, DrawDot, DrawLine, EraseLine, EraseRest, InsOff, InsOn, LinesDown, LinesUp, Mark, Mode0, Mode1, Mode2, Mode3, Nothing, NumOff, NumOn, Pattern, PrintCode, Put, Repeat, RepeatDelay, RepeatInterval, SecretOff, SecretOn, Select, Shift, Step, StringsOff, StringsOn, Tracking, WindowBottom, WindowCursor, WindowDown, WindowTop, WindowUp}
 use Rattle.model.specs.State.{State, putAt, topAt, waitAt}
 use Rattle.model.specs.Screens.{base, cellAt, columnsHere, columnsOf, height, here, lineAt, linesHere, linesOf, placeOf, textRows}
 use Rattle.model.specs.Marks.{markOf}
-use Rattle.model.specs.Picture.{copied, copiedRows, covered, halves, picture, pictureAt, sides, textAt, under, windowAt}
-use Rattle.model.specs.Sequences.{codeOf}
+use Rattle.model.specs.Picture.{copied, copiedRows, covered, halves, picture, pictureAt, sides, textAt, under, windowAt, dotCopy, pictureCopy}
+use Rattle.model.specs.Sequences.{codeOf, idle?}
 use Rattle.model.specs.Reading.{Read, byteOf}
 use Rattle.model.specs.Judging.{limitsOf}
-use Rattle.model.specs.Rules.{applyItem, awaited, blankFrom, centred, cleared, control, displaying, down, emptied, erased, flagged, held, keyLine, lifted, missed, modeSet, nearest, obeyed, onLines, onward, placed, printed, remarked, right, runsOn, shifted, shownAt, stored, toColumn, topped, tracked, trackedFar, withCells, withKeys, withKindPatterns, withLayer, withSettings}
-use Rattle.model.specs.Items.{applyAll, copies, copyOf, eventsOf, happened, lined, obeyedBy, printerBytes, read, readsOf}
+use Rattle.model.specs.Rules.{applyItem, awaited, blankFrom, centred, cleared, control, displaying, down, emptied, erased, flagged, held, keyLine, lifted, missed, modeSet, nearest, obeyed, onLines, onward, placed, printed, remarked, right, runsOn, shifted, shownAt, stored, toColumn, topped, tracked, trackedFar, withCells, withKeys, withKindPatterns, withLayer, withSettings, dotsCleared, withDots}
+use Rattle.model.specs.Items.{applyAll, copies, copyOf, eventsOf, happened, lined, obeyedBy, read, readsOf}
 
 module _ (w : List ℕ) (n : ℕ) where
   -- a test that does not look at it
@@ -79,7 +79,7 @@ module _ (w : List ℕ) (n : ℕ) where
       ∙ ap tracked (right-lined (stored c x)) ∙ tracked-lined (right (stored c x))
 
   control-lined : (c : ℕ) (st : State) → control c (lined w n st) ≡ lined w n (control c st)
-  unfolding control toColumn cleared remarked onLines emptied withLayer withCells placed lined withSettings placeOf linesOf columnsOf base markOf
+  unfolding control toColumn cleared withDots dotsCleared remarked onLines emptied withLayer withCells placed lined withSettings placeOf linesOf columnsOf base markOf
   control-lined c st = go (eqb c 8) (eqb c 10) (eqb c 13) (eqb c 12)
     where
       go : (p q r s : Bool) → let l = lined w n st in
@@ -97,7 +97,7 @@ module _ (w : List ℕ) (n : ℕ) where
 
   -- every sequence: most name the other settings one by one
   obeyed-lined : (ms : ℕ → ℕ) (q : Seq) (st : State) → obeyed ms q (lined w n st) ≡ lined w n (obeyed ms q st)
-  unfolding obeyed cleared remarked erased shifted onLines blankFrom modeSet flagged withKeys withKindPatterns emptied withLayer withCells placed held centred lined withSettings placeOf linesOf columnsOf height textRows base cellAt lineAt markOf
+  unfolding obeyed cleared withDots dotsCleared remarked erased shifted onLines blankFrom modeSet flagged withKeys withKindPatterns emptied withLayer withCells placed held centred lined withSettings placeOf linesOf columnsOf height textRows base cellAt lineAt markOf
   obeyed-lined ms (PrintCode c) st = printed-lined c st
   obeyed-lined ms Clear st = refl
   obeyed-lined ms CursorOff st = refl
@@ -128,6 +128,7 @@ module _ (w : List ℕ) (n : ℕ) where
   obeyed-lined ms (Mode0 a b) st = refl
   obeyed-lined ms (Mode1 a) st = refl
   obeyed-lined ms (Mode2 a m p) st = refl
+  obeyed-lined ms Mode3 st = refl
   obeyed-lined ms (Select n) st = refl
   obeyed-lined ms (Mark r c p) st = refl
   obeyed-lined ms (Display m) st = keyLine-lined m st
@@ -146,10 +147,12 @@ module _ (w : List ℕ) (n : ℕ) where
   obeyed-lined ms (Shift n) st = refl
 
   pub item-lined : (ms : ℕ → ℕ) (i : Item) (st : State) → applyItem ms i (lined w n st) ≡ lined w n (applyItem ms i st)
-  unfolding applyItem
+  unfolding applyItem lined withSettings
   item-lined ms (Printed c) st = printed-lined c st
   item-lined ms (Control c) st = control-lined c st
-  item-lined ms (Sequence q) st = obeyed-lined ms q st
+  item-lined ms (Sequence q) st =
+      let b : Bool = idle? (st .settings .mode) (codeOf q) in
+      ap (λ (x : State). cond b (lined w n st) x) (obeyed-lined ms q st) ∙ cond-lined b st (obeyed ms q st)
   item-lined ms (Refused k p) st = refl
 
   -- nor does judging
@@ -163,8 +166,8 @@ module _ (w : List ℕ) (n : ℕ) where
   reads-lined [] at st room = refl
   reads-lined (bs ∷ bss) at st room =
       let r : Read = read at bs (limitsOf (st .settings)) room in
-      ap (λ (x : State). r ∷ readsOf bss (at + length bs) x (room - printerBytes (r .item))) (item-lined (byteOf r) (r .item) st)
-      ∙ ap (λ (l : List Read). r ∷ l) (reads-lined bss (at + length bs) (obeyedBy r st) (room - printerBytes (r .item)))
+      ap (λ (x : State). r ∷ readsOf bss (at + length bs) x (room - r .prints)) (item-lined (byteOf r) (r .item) st)
+      ∙ ap (λ (l : List Read). r ∷ l) (reads-lined bss (at + length bs) (obeyedBy r st) (room - r .prints))
 
   -- the same is made of what stands
   pub applied-lined : (rs : List Read) (st : State) → applyAll (eventsOf rs) (lined w n st) ≡ lined w n (applyAll (eventsOf rs) st)
@@ -177,9 +180,17 @@ module _ (w : List ℕ) (n : ℕ) where
   unfolding picture pictureAt covered under textAt halves sides windowAt cellAt lineAt base columnsOf placeOf textRows lined withSettings
   picture-lined st p = refl
 
+  picture-copied : (st : State) → pictureCopy (lined w n st) ≡ pictureCopy st
+  unfolding pictureCopy
+  picture-copied st = λ i. copiedRows (λ p. picture-lined st p i) 0 8
+
+  dots-copied : (st : State) → dotCopy (lined w n st) ≡ dotCopy st
+  unfolding dotCopy lined withSettings
+  dots-copied st = refl
+
   copied-lined : (st : State) → copied (lined w n st) ≡ copied st
-  unfolding copied
-  copied-lined st = λ i. copiedRows (λ p. picture-lined st p i) 0 8
+  unfolding copied lined withSettings
+  copied-lined st = λ i. cond (eqb (st .settings .mode) 3) (dots-copied st i) (picture-copied st i)
 
   copy-lined : (i : Item) (st : State) → copyOf i (lined w n st) ≡ copyOf i st
   copy-lined (Printed c) st = refl

@@ -13,12 +13,12 @@ use borrow.Author.Tests.{ltb-false, ltb-true}
 use Rattle.model.specs.declared.Settings.{Settings}
 use Rattle.model.specs.Bytes.{onPart}
 use Rattle.model.specs.State.{State}
-use Rattle.model.specs.Screens.{base, columnsOf, height, linesHere, linesOf, placeOf, size, textRows}
+use Rattle.model.specs.Screens.{base, columnsOf, height, linesHere, linesOf, placeOf, size, textRows, screens}
 use Rattle.model.specs.Marks.{Marked, listed, markOf, marksOf}
-use Rattle.model.specs.Sound.{Good, Shaped, Sound, arrayRanges, keyRanges, mode0, mode1, mode2, plainRanges}
+use Rattle.model.specs.Sound.{Good, Shaped, Sound, arrayRanges, keyRanges, mode0, mode1, mode2, plainRanges, mode3}
 use Rattle.model.specs.Rules.{marksHere, remarked, withSettings}
 use Rattle.model.proofs.ByteLaws.{getD-after, getD-before, getD-inside, getD-listFrom, getD-part, length-listFrom, length-onPart, onPart-after, onPart-before, part-length}
-use Rattle.model.proofs.Keep.{Kept}
+use Rattle.model.proofs.Keep.{Kept, chosen}
 
 length-listed : (m : ℕ → ℕ) (xs : List ℕ) → length (listed m xs) ≡ length xs
 unfolding listed
@@ -29,6 +29,7 @@ shaped-lines : {m l1 l2 c1 c2 : ℕ} → Shaped m l1 l2 c1 c2 → (l1 ≤ 48) ×
 shaped-lines (mode0 n p q a b c) = omega arith
 shaped-lines (mode1 n p q a b c) = omega arith
 shaped-lines (mode2 n p q e a b c) = omega arith
+shaped-lines (mode3 n p q a b) = omega arith
 
 pub lines-most : (s : Settings) → Sound s → (k : ℕ) → k < 2 → linesOf s k ≤ 48
 unfolding linesOf
@@ -115,14 +116,14 @@ module _ (f : (ℕ → ℕ) → ℕ → ℕ) (a : State) (all-96 : length (a .se
 
 module _ (f : (ℕ → ℕ) → ℕ → ℕ) (a : State) (g : Good a) where
   pub mark-here : (l : ℕ) → 1 ≤ l → l ≤ 48 → markOf (remarked f a .settings) (a .settings .selected) l ≡ f (marksHere a) l
-  mark-here = mark-at f a (marks-96 a g) (g .sound .selected)
+  mark-here = mark-at f a (marks-96 a g) (chosen (a .settings) (g .sound))
 
   pub kept-remarked : Marked (linesHere a) (f (marksHere a)) → Kept a (remarked f a)
-  unfolding remarked withSettings plainRanges keyRanges arrayRanges linesOf columnsOf height textRows placeOf base size
+  unfolding remarked withSettings plainRanges keyRanges arrayRanges linesOf columnsOf height textRows placeOf base size screens
   kept-remarked h = record {
     good = record {
       sound = record {
-        arrays = rw (length-remarked f a (marks-96 a g) (g .sound .selected)) (g .sound .arrays);
+        arrays = rw (length-remarked f a (marks-96 a g) (chosen (a .settings) (g .sound))) (g .sound .arrays);
         shaped = g .sound .shaped;
         selected = g .sound .selected;
         inside = g .sound .inside;
@@ -131,16 +132,18 @@ module _ (f : (ℕ → ℕ) → ℕ → ℕ) (a : State) (g : Good a) where
         plain = g .sound .plain;
         line = g .sound .line;
         marked = λ k l. all k l (ℕ-discrete k (a .settings .selected));
+        alone = g .sound .alone;
       };
       cells-are = g .cells-are;
       layer-are = g .layer-are;
+      dots-are = g .dots-are;
     };
     same-selected = refl;
     same-shape = λ k. (refl, refl);
     same-tracking = refl;
-    other = λ k l n. record { same-base = refl; same-lines = refl; same-columns = refl; same-height = refl; same-place = refl; same-cells = refl; same-marks = marks-other f a (marks-96 a g) (g .sound .selected) k l n };
+    other = λ k l n. record { same-base = refl; same-lines = refl; same-columns = refl; same-height = refl; same-place = refl; same-cells = refl; same-marks = marks-other f a (marks-96 a g) (chosen (a .settings) (g .sound)) k l n };
   }
     where
       all : (k : ℕ) → k < 2 → Dec (k ≡ a .settings .selected) → Marked (linesOf (remarked f a .settings) k) (markOf (remarked f a .settings) k)
       all k l (yes e) i p q = rw e (rw (mark-here i p q) (h i p q))
-      all k l (no n) i p q = rw (mark-other f a (marks-96 a g) (g .sound .selected) k l n i p q) (g .sound .marked k l i p q)
+      all k l (no n) i p q = rw (mark-other f a (marks-96 a g) (chosen (a .settings) (g .sound)) k l n i p q) (g .sound .marked k l i p q)

@@ -8,6 +8,7 @@ use mathlib.Core.List.{List, [], _++_, _∷_}
 use lib.ListN.{getD, length}
 use lib.Dec.{eqb, ltb}
 use borrow.Author.Tests.{ne-eqb}
+use Rattle.model.specs.Picture.{copySizeOf}
 use Rattle.model.specs.declared.Answer.{Answer}
 use Rattle.model.specs.declared.Item.{Item}
 use Rattle.model.specs.declared.Item.the-variants.{Control, Printed, Refused, Sequence}
@@ -15,9 +16,9 @@ use Rattle.model.specs.declared.Limits.{Limits}
 use Rattle.model.specs.declared.Sequence.the-variants.{Pattern, Select}
 use Rattle.model.specs.Bytes.{listFrom, put}
 use Rattle.model.specs.State.{State}
-use Rattle.model.specs.Sequences.{Row, codeOf, find, modeRowOf, modeRows, refusal, rowOf, rows}
+use Rattle.model.specs.Sequences.{idle?, Row, codeOf, find, modeRowOf, modeRows, refusal, rowOf, rows}
 use Rattle.model.specs.Reading.{Read, byteOf, decoded, ended, itemOf, kindOf, unfinished?}
-use Rattle.model.specs.Judging.{allowed, badOf, fitting, judged, legal?, limitsOf}
+use Rattle.model.specs.Judging.{allowed, badOf, fitting, judged, legal?, limitsOf, judgedRanges}
 use Rattle.model.specs.Checks.{inRanges?}
 use Rattle.model.specs.Rules.{applyItem, obeyed, withKindPatterns}
 use Rattle.model.specs.Items.{applyAll, copies, copyOf, counted, countedAll, eventsOf, happened, obeyedBy, printerBytes, read, readsOf}
@@ -93,18 +94,18 @@ module _ (k : ℕ) where
 
   -- judging keeps it so
   judged-moved : {i j : Item} → Moved i j → (s : Limits) (room : ℕ) → Moved (judged i s room) (judged j s room)
-  unfolding allowed fitting legal? badOf applyItem inRanges?
+  unfolding allowed fitting legal? badOf judgedRanges applyItem inRanges?
   judged-moved {i} (same h) s room = go i h
     where
       go : (i : Item) → ((f g : ℕ → ℕ) (st : State) → applyItem f i st ≡ applyItem g i st) → Moved (judged i s room) (judged i s room)
       go (Printed c) h = same h
       go (Control c) h = same h
-      go (Sequence q) h = cond-at (λ (x : Item). Moved (fitting x room) (fitting x room)) (legal? q s) (Sequence q) (Refused 11 (badOf q s))
-          (λ e. cond-at (λ (x : Item). Moved x x) (eqb (codeOf q) 80 && ltb room 656) (Refused 13 0) (Sequence q) (λ e. same (λ f g st. refl)) (λ e. same h)) (λ e. same (λ f g st. refl))
+      go (Sequence q) h = cond-at (λ (x : Item). Moved (fitting (s .mode) x room) (fitting (s .mode) x room)) (legal? q s) (Sequence q) (Refused 11 (badOf q s))
+          (λ e. cond-at (λ (x : Item). Moved x x) (eqb (codeOf q) 80 && ltb room (copySizeOf (s .mode))) (Refused 13 0) (Sequence q) (λ e. same (λ f g st. refl)) (λ e. same h)) (λ e. same (λ f g st. refl))
       go (Refused n p) h = same h
   judged-moved (pattern c a b e) s room = go (legal? (Pattern c a) s)
     where
-      go : (t : Bool) → Moved (fitting (cond t (Sequence (Pattern c a)) (Refused 11 (badOf (Pattern c a) s))) room) (fitting (cond t (Sequence (Pattern c b)) (Refused 11 (badOf (Pattern c b) s))) room)
+      go : (t : Bool) → Moved (fitting (s .mode) (cond t (Sequence (Pattern c a)) (Refused 11 (badOf (Pattern c a) s))) room) (fitting (s .mode) (cond t (Sequence (Pattern c b)) (Refused 11 (badOf (Pattern c b) s))) room)
       go true = pattern c a b e
       go false = same (λ f g st. refl)
 
@@ -119,19 +120,19 @@ module _ (k : ℕ) where
   unfolding applyItem obeyed
   does-same (same h) f g e st = h f g st
   does-same (pattern c a b z) f g e st =
-      λ i. withKindPatterns (st .settings .kind) (put ((c - 224) * 8) ((same-list f g e a 8 ∙ ap (λ (x : ℕ). listFrom g x 8) (sym z)) i) (st .settings .patterns)) st
+      λ i. cond (idle? (st .settings .mode) 224) st (withKindPatterns (st .settings .kind) (put ((c - 224) * 8) ((same-list f g e a 8 ∙ ap (λ (x : ℕ). listFrom g x 8) (sym z)) i) (st .settings .patterns)) st)
 
-  prints-same : {i j : Item} → Moved i j → printerBytes i ≡ printerBytes j
-  prints-same (same h) = refl
-  prints-same (pattern c a b z) = refl
+  prints-same : {i j : Item} → Moved i j → (mode : ℕ) → printerBytes mode i ≡ printerBytes mode j
+  prints-same (same h) mode = refl
+  prints-same (pattern c a b z) mode = refl
 
   copy-same : {i j : Item} → Moved i j → (st : State) → copyOf i st ≡ copyOf j st
   copy-same (same h) st = refl
   copy-same (pattern c a b z) st = refl
 
   -- the counts
-  counted-same : {i j : Item} → Moved i j → (at : ℕ) (a : Answer) → counted j (k + at) (further k a) ≡ further k (counted i at a)
-  counted-same {i} (same h) at a = go i
+  counted-same : {i j : Item} → Moved i j → (at n : ℕ) (a : Answer) → counted j (k + at) n (further k a) ≡ further k (counted i at n a)
+  counted-same {i} (same h) at p a = go i
     where
       refusing : (r x o : ℕ) → cond (eqb r 0) (k + x) (cond (eqb r 0) o (k + o)) ≡ cond (eqb (r + 1) 0) (cond (eqb r 0) x o) (k + cond (eqb r 0) x o)
       refusing zero x o = refl
@@ -140,12 +141,12 @@ module _ (k : ℕ) where
           let f : eqb (suc r + 1) 0 ≡ false = ne-eqb (suc r + 1) 0 (omega arith) in
           rw (e, f)
 
-      go : (i : Item) → counted i (k + at) (further k a) ≡ further k (counted i at a)
+      go : (i : Item) → counted i (k + at) p (further k a) ≡ further k (counted i at p a)
       go (Printed c) = refl
       go (Control c) = refl
       go (Sequence q) = refl
       go (Refused n p) = λ i. record { number = a .number; taken = a .taken; accepted = a .accepted; refused = a .refused + 1; first = cond (eqb (a .refused) 0) n (a .first); parameter = cond (eqb (a .refused) 0) p (a .parameter); offset = refusing (a .refused) at (a .offset) i; printed = a .printed }
-  counted-same (pattern c x y z) at a = refl
+  counted-same (pattern c x y z) at n a = refl
 
   -- one item, k further on
   read-moved : (at : ℕ) (bs : List ℕ) (st : State) (room : ℕ) → let r = read at bs (limitsOf (st .settings)) room in let r′ = read (k + at) bs (limitsOf (st .settings)) room in
@@ -163,8 +164,8 @@ module _ (k : ℕ) where
       let z = read-moved at bs st room in
       let r : Read = read at bs (limitsOf (st .settings)) room in
       let e : k + at + length bs ≡ k + (at + length bs) = omega arith in
-      (λ i. applyAll (eventsOf (readsOf bss (e i) (sym (z .1) i) (room - sym (prints-same (z .0)) i))) (sym (z .1) i))
-      ∙ further-effect bss (at + length bs) (obeyedBy r st) (room - printerBytes (r .item))
+      (λ i. applyAll (eventsOf (readsOf bss (e i) (sym (z .1) i) (room - sym (prints-same (z .0) (st .settings .mode)) i))) (sym (z .1) i))
+      ∙ further-effect bss (at + length bs) (obeyedBy r st) (room - r .prints)
 
   -- the same printer bytes
   pub further-prints : (bss : List (List ℕ)) (at : ℕ) (st : State) (room : ℕ) → copies (eventsOf (readsOf bss (k + at) st room)) st ≡ copies (eventsOf (readsOf bss at st room)) st
@@ -174,8 +175,8 @@ module _ (k : ℕ) where
       let z = read-moved at bs st room in
       let r : Read = read at bs (limitsOf (st .settings)) room in
       let e : k + at + length bs ≡ k + (at + length bs) = omega arith in
-      (λ i. sym (copy-same (z .0) st) i ++ copies (eventsOf (readsOf bss (e i) (sym (z .1) i) (room - sym (prints-same (z .0)) i))) (sym (z .1) i))
-      ∙ ap (λ (l : List ℕ). copyOf (r .item) st ++ l) (further-prints bss (at + length bs) (obeyedBy r st) (room - printerBytes (r .item)))
+      (λ i. sym (copy-same (z .0) st) i ++ copies (eventsOf (readsOf bss (e i) (sym (z .1) i) (room - sym (prints-same (z .0) (st .settings .mode)) i))) (sym (z .1) i))
+      ∙ ap (λ (l : List ℕ). copyOf (r .item) st ++ l) (further-prints bss (at + length bs) (obeyedBy r st) (room - r .prints))
 
   -- the same answer but for the offset
   pub further-counts : (bss : List (List ℕ)) (at : ℕ) (st : State) (room : ℕ) (a : Answer) → countedAll (readsOf bss (k + at) st room) (further k a) ≡ further k (countedAll (readsOf bss at st room) a)
@@ -185,5 +186,9 @@ module _ (k : ℕ) where
       let z = read-moved at bs st room in
       let r : Read = read at bs (limitsOf (st .settings)) room in
       let e : k + at + length bs ≡ k + (at + length bs) = omega arith in
-      (λ i. countedAll (readsOf bss (e i) (sym (z .1) i) (room - sym (prints-same (z .0)) i)) (counted-same (z .0) at a i))
-      ∙ further-counts bss (at + length bs) (obeyedBy r st) (room - printerBytes (r .item)) (counted (r .item) at a)
+      let p = prints-same (z .0) (st .settings .mode) in
+      let r′ : Read = read (k + at) bs (limitsOf (st .settings)) room in
+      let bumped : counted (r′ .item) (k + at) (r′ .prints) (further k a) ≡ further k (counted (r .item) at (r .prints) a) =
+      ap (λ (n : ℕ). counted (r′ .item) (k + at) n (further k a)) (sym p) ∙ counted-same (z .0) at (r .prints) a in
+      (λ i. countedAll (readsOf bss (e i) (sym (z .1) i) (room - sym (prints-same (z .0) (st .settings .mode)) i)) (bumped i))
+      ∙ further-counts bss (at + length bs) (obeyedBy r st) (room - r .prints) (counted (r .item) at (r .prints) a)

@@ -17,16 +17,17 @@ use Rattle.model.specs.declared.Item.the-variants.{Control, Printed, Ref
 use Rattle.model.specs.declared.Sequence.{Sequence as Seq}
 use Rattle.model.specs.declared.Sequence.the-variants.{Select}
 use Rattle.model.specs.Bytes.{listFrom}
-use Rattle.model.specs.Checks.{Check, firstBad, free, inRanges?, passes}
+use Rattle.model.specs.Checks.{Check, firstBad, free, inRanges?, member, passes}
 use Rattle.model.specs.Sequences.{Row, codeOf, find, modeRowOf, modeRows, refusal, rowOf, rows}
 use Rattle.model.specs.State.{State}
+use Rattle.model.specs.Picture.{copySizeOf}
 use Rattle.model.specs.Reading.{Read, decoded, ended, itemOf, kindOf, unfinished?}
-use Rattle.model.specs.Judging.{allowed, badOf, fitting, judged, legal?, limitsOf, ranges}
-use Rattle.model.specs.Items.{blankAnswer, counted, countedAll, obeyedBy, printerBytes, read, readsOf}
+use Rattle.model.specs.Judging.{allowed, badOf, fitting, judged, judgedRanges, legal?, limitsOf, ranges}
+use Rattle.model.specs.Items.{blankAnswer, counted, countedAll, obeyedBy, read, readsOf}
 use Rattle.model.specs.Calls.{Request, Terminal, accepted, answerOf, numberOf, readsBy, readsIn, requestOf, takenIn}
 use Rattle.model.specs.Claims.{isRefusal}
 use Rattle.model.specs.Demand.{stood}
-use Rattle.model.specs.Parameters.{FirstBad, FirstRefusal, Named, NamedItem, Naming, behind, here, none, valuesOf}
+use Rattle.model.specs.Parameters.{FirstBad, FirstRefusal, Named, NamedItem, Naming, behind, here, none, sentAt, valuesOf}
 use Rattle.model.proofs.Tests.{by-test, cond-at, differ, elim-at}
 use Rattle.model.proofs.Gathering.{found}
 use Rattle.model.proofs.Theorem.{demand3}
@@ -91,17 +92,17 @@ item-named at bs =
     (λ e. found (λ r. named? (r .made p (at + 2))) (refusal 0 2 10 0) rows (getD bs 1 0) refl refl))
     (λ e. elim-at N (ltb (getD bs 0 0) 32) (Control (getD bs 0 0)) (Printed (getD bs 0 0)) (λ e. refl) (λ e. refl)))
 
-refused-first : (q : Seq) (s : Limits) → legal? q s ≡ false → FirstBad 1 (ranges q s) (badOf q s)
+refused-first : (q : Seq) (s : Limits) → legal? q s ≡ false → FirstBad 1 (judgedRanges q s) (badOf q s)
 unfolding legal? badOf
-refused-first q s e = bad-first 1 (ranges q s) e
+refused-first q s e = bad-first 1 (judgedRanges q s) e
 
 judged-named : (i : Item) (s : Limits) (room : ℕ) → NamedItem i → NamedItem (judged i s room)
 unfolding allowed fitting
 judged-named (Printed c) s room h = tt
 judged-named (Control c) s room h = tt
 judged-named (Sequence q) s room h =
-    cond-at (λ (i : Item). NamedItem (fitting i room)) (legal? q s) (Sequence q) (Refused 11 (badOf q s))
-    (λ e. cond-at NamedItem (eqb (codeOf q) 80 && ltb room 656) (Refused 13 0) (Sequence q) (λ f. true-named (Refused 13 0) refl) (λ f. tt))
+    cond-at (λ (i : Item). NamedItem (fitting (s .mode) i room)) (legal? q s) (Sequence q) (Refused 11 (badOf q s))
+    (λ e. cond-at NamedItem (eqb (codeOf q) 80 && ltb room (copySizeOf (s .mode))) (Refused 13 0) (Sequence q) (λ f. true-named (Refused 13 0) refl) (λ f. tt))
     (λ e. record { eleven = λ f. refused-first q s e .low; another = λ f. absurd (f refl) })
 judged-named (Refused n p) s room h = h
 
@@ -122,15 +123,21 @@ checksOf (Control c) s = []
 checksOf (Sequence q) s = ranges q s
 checksOf (Refused n p) s = []
 
+abbrev sentBy : Item → (ℕ → ℕ) → ℕ → ℕ
+sentBy (Printed c) p = p
+sentBy (Control c) p = p
+sentBy (Sequence q) p = sentAt (codeOf q) p
+sentBy (Refused n m) p = p
+
 abbrev Numbered : (ℕ → ℕ) → Limits → Item → Type 0
-Numbered p s i = valuesOf p 1 (checksOf i s) ≡ listFrom p 1 (length (checksOf i s))
+Numbered p s i = valuesOf (sentBy i p) 1 (checksOf i s) ≡ listFrom (sentBy i p) 1 (length (checksOf i s))
 
 decoded-numbered : (at : ℕ) (bs : List ℕ) (s : Limits) → Numbered (λ n. getD bs (n + 1) 0) s (decoded at bs)
-unfolding decoded kindOf rowOf modeRowOf
+unfolding decoded kindOf rowOf modeRowOf member
 decoded-numbered at bs s =
     let p : ℕ → ℕ = λ n. getD bs (n + 1) 0 in
-    let f : Row → List ℕ = λ r. valuesOf p 1 (checksOf (r .made p (at + 2)) s) in
-    let g : Row → List ℕ = λ r. listFrom p 1 (length (checksOf (r .made p (at + 2)) s)) in
+    let f : Row → List ℕ = λ r. valuesOf (sentBy (r .made p (at + 2)) p) 1 (checksOf (r .made p (at + 2)) s) in
+    let g : Row → List ℕ = λ r. listFrom (sentBy (r .made p (at + 2)) p) 1 (length (checksOf (r .made p (at + 2)) s)) in
     elim-at (Numbered p s) (eqb (getD bs 0 0) 27) (kindOf bs .made p (at + 2)) _
     (λ e. elim-at (λ r. Numbered p s (r .made p (at + 2))) (eqb (getD bs 1 0) 208) (modeRowOf (getD bs 2 0)) (rowOf (getD bs 1 0))
     (λ e. found-equal f g (refusal 0 3 11 1) modeRows (getD bs 2 0) refl refl)
@@ -138,11 +145,11 @@ decoded-numbered at bs s =
     (λ e. elim-at (Numbered p s) (ltb (getD bs 0 0) 32) (Control (getD bs 0 0)) (Printed (getD bs 0 0)) (λ e. refl) (λ e. refl))
 
 -- counting hands on a number and its parameter together
-counted-named : (i : Item) (at : ℕ) (a : Answer) → NamedItem i → Named (a .first) (a .parameter) → Named (counted i at a .first) (counted i at a .parameter)
-counted-named (Printed c) at a h g = g
-counted-named (Control c) at a h g = g
-counted-named (Sequence q) at a h g = g
-counted-named (Refused k p) at a h g = go (eqb (a .refused) 0)
+counted-named : (i : Item) (at n : ℕ) (a : Answer) → NamedItem i → Named (a .first) (a .parameter) → Named (counted i at n a .first) (counted i at n a .parameter)
+counted-named (Printed c) at n a h g = g
+counted-named (Control c) at n a h g = g
+counted-named (Sequence q) at n a h g = g
+counted-named (Refused k p) at n a h g = go (eqb (a .refused) 0)
   where
     go : (b : Bool) → Named (cond b k (a .first)) (cond b p (a .parameter))
     go true = h
@@ -154,8 +161,8 @@ unfolding countedAll readsOf
 all-named [] at st room a g = g
 all-named (bs ∷ bss) at st room a g =
     let r = read at bs (limitsOf (st .settings)) room in
-    all-named bss (at + length bs) (obeyedBy r st) (room - printerBytes (r .item)) (counted (r .item) at a)
-    (counted-named (r .item) at a (read-named at bs (limitsOf (st .settings)) room) g)
+    all-named bss (at + length bs) (obeyedBy r st) (room - r .prints) (counted (r .item) at (r .prints) a)
+    (counted-named (r .item) at (r .prints) a (read-named at bs (limitsOf (st .settings)) room) g)
 
 none-named : Named 0 0
 none-named = record { eleven = λ e. absurd (omega arith); another = λ e. refl }
@@ -167,20 +174,20 @@ answer-named t q =
     (λ e. all-named _ _ (t .state) (q .room) (blankAnswer (numberOf t q) (takenIn t q)) none-named) (λ e. none-named)
 
 -- once an item is refused, what is first stays
-kept-first : (i : Item) (at : ℕ) (a : Answer) → eqb (a .refused) 0 ≡ false
-    → let b = counted i at a in (eqb (b .refused) 0 ≡ false) × (b .first ≡ a .first) × (b .parameter ≡ a .parameter) × (b .offset ≡ a .offset)
-kept-first (Printed c) at a e = (e, refl, refl, refl)
-kept-first (Control c) at a e = (e, refl, refl, refl)
-kept-first (Sequence q) at a e = (e, refl, refl, refl)
-kept-first (Refused k p) at a e = (ne-eqb (a .refused + 1) 0 (λ f. omega arith), rw e, rw e, rw e)
+kept-first : (i : Item) (at n : ℕ) (a : Answer) → eqb (a .refused) 0 ≡ false
+    → let b = counted i at n a in (eqb (b .refused) 0 ≡ false) × (b .first ≡ a .first) × (b .parameter ≡ a .parameter) × (b .offset ≡ a .offset)
+kept-first (Printed c) at n a e = (e, refl, refl, refl)
+kept-first (Control c) at n a e = (e, refl, refl, refl)
+kept-first (Sequence q) at n a e = (e, refl, refl, refl)
+kept-first (Refused k p) at n a e = (ne-eqb (a .refused + 1) 0 (λ f. omega arith), rw e, rw e, rw e)
 
 all-kept : (rs : List Read) (a : Answer) → eqb (a .refused) 0 ≡ false
     → let b = countedAll rs a in (b .first ≡ a .first) × (b .parameter ≡ a .parameter) × (b .offset ≡ a .offset)
 unfolding countedAll
 all-kept [] a e = (refl, refl, refl)
 all-kept (r ∷ rs) a e =
-    let b = counted (r .item) (r .at) a in
-    let k = kept-first (r .item) (r .at) a e in
+    let b = counted (r .item) (r .at) (r .prints) a in
+    let k = kept-first (r .item) (r .at) (r .prints) a e in
     let z = all-kept rs b (k .0) in
     (z .0 ∙ k .1, z .1 ∙ k .2, z .2 ∙ k .3)
 
@@ -196,18 +203,18 @@ unfolding countedAll
 first-in [] a h = rw (h .1, h .2, h .3) none
 first-in (r ∷ rs) a h = go (r .item) refl (first-in rs)
   where
-    go : (i : Item) → r .item ≡ i → ((b : Answer) → NoneYet b → FirstIn rs (countedAll rs b)) → FirstIn (r ∷ rs) (countedAll rs (counted i (r .at) a))
+    go : (i : Item) → r .item ≡ i → ((b : Answer) → NoneYet b → FirstIn rs (countedAll rs b)) → FirstIn (r ∷ rs) (countedAll rs (counted i (r .at) (r .prints) a))
     go (Printed c) e rest = behind (ap isRefusal e) (rest _ h)
     go (Control c) e rest = behind (ap isRefusal e) (rest _ h)
     go (Sequence q) e rest = behind (ap isRefusal e) (rest _ h)
     go (Refused k p) e rest =
-        let b = counted (Refused k p) (r .at) a in
+        let b = counted (Refused k p) (r .at) (r .prints) a in
         let z = all-kept rs b (ne-eqb (b .refused) 0 (λ f. omega arith)) in
         rw (z .0, z .1, z .2, h .0) (here e)
 
 refused-by : (q : Seq) (s : Limits) (room : ℕ) → legal? q s ≡ false → judged (Sequence q) s room ≡ Refused 11 (badOf q s)
 unfolding allowed fitting
-refused-by q s room e = ap (λ (b : Bool). fitting (cond b (Sequence q) (Refused 11 (badOf q s))) room) e
+refused-by q s room e = ap (λ (b : Bool). fitting (s .mode) (cond b (Sequence q) (Refused 11 (badOf q s))) room) e
 
 answer-first : (t : Terminal) (q : Request) → FirstIn (readsIn t q) (answerOf t q)
 unfolding answerOf
@@ -228,7 +235,7 @@ pub naming : Naming
 unfolding legal? badOf
 naming =
     record {
-      legal = λ q s. bad-none 1 (ranges q s) (omega arith);
+      legal = λ q s. bad-none 1 (judgedRanges q s) (omega arith);
       first = λ q s room e. (refused-by q s room e, refused-first q s e);
       numbered = λ at bs q s e. subst (Numbered (λ n. getD bs (n + 1) 0) s) e (decoded-numbered at bs s);
       mode-byte = mode-byte;

@@ -17,7 +17,7 @@ use Rattle.model.specs.State.{State}
 use Rattle.model.specs.Line.{heldIn}
 use Rattle.model.specs.Reading.{Read, gathered, remaining, uncut}
 use Rattle.model.specs.Judging.{limitsOf}
-use Rattle.model.specs.Items.{applyAll, blankAnswer, copies, copyOf, counted, countedAll, eventsOf, happened, lined, obeyedBy, printerBytes, read, readsOf}
+use Rattle.model.specs.Items.{applyAll, blankAnswer, copies, copyOf, counted, countedAll, eventsOf, happened, lined, obeyedBy, read, readsOf}
 use Rattle.model.specs.Calls.{Terminal, accepted, answerOf, itemBytes, piece, printedBy, readsBy, request, served, startOf, takenBy}
 use Rattle.model.specs.Claims.{countAfter, waitsAfter}
 use Rattle.model.specs.Stream.{together}
@@ -37,7 +37,7 @@ reads-append [] ys at st room = λ i. readsOf ys (sym (add-zero at) i) st (sym (
 reads-append (x ∷ xs) ys at st room =
     let r : Read = read at x (limitsOf (st .settings)) room in
     let st₂ : State = obeyedBy r st in
-    let left : ℕ = room - printerBytes (r .item) in
+    let left : ℕ = room - r .prints in
     let rs : List Read = readsOf xs (at + length x) st₂ left in
     let e : (at + length x) + length (joined xs) ≡ at + length (x ++ joined xs) = omega (arith, length-append x (joined xs)) in
     let f : left - length (copies (eventsOf rs) st₂) ≡ room - length (copyOf (r .item) st ++ copies (eventsOf rs) st₂) =
@@ -51,9 +51,9 @@ taking n a = record { number = a .number; taken = n; accepted = a .accepted; ref
 pub taking-all : (n : ℕ) (rs : List Read) (a : Answer) → taking n (countedAll rs a) ≡ countedAll rs (taking n a)
 unfolding countedAll
 taking-all n [] a = refl
-taking-all n (r ∷ rs) a = taking-all n rs (counted (r .item) (r .at) a) ∙ ap (countedAll rs) (step (r .item))
+taking-all n (r ∷ rs) a = taking-all n rs (counted (r .item) (r .at) (r .prints) a) ∙ ap (countedAll rs) (step (r .item))
   where
-    step : (i : Item) → taking n (counted i (r .at) a) ≡ counted i (r .at) (taking n a)
+    step : (i : Item) → taking n (counted i (r .at) (r .prints) a) ≡ counted i (r .at) (r .prints) (taking n a)
     step (Printed c) = refl
     step (Control c) = refl
     step (Sequence q) = refl

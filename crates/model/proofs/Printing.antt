@@ -5,7 +5,7 @@ use native.Mathlib.Nat.{add-zero, zero-add}
 use native.Mathlib.Omega.{arith}
 use mathlib.Core.Bool.{Bool, _&&_, cond, true}
 use mathlib.Core.List.{List, [], _++_, _∷_, append-assoc, append-nil}
-use lib.ListN.{length, length-append}
+use lib.ListN.{getD, length, length-append}
 use lib.Dec.{eqb, ltb}
 use borrow.Author.Tests.{ltb-false}
 use Rattle.model.specs.declared.Answer.{Answer}
@@ -15,7 +15,7 @@ use Rattle.model.specs.declared.Settings.{Settings}
 use Rattle.model.specs.Bytes.{listFrom}
 use Rattle.model.specs.Line.{heldIn}
 use Rattle.model.specs.State.{State}
-use Rattle.model.specs.Picture.{copied, copiedRows, picture}
+use Rattle.model.specs.Picture.{copied, copiedRows, copySizeOf, dotCopy, picture, pictureCopy}
 use Rattle.model.specs.Sequences.{codeOf}
 use Rattle.model.specs.Reading.{Read, itemOf}
 use Rattle.model.specs.Judging.{allowed, fitting, limitsOf}
@@ -35,35 +35,44 @@ length-rows f r (suc n) =
     ∙ omega (arith, length-rows f (suc r) n)
 
 -- 8 rows of 80, each followed by 13, 10
-pub length-copied : (st : State) → length (copied st) ≡ 656
-unfolding copied
-length-copied st = length-rows (picture st) 0 8
+length-picture : (st : State) → length (pictureCopy st) ≡ 656
+unfolding pictureCopy
+length-picture st = length-rows (picture st) 0 8
+
+-- P11: or the dots
+length-dots : (st : State) → length (dotCopy st) ≡ 3840
+unfolding dotCopy
+length-dots st = length-listFrom (λ p. getD (st .dots) p 0) 0 3840
+
+pub length-copied : (st : State) → length (copied st) ≡ copySizeOf (st .settings .mode)
+unfolding copied copySizeOf
+length-copied st = cond₂ (λ (l : List ℕ) (n : ℕ). length l ≡ n) (eqb (st .settings .mode) 3) (eqb (st .settings .mode) 3) (dotCopy st) (pictureCopy st) 3840 656 refl (λ e. length-dots st) (λ e. length-picture st)
 
 -- an item prints as many bytes as it takes of the room
-pub length-copy : (i : Item) (st : State) → length (copyOf i st) ≡ printerBytes i
+pub length-copy : (i : Item) (st : State) → length (copyOf i st) ≡ printerBytes (st .settings .mode) i
 length-copy (Printed c) st = refl
 length-copy (Control c) st = refl
-length-copy (Sequence q) st = cond₂ (λ (l : List ℕ) (n : ℕ). length l ≡ n) (eqb (codeOf q) 80) (eqb (codeOf q) 80) (copied st) [] 656 0 refl (λ e. length-copied st) (λ e. refl)
+length-copy (Sequence q) st = cond₂ (λ (l : List ℕ) (n : ℕ). length l ≡ n) (eqb (codeOf q) 80) (eqb (codeOf q) 80) (copied st) [] (copySizeOf (st .settings .mode)) 0 refl (λ e. length-copied st) (λ e. refl)
 length-copy (Refused n p) st = refl
 
 -- 13: a copy that is accepted has its room
-pub fits-room : (i : Item) (room : ℕ) → printerBytes (fitting i room) ≤ room
+pub fits-room : (mode : ℕ) (i : Item) (room : ℕ) → printerBytes mode (fitting mode i room) ≤ room
 unfolding fitting
-fits-room (Printed c) room = omega arith
-fits-room (Control c) room = omega arith
-fits-room (Sequence q) room =
-    cond-at (λ (i : Item). printerBytes i ≤ room) (eqb (codeOf q) 80 && ltb room 656) (Refused 13 0) (Sequence q) (λ e. omega arith)
-    (λ e. cond-at (λ (n : ℕ). n ≤ room) (eqb (codeOf q) 80) 656 0 (λ f. ltb-false room 656 (sym (ap (λ (b : Bool). b && ltb room 656) f) ∙ e)) (λ f. omega arith))
-fits-room (Refused n p) room = omega arith
+fits-room mode (Printed c) room = omega arith
+fits-room mode (Control c) room = omega arith
+fits-room mode (Sequence q) room =
+    cond-at (λ (i : Item). printerBytes mode i ≤ room) (eqb (codeOf q) 80 && ltb room (copySizeOf mode)) (Refused 13 0) (Sequence q) (λ e. omega arith)
+    (λ e. cond-at (λ (n : ℕ). n ≤ room) (eqb (codeOf q) 80) (copySizeOf mode) 0 (λ f. ltb-false room (copySizeOf mode) (sym (ap (λ (b : Bool). b && ltb room (copySizeOf mode)) f) ∙ e)) (λ f. omega arith))
+fits-room mode (Refused n p) room = omega arith
 
 copies-fit : (bss : List (List ℕ)) (at : ℕ) (st : State) (room : ℕ) → length (copies (eventsOf (readsOf bss at st room)) st) ≤ room
 unfolding copies readsOf happened
 copies-fit [] at st room = omega arith
 copies-fit (bs ∷ bss) at st room =
     let r = read at bs (limitsOf (st .settings)) room in
-    let rest = copies (eventsOf (readsOf bss (at + length bs) (obeyedBy r st) (room - printerBytes (r .item)))) (obeyedBy r st) in
-    let h : length rest ≤ room - printerBytes (r .item) = copies-fit bss (at + length bs) (obeyedBy r st) (room - printerBytes (r .item)) in
-    let k : printerBytes (r .item) ≤ room = fits-room (allowed (itemOf at bs) (limitsOf (st .settings))) room in
+    let rest = copies (eventsOf (readsOf bss (at + length bs) (obeyedBy r st) (room - r .prints))) (obeyedBy r st) in
+    let h : length rest ≤ room - r .prints = copies-fit bss (at + length bs) (obeyedBy r st) (room - r .prints) in
+    let k : r .prints ≤ room = fits-room (st .settings .mode) (allowed (itemOf at bs) (limitsOf (st .settings))) room in
     subst (λ (n : ℕ). n ≤ room) (sym (length-append (copyOf (r .item) st) rest ∙ ap (λ (n : ℕ). n + length rest) (length-copy (r .item) st))) (omega (arith, h, k))
 
 -- what is printed by events one behind the other
@@ -104,35 +113,38 @@ pub buffer-length : (c : Call) → Promised c → length (c .printer) ≡ length
 buffer-length c p = ap length (p .printer-is) ∙ length-written _ (c .buffer) (prints-fit (c .given) (requestOf c))
 
 -- one item more
-counted-printed : (i : Item) (at : ℕ) (a : Answer) → counted i at a .printed ≡ a .printed + printerBytes i
-counted-printed (Printed c) at a = sym (add-zero (a .printed))
-counted-printed (Control c) at a = sym (add-zero (a .printed))
-counted-printed (Sequence q) at a = refl
-counted-printed (Refused k p) at a = sym (add-zero (a .printed))
+counted-printed : (mode : ℕ) (i : Item) (at : ℕ) (a : Answer) → counted i at (printerBytes mode i) a .printed ≡ a .printed + printerBytes mode i
+counted-printed mode (Printed c) at a = sym (add-zero (a .printed))
+counted-printed mode (Control c) at a = sym (add-zero (a .printed))
+counted-printed mode (Sequence q) at a = refl
+counted-printed mode (Refused k p) at a = sym (add-zero (a .printed))
 
-counted-taken : (i : Item) (at : ℕ) (a : Answer) → counted i at a .taken ≡ a .taken
-counted-taken (Printed c) at a = refl
-counted-taken (Control c) at a = refl
-counted-taken (Sequence q) at a = refl
-counted-taken (Refused k p) at a = refl
+counted-taken : (i : Item) (at n : ℕ) (a : Answer) → counted i at n a .taken ≡ a .taken
+counted-taken (Printed c) at n a = refl
+counted-taken (Control c) at n a = refl
+counted-taken (Sequence q) at n a = refl
+counted-taken (Refused k p) at n a = refl
 
-all-printed : (rs : List Read) (st : State) (a : Answer) → countedAll rs a .printed ≡ a .printed + length (copies (eventsOf rs) st)
-unfolding countedAll copies happened
-all-printed [] st a = sym (add-zero (a .printed))
-all-printed (r ∷ rs) st a =
-    let rest = copies (eventsOf rs) (obeyedBy r st) in
-    all-printed rs (obeyedBy r st) (counted (r .item) (r .at) a)
-    ∙ omega (arith, counted-printed (r .item) (r .at) a, length-append (copyOf (r .item) st) rest, length-copy (r .item) st)
+all-printed : (bss : List (List ℕ)) (at : ℕ) (st : State) (room : ℕ) (a : Answer) → let rs = readsOf bss at st room in countedAll rs a .printed ≡ a .printed + length (copies (eventsOf rs) st)
+unfolding countedAll copies happened readsOf
+all-printed [] at st room a = sym (add-zero (a .printed))
+all-printed (bs ∷ bss) at st room a =
+    let r = read at bs (limitsOf (st .settings)) room in
+    let rest = copies (eventsOf (readsOf bss (at + length bs) (obeyedBy r st) (room - r .prints))) (obeyedBy r st) in
+    all-printed bss (at + length bs) (obeyedBy r st) (room - r .prints) (counted (r .item) (r .at) (r .prints) a)
+    ∙ omega (arith, counted-printed (st .settings .mode) (r .item) (r .at) a, length-append (copyOf (r .item) st) rest, length-copy (r .item) st)
 
 -- "invented counts fall to the items": the count of printer bytes
 pub printed-is : (d : Terminal) (q : Request) → answerOf d q .printed ≡ length (printedBy d q)
-unfolding answerOf
-printed-is d q = all-printed (readsIn d q) (d .state) (blankAnswer (numberOf d q) (takenIn d q)) ∙ zero-add _ ∙ ap length (sym (printed-reads d q))
+unfolding answerOf readsIn readsBy countedAll copies
+printed-is d q =
+    cond-at (λ (rs : List Read). countedAll rs (blankAnswer (numberOf d q) (takenIn d q)) .printed ≡ 0 + length (copies (eventsOf rs) (d .state))) (accepted d q) (readsBy d q) [] (λ e. all-printed _ _ (d .state) (q .room) _) (λ e. refl)
+    ∙ zero-add _ ∙ ap length (sym (printed-reads d q))
 
 all-taken : (rs : List Read) (a : Answer) → countedAll rs a .taken ≡ a .taken
 unfolding countedAll
 all-taken [] a = refl
-all-taken (r ∷ rs) a = all-taken rs (counted (r .item) (r .at) a) ∙ counted-taken (r .item) (r .at) a
+all-taken (r ∷ rs) a = all-taken rs (counted (r .item) (r .at) (r .prints) a) ∙ counted-taken (r .item) (r .at) (r .prints) a
 
 -- "every byte of the message belongs to exactly one item": the items' bytes are those that were cut
 pub bytes-of : (bss : List (List ℕ)) (at : ℕ) (st : State) (room : ℕ) → bytesRead (readsOf bss at st room) ≡ bss

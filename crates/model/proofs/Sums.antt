@@ -11,7 +11,7 @@ use Rattle.model.specs.declared.Answer.{Answer}
 use Rattle.model.specs.declared.Item.{Item}
 use Rattle.model.specs.declared.Item.the-variants.{Control, Printed, Refused, Sequence}
 use Rattle.model.specs.Reading.{Read}
-use Rattle.model.specs.Items.{blankAnswer, counted, countedAll, printerBytes}
+use Rattle.model.specs.Items.{blankAnswer, counted, countedAll}
 use Rattle.model.specs.Stream.{together}
 
 first-of : (r s n x y : ℕ) → cond (eqb r 0) (cond (eqb s 0) n y) x ≡ cond (eqb (r + s) 0) n (cond (eqb r 0) y x)
@@ -21,12 +21,12 @@ first-of (suc r) s n x y =
     let f : eqb (suc r + s) 0 ≡ false = ne-eqb (suc r + s) 0 (omega arith) in
     rw (e, f)
 
-together-counted : (i : Item) (at : ℕ) (a b : Answer) → together a (counted i at b) ≡ counted i at (together a b)
-together-counted (Printed c) at a b = refl
-together-counted (Control c) at a b = refl
-together-counted (Sequence q) at a b =
+together-counted : (i : Item) (at n : ℕ) (a b : Answer) → together a (counted i at n b) ≡ counted i at n (together a b)
+together-counted (Printed c) at n a b = refl
+together-counted (Control c) at n a b = refl
+together-counted (Sequence q) at n a b =
     let p : a .accepted + (b .accepted + 1) ≡ (a .accepted + b .accepted) + 1 = omega arith in
-    let r : a .printed + (b .printed + printerBytes (Sequence q)) ≡ (a .printed + b .printed) + printerBytes (Sequence q) = omega arith in
+    let r : a .printed + (b .printed + n) ≡ (a .printed + b .printed) + n = omega arith in
     λ i. record {
       number = b .number;
       taken = a .taken + b .taken;
@@ -37,13 +37,13 @@ together-counted (Sequence q) at a b =
       offset = cond (eqb (a .refused) 0) (b .offset) (a .offset);
       printed = r i;
     }
-together-counted (Refused n m) at a b =
-    let p : a .refused + (b .refused + 1) ≡ (a .refused + b .refused) + 1 = omega arith in
+together-counted (Refused n m) at p a b =
+    let z : a .refused + (b .refused + 1) ≡ (a .refused + b .refused) + 1 = omega arith in
     λ i. record {
       number = b .number;
       taken = a .taken + b .taken;
       accepted = a .accepted + b .accepted;
-      refused = p i;
+      refused = z i;
       first = first-of (a .refused) (b .refused) n (a .first) (b .first) i;
       parameter = first-of (a .refused) (b .refused) m (a .parameter) (b .parameter) i;
       offset = first-of (a .refused) (b .refused) at (a .offset) (b .offset) i;
@@ -53,12 +53,12 @@ together-counted (Refused n m) at a b =
 together-all : (rs : List Read) (a b : Answer) → together a (countedAll rs b) ≡ countedAll rs (together a b)
 unfolding countedAll
 together-all [] a b = refl
-together-all (r ∷ rs) a b = together-all rs a (counted (r .item) (r .at) b) ∙ ap (countedAll rs) (together-counted (r .item) (r .at) a b)
+together-all (r ∷ rs) a b = together-all rs a (counted (r .item) (r .at) (r .prints) b) ∙ ap (countedAll rs) (together-counted (r .item) (r .at) (r .prints) a b)
 
 pub counted-append : (xs ys : List Read) (a : Answer) → countedAll (xs ++ ys) a ≡ countedAll ys (countedAll xs a)
 unfolding countedAll
 counted-append [] ys a = refl
-counted-append (x ∷ xs) ys a = counted-append xs ys (counted (x .item) (x .at) a)
+counted-append (x ∷ xs) ys a = counted-append xs ys (counted (x .item) (x .at) (x .prints) a)
 
 -- more bytes taken
 abbrev pub more : ℕ → Answer → Answer
@@ -67,9 +67,9 @@ more t a = record { number = a .number; taken = a .taken + t; accepted = a .acce
 pub more-all : (rs : List Read) (t : ℕ) (a : Answer) → more t (countedAll rs a) ≡ countedAll rs (more t a)
 unfolding countedAll
 more-all [] t a = refl
-more-all (r ∷ rs) t a = more-all rs t (counted (r .item) (r .at) a) ∙ ap (countedAll rs) (step (r .item))
+more-all (r ∷ rs) t a = more-all rs t (counted (r .item) (r .at) (r .prints) a) ∙ ap (countedAll rs) (step (r .item))
   where
-    step : (i : Item) → more t (counted i (r .at) a) ≡ counted i (r .at) (more t a)
+    step : (i : Item) → more t (counted i (r .at) (r .prints) a) ≡ counted i (r .at) (r .prints) (more t a)
     step (Printed c) = refl
     step (Control c) = refl
     step (Sequence q) = refl
@@ -82,18 +82,18 @@ record Clean (a : Answer) : Type 0 where
   parameter : cond (eqb (a .refused) 0) 0 (a .parameter) ≡ a .parameter
   offset : cond (eqb (a .refused) 0) 0 (a .offset) ≡ a .offset
 
-clean-counted : (i : Item) (at : ℕ) (a : Answer) → Clean a → Clean (counted i at a)
-clean-counted (Printed c) at a h = h
-clean-counted (Control c) at a h = h
-clean-counted (Sequence q) at a h = record { served = h .served; first = h .first; parameter = h .parameter; offset = h .offset }
-clean-counted (Refused n p) at a h =
+clean-counted : (i : Item) (at n : ℕ) (a : Answer) → Clean a → Clean (counted i at n a)
+clean-counted (Printed c) at n a h = h
+clean-counted (Control c) at n a h = h
+clean-counted (Sequence q) at n a h = record { served = h .served; first = h .first; parameter = h .parameter; offset = h .offset }
+clean-counted (Refused k p) at n a h =
     let e : eqb (a .refused + 1) 0 ≡ false = ne-eqb (a .refused + 1) 0 (omega arith) in
     record { served = h .served; first = rw e; parameter = rw e; offset = rw e }
 
 clean-all : (rs : List Read) (a : Answer) → Clean a → Clean (countedAll rs a)
 unfolding countedAll
 clean-all [] a h = h
-clean-all (r ∷ rs) a h = clean-all rs (counted (r .item) (r .at) a) (clean-counted (r .item) (r .at) a h)
+clean-all (r ∷ rs) a h = clean-all rs (counted (r .item) (r .at) (r .prints) a) (clean-counted (r .item) (r .at) (r .prints) a h)
 
 together-none : (a : Answer) (t : ℕ) → Clean a → together a (blankAnswer 0 t) ≡ more t a
 together-none a t h =

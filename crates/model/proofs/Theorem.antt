@@ -21,6 +21,7 @@ use Rattle.model.specs.Claims.{Apart, InOrder, On, Shown, ShownIn, Stand
 use Rattle.model.specs.Demand.{Demand, Demand3, Made, NoKey, Nth, Resumed, Start, Still, Stretch, before, claimed, event, eventsOver, first, itemCount, later, left, next, none, opening, requests, resumed, stands, stood}
 use Rattle.model.proofs.Frames.{SameScreen, Spared}
 use Rattle.model.proofs.Keep.{same-refl, same-trans, spared-refl, spared-trans, within}
+use Rattle.model.proofs.DotsStay.{event-dots}
 use Rattle.model.proofs.ItemLaws.{Obeyed}
 use Rattle.model.proofs.Events.{AllLegal, apply-append, at-next, cell-inside, chained, event-at, good-at, legal-append, refused-nothing, same-window, unchanged, window-at}
 use Rattle.model.proofs.CallLaws.{accepted-answer, accepted-number, accepted-prints, answer-number, left-is, legal-in, number-accepted, number-good, opening-resumed, opening-shown, refused-answer, refused-leaves, refused-number, refused-prints, shown-accepted, sized-served, state-served}
@@ -169,7 +170,7 @@ apart-of s h = record {
     inner k l c o = cell-inside (columnsOf s k) l (linesOf s k) c (o .line-low) (o .line-high) (o .column-low) (o .column-high)
 
 standing-of : {st : State} → Good st → Standing st
-standing-of g = record { sound = g .sound; inside = g .sound .inside; apart = apart-of _ (g .sound); cells-are = g .cells-are; layer-is = g .layer-are }
+standing-of g = record { sound = g .sound; inside = g .sound .inside; apart = apart-of _ (g .sound); cells-are = g .cells-are; layer-is = g .layer-are; dots-are = g .dots-are }
 
 -- the printer bytes of a call
 pub printed-in : (c : Call) → Promised c → (length (printedBy (c .given) (requestOf c)) ≡ c .answer .printed) × (length (c .printer) ≡ length (c .buffer))
@@ -225,7 +226,7 @@ module _ (t : Terminal) (cs : List Call) (made : Made t cs) where
 
   module _ (start : Start t) where
     good : Good (t .state)
-    good = let r = start-resumed t start in record { sound = r .sound; cells-are = r .cells-are; layer-are = r .layer-is }
+    good = let r = start-resumed t start in record { sound = r .sound; cells-are = r .cells-are; layer-are = r .layer-is; dots-are = r .dots-are }
 
     good-left : (n : ℕ) → Good (left t (take n cs) .state)
     good-left n = subst Good (sym (by-items n)) (good-at (eventsOver t (requests cs)) (t .state) good (legal-over t (requests cs)) (length (eventsOver t (requests (take n cs)))))
@@ -270,6 +271,7 @@ module _ (t : Terminal) (cs : List Call) (made : Made t cs) where
     opened-rows = λ o n h. above-left made n (shown-above t (opening-shown t o));
     message-rows = λ i c h e f n l u. from-painting (λ cs i n. Unit {0}) (ShownIn aboveRow8) (λ c cs i n s. s) (λ t cs m n s h. above-left m n (shown-above t h)) made i c h e f n l tt;
     shown = λ places h n l. subst (ShownIn (claimed t (requests (take n cs)) places)) (sym (exact n)) (shown-stands (requests (take n cs)) t places h);
+    dots-stay = λ n h d e. ap (λ (x : State). x .dots) (at-next (eventsOver t (requests cs)) (t .state) n h) ∙ event-dots (before t cs n) d (event t cs n) e;
     numbered = number;
     standing = λ start n h. standing-of (good-at (eventsOver t (requests cs)) (t .state) (good start) (legal-over t (requests cs)) n);
     left-standing = λ start n h. (

@@ -125,7 +125,7 @@ cut-stream {t} g l (next {c = c} {cs = cs} x p r) (cuts {m = m} {bs = bs} f k cu
 pub however-cut : HoweverCut
 however-cut t cs bs room start made z cut h =
     let r = start-resumed t start in
-    let g : Good (t .state) = record { sound = r .sound; cells-are = r .cells-are; layer-are = r .layer-is } in
+    let g : Good (t .state) = record { sound = r .sound; cells-are = r .cells-are; layer-are = r .layer-is; dots-are = r .dots-are } in
     let s : Stream cs bs = cut-stream g (r .shown-is) made cut (omega (arith, h, z)) in
     (s, λ e f. uncut-as t cs bs room made z s e f)
 

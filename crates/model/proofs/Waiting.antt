@@ -7,13 +7,13 @@ use lib.Seq.{set-getD}
 use lib.Dec.{eqb, ltb}
 use borrow.Author.Tests.{eqb-true, ltb-false, ltb-true, ne-eqb}
 use Rattle.model.specs.declared.Place.{Place}
-use Rattle.model.specs.declared.Sequence.the-variants.{Put}
+use Rattle.model.specs.declared.Sequence.the-variants.{Put, Select}
 use Rattle.model.specs.State.{State, home, nowhere, putAt, topAt, waitAt, withPlaces}
 use Rattle.model.specs.Checks.{InRanges}
 use Rattle.model.specs.Screens.{columnsHere, here, linesHere, placeOf}
 use Rattle.model.specs.Sound.{Good, mostWait}
 use Rattle.model.specs.Judging.{limitsOf, ranges}
-use Rattle.model.specs.Rules.{awaited, centred, cleared, control, down, emptied, lifted, missed, nearest, obeyed, onLines, onward, placed, printed, remarked, right, stored, toColumn, topped, tracked, trackedFar, withCells, withLayer, withSettings}
+use Rattle.model.specs.Rules.{awaited, centred, cleared, control, down, emptied, flagged, lifted, missed, nearest, obeyed, onLines, onward, placed, printed, remarked, right, stored, toColumn, topped, tracked, trackedFar, withCells, withLayer, withSettings, withDots}
 use Rattle.model.proofs.Tests.{and-left, and-right, cond-at, differ}
 use Rattle.model.proofs.Keep.{Kept, place-same}
 use Rattle.model.proofs.ItemLaws.{kept-put}
@@ -54,7 +54,7 @@ placed-same : (x : State) (p : Place) → here x ≡ p → placed p x ≡ x
 unfolding placed placeOf
 placed-same x p e =
     (λ i. placed (sym e i) x)
-    ∙ (λ i. record { settings = withPlaces (x .settings) (set-getD (x .settings .places) (x .settings .selected) nowhere i); cells = x .cells; layer = x .layer })
+    ∙ (λ i. record { settings = withPlaces (x .settings) (set-getD (x .settings .places) (x .settings .selected) nowhere i); cells = x .cells; layer = x .layer; dots = x .dots })
 
 -- rule 1 is today's: the move right and the step down of document 01, with P5's marks
 abbrev early : State → State
@@ -103,7 +103,7 @@ module _ (a : State) (g : Good a) where
       (λ e. flag-placed (lifted a) (kept-lifted a g .good) (putAt (here a .line) (here a .column) (here a)))
 
   pub flag-cleared : here (cleared a) .waiting ≡ 0
-  unfolding cleared
+  unfolding cleared withDots
   flag-cleared = flag-placed _ (kept-blanked-screen a g .good) home
 
   -- "Codes 8, 10, 12, 13 .. clear the flag"
@@ -126,3 +126,8 @@ module _ (a : State) (g : Good a) where
   pub flag-put : (ms : ℕ → ℕ) (l c : ℕ) → InRanges (ranges (Put l c) (limitsOf (a .settings))) → here (obeyed ms (Put l c) a) .waiting ≡ 0
   unfolding obeyed
   flag-put ms l c e = flag-trackedFar _ (kept-put a g l c e .good) ∙ flag-placed a g (putAt (l - 31) (c - 31) (here a))
+
+-- "209 does not": both screens' places stay
+pub flag-selected : (ms : ℕ → ℕ) (n : ℕ) (a : State) → obeyed ms (Select n) a .settings .places ≡ a .settings .places
+unfolding obeyed emptied flagged withLayer withSettings
+flag-selected ms n a = refl

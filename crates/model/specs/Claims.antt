@@ -10,7 +10,7 @@ use Rattle.model.specs.declared.Settings.{Settings}
 use Rattle.model.specs.declared.Item.{Item}
 use Rattle.model.specs.declared.Item.the-variants.{Printed, Control, Sequence, Refused}
 use Rattle.model.specs.State.{State}
-use Rattle.model.specs.Screens.{linesOf, columnsOf, placeOf, height, base, size, cellAt, here}
+use Rattle.model.specs.Screens.{linesOf, columnsOf, placeOf, screens, height, base, size, cellAt, here}
 use Rattle.model.specs.Marks.{markOf}
 use Rattle.model.specs.Sound.{Sound, Inside}
 use Rattle.model.specs.Picture.{pictureAt}
@@ -38,13 +38,15 @@ pub record Apart (s : Settings) : Type 0 where
   pub one-place : (k l c l′ c′ : ℕ) → On s k l c → On s k l′ c′ → cellAt s k l c ≡ cellAt s k l′ c′ → (l ≡ l′) × (c ≡ c′)
   pub none-shared : (l c l′ c′ : ℕ) → On s 0 l c → On s 1 l′ c′ → cellAt s 0 l c ≡ cellAt s 1 l′ c′ → ⊥
 
--- what every state of a list is: sound settings, each cursor and window inside its screen, the screens' cells apart, stores of their sizes
+-- what every state of a list is: sound settings, each cursor and window inside its screen (P11: in mode 3 "screen 1's cursor and window alone", else both
+-- screens'), the screens' cells apart, stores of their sizes
 pub record Standing (st : State) : Type 0 where
   pub sound : Sound (st .settings)
-  pub inside : (k : ℕ) → k < 2 → Inside (st .settings) k
+  pub inside : (k : ℕ) → k < screens (st .settings) → Inside (st .settings) k
   pub apart : Apart (st .settings)
   pub cells-are : length (st .cells) ≡ 3840
   pub layer-is : length (st .layer) ≡ 1280
+  pub dots-are : length (st .dots) ≡ 3840
 
 -- items one behind the other: each begins where the one before ended, and has a byte
 abbrev pub InOrder : ℕ → List Read → Type 0

@@ -15,24 +15,26 @@ use Rattle.model.specs.Calls.{Terminal, message, keyText, paints?, sentB
 use Rattle.model.specs.Opening.{OpeningPromised}
 use Rattle.model.specs.Claims.{Standing, InOrder, waitsAfter, countAfter, Shown, ShownIn, aboveRow8, claimedBy, InWindow, setsMode, movesWindow, refusedEvent, mustFollow, Unchanged, SameWindow}
 
--- "Each call gets the settings and these three stores as the call before left them", and keeps its promise
+-- "Each call gets the settings and these three stores as the call before left them", P11: and the dots, and keeps its promise
 pub data Made : Terminal → List Call → Type 0 where
   none : {t : Terminal} → Made t []
   next : {t : Terminal} {c : Call} {cs : List Call} → c .given ≡ t → Promised c → Made (c .left) cs → Made t (c ∷ cs)
 
--- "what an accepted opening leaves": an opening call, with any rule (P9), kept its promise, returned 0 and left this
+-- "what an accepted opening leaves": an opening call kept its promise, returned 0, so with rule 1 or 2 (P9), and left this
 pub record Opening (t : Terminal) : Type 0 where
   pub rule : ℕ
   pub cells : List ℕ
   pub layer : List ℕ
+  pub dots : List ℕ
   pub shown : List ℕ
-  pub promised : OpeningPromised rule cells layer shown (t .state .settings) 0 (t .state .cells) (t .state .layer) (t .shown)
+  pub promised : OpeningPromised rule cells layer dots shown (t .state .settings) 0 (t .state .cells) (t .state .layer) (t .state .dots) (t .shown)
 
--- "or from sound settings with any bytes in cells, layer and shown screen"
+-- "or from sound settings with any bytes in cells, layer and shown screen"; P11: and in the dots
 pub record Resumed (t : Terminal) : Type 0 where
   pub sound : Sound (t .state .settings)
   pub cells-are : length (t .state .cells) ≡ 3840
   pub layer-is : length (t .state .layer) ≡ 1280
+  pub dots-are : length (t .state .dots) ≡ 3840
   pub shown-is : length (t .shown) ≡ 640
 
 -- "It starts from"
@@ -79,7 +81,7 @@ eventsOver t (q ∷ qs) = eventsIn t q ++ eventsOver (served t q) qs
 
 -- read past the end of a list of events; no claim reaches it
 abbrev pub noEvent : Event
-noEvent = itemRead (record { at = 0; item = Refused 0 0; bytes = [] })
+noEvent = itemRead (record { at = 0; item = Refused 0 0; bytes = []; prints = 0 })
 
 -- event n of a list, an item or what moves the line or sets a key's text, counted from 0 over all its calls
 abbrev pub event : Terminal → List Call → ℕ → Event
@@ -105,7 +107,7 @@ Still t cs i j k = (n : ℕ) → i ≤ n → n < j → (before t cs n .settings 
 -- the claim about a whole list
 pub record Demand3 (t : Terminal) (cs : List Call) : Type 0 where
   -- WHEREVER IT STARTS, refused calls by every number included
-  -- "After each call the settings, cells and layer are exactly what then stands", the shown screen too
+  -- "After each call the settings, cells and layer are exactly what then stands", the shown screen and the dots (P11) too
   pub exact : (n : ℕ) → n ≤ length cs → left t (take n cs) ≡ stood t cs n
   -- "its answer and printer bytes are those that the rules give from what stood before it"
   pub answers : (n : ℕ) (c : Call) → Nth n cs c → c .answer ≡ answerOf (stood t cs n) (requestOf c)
@@ -144,17 +146,21 @@ pub record Demand3 (t : Terminal) (cs : List Call) : Type 0 where
   pub message-rows : (i : ℕ) (c : Call) → Nth i cs c → c .answer .number ≡ 0 → paints? (c .asked) ≡ true → (n : ℕ) → i < n → n ≤ length cs → ShownIn aboveRow8 (left t (take n cs))
   -- by place, from whichever places show the picture at the start
   pub shown : (places : ℕ → Bool) → ShownIn places t → (n : ℕ) → n ≤ length cs → ShownIn (claimed t (requests (take n cs)) places) (left t (take n cs))
+  -- P11: "Nothing else read in modes 0 to 2 touches dots": no event there but a mode setting
+  pub dots-stay : (n : ℕ) → n < itemCount t cs → (before t cs n .settings .mode ≡ 3 → ⊥) → setsMode (event t cs n) ≡ false
+      → before t cs (suc n) .dots ≡ before t cs n .dots
   -- FROM AN ACCEPTED OPENING, OR FROM SOUND SETTINGS
   -- no call is refused but by 2, a message or a piece over 4,096 bytes, by 15, a piece past the limit, by 16, a message while bytes wait,
   -- and by 17, a key number outside 1 to 10 or a text not of 8 bytes
   pub numbered : Start t → (n : ℕ) (c : Call) → Nth n cs c → c .answer .number ≡ firstOf (ownReasons (stood t cs n .state .settings) (c .asked))
-  -- before and after every item: the settings sound, each cursor and window inside its screen, the screens' cells apart and among the 3,840
+  -- before and after every item: the settings sound, each cursor and window inside its screen (P11: in mode 3 screen 1's alone), the screens' cells
+  -- apart and among the 3,840
   pub standing : Start t → (n : ℕ) → n ≤ itemCount t cs → Standing (before t cs n)
   -- and after each call, the shown screen of its size
   pub left-standing : Start t → (n : ℕ) → n ≤ length cs → (Standing (left t (take n cs) .state)) × (length (left t (take n cs) .shown) ≡ 640)
   -- "The cursor's line is looked for right after the item, on the selected screen"
   pub tracks : Start t → (n : ℕ) → n < itemCount t cs → mustFollow (event t cs n) ≡ true → before t cs n .settings .tracking ≡ 1 → InWindow (before t cs (suc n))
-  -- a stretch leaves each cell and the cursor of the other screen as they were
+  -- a stretch leaves each cell and the cursor of the other screen (with its flag, P9, and its marks, P5) as they were
   pub stretch : Start t → (i j k : ℕ) → i ≤ j → j ≤ itemCount t cs → Stretch t cs i j k → (o : ℕ) → o < 2 → (o ≡ k → ⊥) → Unchanged o (before t cs i) (before t cs j)
   -- and its window, with no 211 among the items
   pub windows : Start t → (i j k : ℕ) → i ≤ j → j ≤ itemCount t cs → Still t cs i j k → (o : ℕ) → o < 2 → (o ≡ k → ⊥) → SameWindow o (before t cs i) (before t cs j)

@@ -25,6 +25,7 @@ pub data Fact : Type 0 where
   topOn : ℕ → ℕ → Fact  -- screen and top
   cursorOn : ℕ → ℕ → ℕ → Fact  -- screen, line and column
   step : ℕ → Fact
+  tracking : ℕ → Fact  -- 1 on, 0 off
   selected : ℕ → Fact
   lines : ℕ → ℕ → Fact  -- of screens 1 and 2
   columns : ℕ → ℕ → Fact
@@ -44,6 +45,9 @@ pub data Fact : Type 0 where
   runOn : ℕ → List ℕ → Fact  -- a screen, and its lines that run on: these and no other (P5)
   flags : ℕ → ℕ → ℕ → Fact  -- the waiting flags of screens 1 and 2, and the rule (P9)
   keySettings : ℕ → ℕ → ℕ → ℕ → ℕ → ℕ → Fact  -- set, key strings, repeat, its two numbers, shift
+  dotByte : ℕ → ℕ → Fact  -- byte of the dots by its number, from 0 (P11)
+  dotBytes : ℕ → ℕ → ℕ → Fact  -- from this byte of the dots on, so many, all of them this byte
+  noDots : Fact  -- all 3,840 bytes of the dots 0
   displayed : ℕ → ℕ → ℕ → ℕ → Fact  -- cursor on, its type, key display, boundary
 
 -- every byte is c
@@ -73,6 +77,7 @@ holds (top t) d w bs = eqb (placeOf (d .state .settings) 0 .top) t
 holds (topOn k t) d w bs = eqb (placeOf (d .state .settings) (k - 1) .top) t
 holds (cursorOn k l c) d w bs = eqb (placeOf (d .state .settings) (k - 1) .line) l && eqb (placeOf (d .state .settings) (k - 1) .column) c
 holds (step n) d w bs = eqb (d .state .settings .step) n
+holds (tracking n) d w bs = eqb (d .state .settings .tracking) n
 holds (selected k) d w bs = eqb (d .state .settings .selected + 1) k
 holds (lines a b) d w bs = eqb (linesOf (d .state .settings) 0) a && eqb (linesOf (d .state .settings) 1) b
 holds (columns a b) d w bs = eqb (columnsOf (d .state .settings) 0) a && eqb (columnsOf (d .state .settings) 1) b
@@ -92,6 +97,9 @@ holds (text k x) d w bs = same? (take 8 (drop ((k - 1) * 8) (d .state .settings 
 holds (runOn k ls) d w bs = same? (marksOf (d .state .settings) (k - 1)) (listFrom (λ l. cond (member l ls) 1 0) 1 48)
 holds (flags a b r) d w bs = let s = d .state .settings in eqb (placeOf s 0 .waiting) a && eqb (placeOf s 1 .waiting) b && eqb (s .rule) r
 holds (keySettings c s r a b h) d w bs = let k = d .state .settings .keys in eqb (k .charset) c && eqb (k .strings) s && eqb (k .repeat) r && eqb (k .delay) a && eqb (k .interval) b && eqb (k .shift) h
+holds (dotByte n b) d w bs = eqb (getD (d .state .dots) n 0) b
+holds (dotBytes n k b) d w bs = same? (take k (drop n (d .state .dots))) (replicate k b)
+holds noDots d w bs = eqb (length (d .state .dots)) 3840 && allAre 0 (d .state .dots)
 holds (displayed o n e p) d w bs = let s = d .state .settings in eqb (s .cursor) o && eqb (s .kind) n && eqb (s .display) e && eqb (s .boundary) p
 
 -- all facts of an example
@@ -256,9 +264,9 @@ added =
     ∷ example (27 ∷ 162 ∷ 27 ∷ 160 ∷ 27 ∷ 161 ∷ 27 ∷ 50 ∷ 27 ∷ 214 ∷ 3 ∷ 27 ∷ 211 ∷ 0 ∷ []) (led 1 0 ∷ led 2 1 ∷ led 3 0 ∷ displayed 0 3 0 32 ∷ counts 14 6 0 0 ∷ [])
     ∷ example (27 ∷ 243 ∷ 1 ∷ 2 ∷ 3 ∷ 4 ∷ 27 ∷ 244 ∷ 5 ∷ 6 ∷ 7 ∷ 8 ∷ 27 ∷ 245 ∷ 9 ∷ 10 ∷ 11 ∷ 12 ∷ []) (arrow 1 1 ∷ arrow 4 4 ∷ arrow 5 5 ∷ arrow 8 8 ∷ arrow 9 9 ∷ arrow 12 12 ∷ counts 18 3 0 0 ∷ [])
     ∷ example (27 ∷ 224 ∷ 230 ∷ 12 ∷ 12 ∷ 30 ∷ 63 ∷ 12 ∷ 18 ∷ 0 ∷ 0 ∷ []) (pattern 230 1 12 ∷ pattern 230 3 30 ∷ pattern 230 6 18 ∷ pattern 230 8 0 ∷ pattern 229 8 0 ∷ pattern 231 1 0 ∷ counts 11 1 0 0 ∷ [])
-    -- a refused 208 changes nothing; 27,208,9 is three bytes and 11; 27,208 at the end is 12
+    -- a refused 208 changes nothing; 27,208,9 is three bytes and 11; 27,208 at the end is 12; 27,208,3 is accepted (P11)
     ∷ example (65 ∷ 27 ∷ 208 ∷ 0 ∷ 7 ∷ 24 ∷ []) (counts 6 0 1 0 ∷ firstRefusal 11 1 ∷ shows 1 1 65 ∷ cell 1 1 1 65 ∷ cursorAt 1 2 ∷ lines 24 24 ∷ [])
-    ∷ example (65 ∷ 27 ∷ 208 ∷ 3 ∷ 27 ∷ 208 ∷ 9 ∷ 27 ∷ 208 ∷ []) (counts 9 0 3 0 ∷ firstRefusal 14 1 ∷ shows 1 1 65 ∷ cursorAt 1 2 ∷ [])
+    ∷ example (27 ∷ 208 ∷ 3 ∷ 65 ∷ 27 ∷ 208 ∷ 9 ∷ 27 ∷ 208 ∷ []) (counts 9 1 2 0 ∷ firstRefusal 11 4 ∷ shows 1 1 65 ∷ cursorAt 1 2 ∷ lines 8 0 ∷ columns 80 0 ∷ displayed 1 3 1 32 ∷ [])
     ∷ example (27 ∷ 208 ∷ 9 ∷ []) (counts 3 0 1 0 ∷ firstRefusal 11 0 ∷ [])
     ∷ example (27 ∷ 208 ∷ []) (counts 2 0 1 0 ∷ firstRefusal 12 0 ∷ [])
     -- a sequence that is cut is 12 though a parameter is bad already
@@ -362,7 +370,7 @@ parameters =
     ∷ example (27 ∷ 27 ∷ []) (counts 2 0 1 0 ∷ firstRefusal 10 0 ∷ parameter 0 ∷ [])
     ∷ example (27 ∷ 208 ∷ 2 ∷ 99 ∷ []) (counts 4 0 1 0 ∷ firstRefusal 12 0 ∷ parameter 0 ∷ [])
     ∷ withRoom 655 (27 ∷ 80 ∷ []) (counts 2 0 1 0 ∷ firstRefusal 13 0 ∷ parameter 0 ∷ [])
-    ∷ example (27 ∷ 208 ∷ 3 ∷ []) (counts 3 0 1 0 ∷ firstRefusal 14 0 ∷ parameter 0 ∷ [])
+    ∷ example (27 ∷ 208 ∷ 3 ∷ []) (counts 3 1 0 0 ∷ firstRefusal 0 0 ∷ parameter 0 ∷ [])
     ∷ example (27 ∷ 61 ∷ 55 ∷ 111 ∷ []) (counts 4 1 0 0 ∷ firstRefusal 0 0 ∷ parameter 0 ∷ [])
     -- of two refusals the first one's, also where it is another number
     ∷ example (65 ∷ 27 ∷ 61 ∷ 55 ∷ 112 ∷ 27 ∷ 61 ∷ 56 ∷ 32 ∷ []) (counts 9 0 2 0 ∷ firstRefusal 11 1 ∷ parameter 2 ∷ [])

@@ -12,34 +12,34 @@ use Rattle.model.specs.declared.Item.the-variants.{Printed, Control, Seq
 use Rattle.model.specs.Bytes.{put}
 use Rattle.model.specs.State.{State, withLine, withTexts}
 use Rattle.model.specs.Line.{padded}
-use Rattle.model.specs.Picture.{copied, copySize}
+use Rattle.model.specs.Picture.{copied, copySizeOf}
 use Rattle.model.specs.Sequences.{codeOf}
 use Rattle.model.specs.Reading.{Read, byteOf, itemOf}
 use Rattle.model.specs.declared.Limits.{Limits}
 use Rattle.model.specs.Judging.{limitsOf, judged}
 use Rattle.model.specs.Rules.{applyItem, withSettings}
 
+-- printer bytes that an item takes in a mode: 8 rows of 80, each followed by 13, 10; P11: in mode 3 the dots
+abbrev pub printerBytes : ℕ → Item → ℕ
+printerBytes mode (Printed c) = 0
+printerBytes mode (Control c) = 0
+printerBytes mode (Sequence q) = cond (eqb (codeOf q) 80) (copySizeOf mode) 0
+printerBytes mode (Refused n p) = 0
+
 -- the item of some bytes at an offset, judged
 abbrev pub read : ℕ → List ℕ → Limits → ℕ → Read
-read at bs s room = record { at = at; item = judged (itemOf at bs) s room; bytes = bs }
+read at bs s room = let i = judged (itemOf at bs) s room in record { at = at; item = i; bytes = bs; prints = printerBytes (s .mode) i }
 
 -- what it does, with its own bytes
 abbrev pub obeyedBy : Read → State → State
 obeyedBy r st = applyItem (byteOf r) (r .item) st
-
--- printer bytes that an item takes: 8 rows of 80, each followed by 13, 10
-abbrev pub printerBytes : Item → ℕ
-printerBytes (Printed c) = 0
-printerBytes (Control c) = 0
-printerBytes (Sequence q) = cond (eqb (codeOf q) 80) copySize 0
-printerBytes (Refused n p) = 0
 
 -- the items of these bytes, the first at an offset, each read with what those before it left
 unfoldable pub readsOf : List (List ℕ) → ℕ → State → ℕ → List Read
 readsOf [] at st room = []
 readsOf (bs ∷ bss) at st room =
     let r = read at bs (limitsOf (st .settings)) room in
-    r ∷ readsOf bss (at + length bs) (obeyedBy r st) (room - printerBytes (r .item))
+    r ∷ readsOf bss (at + length bs) (obeyedBy r st) (room - r .prints)
 
 -- the bytes of each item that was read
 abbrev pub bytesRead : List Read → List (List ℕ)
@@ -98,15 +98,15 @@ copies (e ∷ es) st = printsOf e st ++ copies es (happened e st)
 abbrev pub blankAnswer : ℕ → ℕ → Answer
 blankAnswer n t = record { number = n; taken = t; accepted = 0; refused = 0; first = 0; parameter = 0; offset = 0; printed = 0 }
 
--- one item more, at an offset
-abbrev pub counted : Item → ℕ → Answer → Answer
-counted (Printed c) at a = a
-counted (Control c) at a = a
-counted (Sequence q) at a = record { number = a .number; taken = a .taken; accepted = a .accepted + 1; refused = a .refused; first = a .first; parameter = a .parameter; offset = a .offset; printed = a .printed + printerBytes (Sequence q) }
-counted (Refused k p) at a = record { number = a .number; taken = a .taken; accepted = a .accepted; refused = a .refused + 1; first = cond (eqb (a .refused) 0) k (a .first); parameter = cond (eqb (a .refused) 0) p (a .parameter); offset = cond (eqb (a .refused) 0) at (a .offset); printed = a .printed }
+-- one item more, at an offset, with its printer bytes
+abbrev pub counted : Item → ℕ → ℕ → Answer → Answer
+counted (Printed c) at n a = a
+counted (Control c) at n a = a
+counted (Sequence q) at n a = record { number = a .number; taken = a .taken; accepted = a .accepted + 1; refused = a .refused; first = a .first; parameter = a .parameter; offset = a .offset; printed = a .printed + n }
+counted (Refused k p) at n a = record { number = a .number; taken = a .taken; accepted = a .accepted; refused = a .refused + 1; first = cond (eqb (a .refused) 0) k (a .first); parameter = cond (eqb (a .refused) 0) p (a .parameter); offset = cond (eqb (a .refused) 0) at (a .offset); printed = a .printed }
 
 -- "number, bytes taken, sequences accepted, sequences refused, number and offset of the first refusal (0 and 0 if none), printer bytes";
 -- document 02, P10: "every answer that carries a first refusal passes it on", the parameter that it names
 unfoldable pub countedAll : List Read → Answer → Answer
 countedAll [] a = a
-countedAll (r ∷ rs) a = countedAll rs (counted (r .item) (r .at) a)
+countedAll (r ∷ rs) a = countedAll rs (counted (r .item) (r .at) (r .prints) a)

@@ -22,3 +22,6 @@ pub mod Examples
 pub mod Runs
 pub mod LineRuns
 pub mod WrapRuns
+pub mod Dot
+pub mod Strokes
+pub mod CurveRuns

@@ -32,7 +32,8 @@ unfoldable pub logicalLines : List Run
 logicalLines =
     -- 1: 84 blanks both lines of a name and clears the mark
     fromOpening (told (replicate 81 65) (runOn 1 (1 ∷ []) ∷ runOn 2 [] ∷ cursorAt 2 2 ∷ []) ∷ told (to 1 ++ (27 ∷ 84 ∷ [])) (counts 6 2 0 0 ∷ cell 1 1 1 32 ∷ cell 1 2 1 32 ∷ blankCells ∷ runOn 1 [] ∷ []) ∷ [])
-    -- 2: on the last line the lift carries the mark; 84 from the last column of 23 takes that cell and line 24
+    -- 2: on the last line the lift carries the mark; 84 from the last column of 23 takes that cell and line 24 (the plan's
+    -- 27,61,54,111,27,84, with a B in line 24 to be taken and a C in column 79 that stays)
     ∷ fromOpening (told (wrap 24) (cursorAt 24 1 ∷ cell 1 23 80 65 ∷ runOn 1 (23 ∷ []) ∷ [])
     ∷ told (66 ∷ 27 ∷ 61 ∷ 54 ∷ 110 ∷ 67 ∷ 27 ∷ 84 ∷ []) (cursorAt 23 80 ∷ cell 1 23 79 67 ∷ cell 1 23 80 32 ∷ cell 1 24 1 32 ∷ runOn 1 [] ∷ []) ∷ [])
     -- 3: 145 and 144: the blank line, the line above the region and its last two lines (or only line) end unmarked

@@ -1,9 +1,9 @@
 -- Document 02, P10, "Say which parameter": what the parameter beside a refusal's number says, of a sequence, of an item and of every
--- answer of a list of calls. How it is worked out is firstBad (Checks), badOf and allowed (Judging), modeRowOf (Sequences) and counted
--- (Items). It stands beside demand 3, which says that every answer is the rules' own.
+-- answer of a list of calls. How it is worked out is firstBad (Checks), judgedRanges, badOf and allowed (Judging), modeRowOf (Sequences) and
+-- counted (Items). It stands beside demand 3, which says that every answer is the rules' own.
 use mathlib.Core.Path.{_≡_}
 use Prim.Native.Nat.{ℕ, _+_, _-_, _≤_, _<_}
-use mathlib.Core.Bool.{true, false}
+use mathlib.Core.Bool.{true, false, cond}
 use mathlib.Core.List.{List, [], _∷_}
 use lib.ListN.{length, getD}
 use lib.Dec.{eqb}
@@ -12,9 +12,11 @@ use Rattle.model.specs.declared.Sequence.{Sequence as Seq}
 use Rattle.model.specs.declared.Item.{Item}
 use Rattle.model.specs.declared.Item.the-variants.{Printed, Control, Sequence, Refused}
 use Rattle.model.specs.Bytes.{listFrom}
-use Rattle.model.specs.Checks.{Check, free, least, most, range, among, both, passes}
+use Rattle.model.specs.Checks.{Check, free, least, most, range, among, both, member, passes}
 use Rattle.model.specs.Reading.{Read, decoded, itemOf}
-use Rattle.model.specs.Judging.{ranges, legal?, badOf, judged}
+use Rattle.model.specs.Sequences.{codeOf}
+use Rattle.model.specs.Dot.{twoBytes}
+use Rattle.model.specs.Judging.{ranges, judgedRanges, legal?, badOf, judged}
 use Rattle.model.specs.Calls.{Terminal, Call, requestOf, readsIn}
 use Rattle.model.specs.Claims.{isRefusal}
 use Rattle.model.specs.Demand.{Made, Nth, stood}
@@ -47,10 +49,18 @@ valueOf v (range l x h) = x
 valueOf v (among x xs) = x
 valueOf v (both c d) = valueOf v c
 
--- the values of checks that are counted from n on, where parameter n is p n
+-- the values of checks that are counted from n on, where those that are free are of p n
 abbrev pub valuesOf : (ℕ → ℕ) → ℕ → List Check → List ℕ
 valuesOf p n [] = []
 valuesOf p n (c ∷ cs) = valueOf (p n) c ∷ valuesOf p (n + 1) cs
+
+-- P11, "a two-byte number named by its low byte": the parameters of 198 and 199 that are such low bytes, the high one before each
+abbrev pub lowBytes : ℕ → List ℕ
+lowBytes code = cond (eqb code 198) (2 ∷ 4 ∷ 6 ∷ 8 ∷ []) (cond (eqb code 199) (4 ∷ []) [])
+
+-- the number that parameter n stands for, where byte n is p n: itself, or with the high byte before it
+abbrev pub sentAt : ℕ → (ℕ → ℕ) → ℕ → ℕ
+sentAt code p n = cond (member n (lowBytes code)) (twoBytes (p (n - 1)) (p n)) (p n)
 
 -- of items that are read, the first refusal's number, parameter and offset: none before it is a refusal; all 0 if there is none
 pub data FirstRefusal : List Read → ℕ → ℕ → ℕ → Type 0 where
@@ -63,10 +73,11 @@ pub record Naming : Type 0 where
   -- a sequence is legal exactly if it has no bad parameter
   pub legal : (q : Seq) (s : Limits) → legal? q s ≡ eqb (badOf q s) 0
   -- "The reading of one sequence must name its first bad parameter"
-  pub first : (q : Seq) (s : Limits) (room : ℕ) → legal? q s ≡ false → (judged (Sequence q) s room ≡ Refused 11 (badOf q s)) × (FirstBad 1 (ranges q s) (badOf q s))
-  -- "counted from 1 after the second byte": the checks of a sequence are of its bytes from the third on, in their order; a free one is of any
+  pub first : (q : Seq) (s : Limits) (room : ℕ) → legal? q s ≡ false → (judged (Sequence q) s room ≡ Refused 11 (badOf q s)) × (FirstBad 1 (judgedRanges q s) (badOf q s))
+  -- "counted from 1 after the second byte": the checks of a sequence are of its bytes from the third on, in their order, that of a two-byte
+  -- number at its low byte; a free one is of any
   pub numbered : (at : ℕ) (bs : List ℕ) (q : Seq) (s : Limits) → decoded at bs ≡ Sequence q
-      → let p : ℕ → ℕ = λ n. getD bs (n + 1) 0 in valuesOf p 1 (ranges q s) ≡ listFrom p 1 (length (ranges q s))
+      → let p : ℕ → ℕ = λ n. getD bs (n + 1) 0 in valuesOf (sentAt (codeOf q) p) 1 (ranges q s) ≡ listFrom (sentAt (codeOf q) p) 1 (length (ranges q s))
   -- the byte after 27, 208 is parameter 1: over 3, it is the one that is named
   pub mode-byte : (at : ℕ) (bs : List ℕ) → getD bs 0 0 ≡ 27 → getD bs 1 0 ≡ 208 → 3 < getD bs 2 0 → decoded at bs ≡ Refused 11 1
   -- every item that is read, whatever its bytes

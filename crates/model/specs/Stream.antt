@@ -67,8 +67,8 @@ unfoldable pub met13 : List Read → Bool
 met13 [] = false
 met13 (r ∷ rs) = roomless (r .item) || met13 rs
 
--- calls that give, together, what a reading u of the bytes gives from t: settings, cells and layer are the state, the waiting bytes (none) and
--- the count (0) among them
+-- calls that give, together, what a reading u of the bytes gives from t: settings, cells, layer and dots (P11) are the state, the waiting bytes
+-- (none) and the count (0) among them
 pub record As (u : List Read) (bs : List ℕ) (t : Terminal) (cs : List Call) : Type 0 where
   pub items : readsOver t (requests cs) ≡ u
   pub counts : summed cs ≡ countedAll u (blankAnswer 0 (length bs))

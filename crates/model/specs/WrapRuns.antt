@@ -71,6 +71,9 @@ lateWraps =
     ∷ once (full ++ (27 ∷ 61 ∷ 32 ∷ 111 ∷ [])) (cursorAt 1 80 ∷ flags 0 0 2 ∷ [])
     ∷ once (full ++ (27 ∷ 209 ∷ 1 ∷ full)) (flags 1 1 2 ∷ [])
     ∷ once (full ++ (27 ∷ 209 ∷ 1 ∷ full ++ (27 ∷ 208 ∷ 0 ∷ 24 ∷ 24 ∷ []))) (flags 0 0 2 ∷ cursorAt 1 1 ∷ [])
+    -- 42 and 12 clear the selected screen's alone
+    ∷ once (full ++ (27 ∷ 209 ∷ 1 ∷ full ++ (27 ∷ 42 ∷ []))) (flags 1 0 2 ∷ [])
+    ∷ once (full ++ (27 ∷ 209 ∷ 1 ∷ full ++ (27 ∷ 209 ∷ 0 ∷ 12 ∷ []))) (flags 0 1 2 ∷ [])
     -- a refused 61, 144, 145, 149, 151, 150, 210, 211, 213, 212, 214, 215, 89 and code 7 keep it
     ∷ once (full ++ (27 ∷ 61 ∷ 99 ∷ 32 ∷ 27 ∷ 144 ∷ 4 ∷ 1 ∷ 27 ∷ 145 ∷ 4 ∷ 1 ∷ 27 ∷ 149 ∷ 1 ∷ 27 ∷ 151 ∷ 27 ∷ 150 ∷ 27 ∷ 210 ∷ 1 ∷ 1 ∷ 90 ∷ 27 ∷ 211 ∷ 0 ∷ 27 ∷ 213 ∷ 27 ∷ 212 ∷ 27 ∷ 214 ∷ 1 ∷ 27 ∷ 215 ∷ 27 ∷ 89 ∷ 7 ∷ []))
     (counts 119 12 1 0 ∷ cursorAt 1 80 ∷ cell 1 1 79 65 ∷ cell 1 1 80 32 ∷ flags 1 0 2 ∷ [])
@@ -83,10 +86,10 @@ lateWraps =
 
 -- 9: stores of their sizes, and cells that are one byte short, all bytes 7
 abbrev whole : Terminal
-whole = unopened (replicate 3840 7) (replicate 1280 7) (replicate 640 7)
+whole = unopened (replicate 3840 7) (replicate 1280 7) (replicate 3840 7) (replicate 640 7)
 
 abbrev short : Terminal
-short = unopened (replicate 3839 7) (replicate 1280 7) (replicate 640 7)
+short = unopened (replicate 3839 7) (replicate 1280 7) (replicate 3840 7) (replicate 640 7)
 
 -- 9: an opening with a rule gives this number, this rule, and this first cell
 abbrev opens : ℕ → Terminal → ℕ → ℕ → ℕ → Bool

@@ -1,10 +1,12 @@
 // The types of the terminal. What they mean, and every rule, is in specs/.
 
 // "Cells: 3,840 bytes. Layer: 1,280 bytes. Shown screen: 640": the layer's first half marks the places of the shown screen, the second has
-// their codes. A printed copy takes 656 bytes, and a message has at most 4,096.
+// their codes. P11: "a dot store of 3,840 bytes". A printed copy of the picture takes 656 bytes, and a message has at most 4,096.
 pub const CELLS: usize = 3840;
 
 pub const LAYER: usize = 1280;
+
+pub const DOTS: usize = 3840;
 
 pub const SHOWN: usize = 640;
 
@@ -63,6 +65,12 @@ pub struct Settings {
     pub texts: [u8; 80],
     pub marks: [u8; 96],
     pub rule: u8,
+}
+
+// A dot of mode 3: row and column, both from 0.
+pub struct Point {
+    pub v: u16,
+    pub h: u16,
 }
 
 // A whole sequence, one case a second byte (208: a mode byte), its parameters as sent.
@@ -133,6 +141,7 @@ pub enum Sequence {
         columns: u8,
         boundary: u8,
     },
+    Mode3,
     Select(u8),
     Mark {
         row: u8,
@@ -173,8 +182,9 @@ pub enum Sequence {
     Shift(u8),
 }
 
-// What parameters are judged by: the lines and columns of the selected screen, and the window's height H.
+// What parameters are judged by: the mode, the lines and columns of the selected screen, and the window's height H.
 pub struct Limits {
+    pub mode: u8,
     pub lines: u8,
     pub columns: u8,
     pub height: u8,

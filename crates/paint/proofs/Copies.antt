@@ -1,26 +1,22 @@
--- The rows of a printed copy, put one behind the other.
+-- The rows of a printed copy, put one behind the other; and the copy by the mode.
 use mathlib.Core.Path.{_∙_, _≡_, ap, refl, sym}
 use Prim.Native.Nat.{_*_, _+_, _<_, _≤_, max, suc, zero, ℕ}
 use native.Mathlib.Nat.{add-zero, zero-add}
 use native.Mathlib.Numerals.{add-one}
 use native.Mathlib.Omega.{arith}
+use mathlib.Core.Bool.{Bool, cond}
 use mathlib.Core.List.{List, _++_, _∷_, append-assoc}
-use lib.ListN.{getD, length, length-append}
+use lib.ListN.{drop, getD, length, take}
+use lib.Seq.{take-all}
+use borrow.Author.Tests.{eq-eqb, ne-eqb}
 use Rattle.model.specs.Bytes.{listFrom, put}
 use Rattle.model.specs.State.{State}
-use Rattle.model.specs.Picture.{copied, copiedRows, painting, picture}
+use Rattle.model.specs.Picture.{copied, copiedRows, copySizeOf, dotCopy, painting, picture, pictureCopy}
 use Rattle.model.proofs.ByteLaws.{getD-listFrom, length-listFrom, same-listFrom}
+use Rattle.model.proofs.DotLaws.{dots-copied}
+use Rattle.model.proofs.Printing.{length-rows}
 use Rattle.store.proofs.Laws.{put-then}
 use Rattle.paint.specs.Copy.{printed, rowCopied}
-
--- a row has 82 bytes
-length-rows : (f : ℕ → ℕ) (r n : ℕ) → length (copiedRows f r n) ≡ n * 82
-unfolding copiedRows
-length-rows f r zero = refl
-length-rows f r (suc n) =
-    length-append (listFrom (λ p. max 32 (f p)) (r * 80) 80) (13 ∷ 10 ∷ copiedRows f (suc r) n)
-    ∙ ap (λ (k : ℕ). k + suc (suc (length (copiedRows f (suc r) n)))) (length-listFrom (λ p. max 32 (f p)) (r * 80) 80)
-    ∙ omega (arith, length-rows f (suc r) n)
 
 -- one row more
 rows-more : (xs : List ℕ) (r n : ℕ) → copiedRows (λ p. getD xs p 0) r (suc n) ≡ copiedRows (λ p. getD xs p 0) r n ++ rowCopied xs ((r + n) * 80)
@@ -49,8 +45,26 @@ same-rows f g r (suc n) h =
     ++ (13 ∷ 10 ∷ same-rows f g (suc r) n (λ p a. h p (omega arith)) i)
 
 -- eight rows of the painted picture
-pub copied-all : (st : State) (xs : List ℕ) (n : ℕ) → xs ≡ painting st → n ≡ 8 → copiedRows (λ p. getD xs p 0) 0 n ≡ copied st
-unfolding copied painting
+pub copied-all : (st : State) (xs : List ℕ) (n : ℕ) → xs ≡ painting st → n ≡ 8 → copiedRows (λ p. getD xs p 0) 0 n ≡ pictureCopy st
+unfolding pictureCopy painting
 copied-all st xs n e h =
     same-rows (λ p. getD xs p 0) (picture st) 0 n (λ p l. ap (λ (l : List ℕ). getD l p 0) e ∙ getD-listFrom (picture st) 640 0 p (omega arith) ∙ ap (picture st) (zero-add p))
     ∙ ap (copiedRows (picture st) 0) h
+
+-- P11: what 80 appends, and how much, by the mode
+module _ (st : State) where
+  pub copied-there : st .settings .mode ≡ 3 → length (st .dots) ≡ 3840 → take 3840 (drop 0 (st .dots)) ≡ copied st
+  unfolding copied
+  copied-there m n = take-all 3840 (st .dots) (omega arith) ∙ sym (ap (λ (b : Bool). cond b (dotCopy st) (pictureCopy st)) (eq-eqb _ 3 m) ∙ dots-copied st n)
+
+  pub copied-else : (st .settings .mode ≡ 3 → ⊥) → pictureCopy st ≡ copied st
+  unfolding copied
+  copied-else d = ap (λ (b : Bool). cond b (dotCopy st) (pictureCopy st)) (sym (ne-eqb _ 3 d))
+
+pub size-there : (mode : ℕ) → mode ≡ 3 → copySizeOf mode ≡ 3840
+unfolding copySizeOf
+size-there mode m = ap (λ (b : Bool). cond b 3840 656) (eq-eqb mode 3 m)
+
+pub size-else : (mode : ℕ) → (mode ≡ 3 → ⊥) → copySizeOf mode ≡ 656
+unfolding copySizeOf
+size-else mode d = ap (λ (b : Bool). cond b 3840 656) (ne-eqb mode 3 d)

@@ -39,10 +39,10 @@ unfolding arrayRanges
 texts-size h = omega (arith, h .arrays)
 
 -- "else the layer's code if marked; else" the picture without secret and layer
-module _ (s : Settings) (cells layer : List ℕ) where
+module _ (s : Settings) (cells layer dots : List ℕ) where
   -- what stands
   abbrev st : State
-  st = state s cells layer
+  st = state s cells layer dots
 
   -- a place under the layer
   abbrev below : ℕ → ℕ
@@ -71,7 +71,7 @@ module _ (s : Settings) (cells layer : List ℕ) where
     text-rows : {l : List ℕ} → l ≡ painted 0 (v .rows * 80) (seen v cells) xs → l ≡ painted 0 (textRows s * 80) below xs
     unfolding painted seen
     text-rows e =
-        e ∙ ap (λ (ys : List ℕ). put 0 ys xs) (same-listFrom (seen v cells) below 0 (v .rows * 80) (λ p a b. is-view .same cells layer (p / 80) (p % 80) (omega arith) (omega arith)))
+        e ∙ ap (λ (ys : List ℕ). put 0 ys xs) (same-listFrom (seen v cells) below 0 (v .rows * 80) (λ p a b. is-view .same cells layer dots (p / 80) (p % 80) (omega arith) (omega arith)))
         ∙ ap (λ (n : ℕ). put 0 (listFrom below 0 (n * 80)) xs) (is-view .rows-are)
 
     -- behind them, under display 0, stand the key texts

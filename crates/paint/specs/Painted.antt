@@ -1,10 +1,19 @@
 -- Places of the shown screen, painted: what every loop over them leaves, and the layer over them.
+use mathlib.Core.Path.{_≡_}
 use Prim.Native.Nat.{ℕ, _+_}
 use mathlib.Core.Bool.{cond}
 use mathlib.Core.List.{List}
-use lib.ListN.{getD}
+use lib.ListN.{getD, length}
 use lib.Dec.{eqb}
+use Rattle.model.specs.declared.Settings.{Settings}
 use Rattle.model.specs.Bytes.{listFrom, put}
+use Rattle.model.specs.Sound.{Sound}
+
+-- what the picture is painted from: sound settings, cells and layer of their sizes
+pub record Visible (s : Settings) (cells layer : List ℕ) : Type 0 where
+  pub sound : Sound s
+  pub cells-are : length cells ≡ 3840
+  pub layer-are : length layer ≡ 1280
 
 -- the count places from `from` on, each with what f says of it; the others stay
 unfoldable pub painted : ℕ → ℕ → (ℕ → ℕ) → List ℕ → List ℕ

@@ -1,4 +1,4 @@
--- The picture without secret and layer, by panes: one view for each of document 01's modes, and what its rows show. Rows and
+-- The picture without secret and layer, by panes: one view for each of the modes, and what its rows show. Rows and
 -- columns are counted from 0 here, as the code counts them; a place is a byte of the shown screen.
 use mathlib.Core.Path.{_≡_}
 use Prim.Native.Nat.{ℕ, _+_, _-_, _*_, _/_, _%_, _≤_, _<_}
@@ -52,4 +52,4 @@ pub record Window (s : Settings) (k : ℕ) (pane : Pane) : Type 0 where
 pub record ViewOf (s : Settings) (v : View) : Type 0 where
   pub framed : Framed v
   pub rows-are : v .rows ≡ textRows s
-  pub same : (cells layer : List ℕ) (row column : ℕ) → row < v .rows → column < 80 → across v cells row column ≡ under (state s cells layer) (row + 1) (column + 1)
+  pub same : (cells layer dots : List ℕ) (row column : ℕ) → row < v .rows → column < 80 → across v cells row column ≡ under (state s cells layer dots) (row + 1) (column + 1)

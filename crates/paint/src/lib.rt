@@ -1,18 +1,21 @@
-// The shown screen and the printed copy: the picture of what stands, painted by its panes.
+// The shown screen and the printed copy: the picture of what stands, painted by its panes, or in mode 3 the dots.
 mod rows;
 mod view;
 
 ghost use mathlib.Core.Path.{_≡_};
-ghost use Prim.Native.Nat.{_+_, _*_, _≤_};
+ghost use Prim.Native.Nat.{ℕ, _+_, _*_, _≤_};
+ghost use mathlib.Core.List.{List};
 ghost use lib.ListN.{getD, length, replicate};
 ghost use lib.Dec.{eqb};
 ghost use mathlib.Core.Bool.{cond, true};
 ghost use Rattle.model.specs.Bytes.{put};
 ghost use Rattle.model.specs.Sound.{Good};
+ghost use Rattle.model.specs.Screens.{placeOf};
 ghost use Rattle.model.specs.State.{state};
-ghost use Rattle.model.specs.Picture.{painting, copied};
-ghost use Rattle.paint.specs.Painted.{laid, painted};
+ghost use Rattle.model.specs.Picture.{painting, copied, copySizeOf, pictureCopy};
+ghost use Rattle.paint.specs.Painted.{Visible, laid, painted};
 ghost use Rattle.paint.specs.Panes.{Framed, seen};
+use model::DOTS;
 use model::Settings;
 use rows::COPY_ROW;
 use rows::PLACES;
@@ -23,12 +26,14 @@ use view::Pane;
 use view::View;
 
 // "It always ends by painting all 640 places": the panes, under display 0 the key line behind them, then the layer over all. What paints is handed
-// the view and single numbers, so that no settings are copied for it.
-pub fn paint(settings: Settings, bare: bool, cells: &[u8], layer: &[u8], shown: &mut [u8])
-    requires { ⌜ (Good (state settings (now cells) (now layer))) × ((bare ≡ true → now layer ≡ replicate 1280 0) × (length (now shown) ≡ 640)) ⌝ }
-    ensures { λ _. ⌜ now (shown .exit) ≡ painting (state settings (now (cells .entry)) (now (layer .entry))) ⌝ }
+// the view and single numbers, so that no settings are copied for it. The picture shows no dots: it is the same whatever they are. `top` is the selected
+// screen's, handed over by who has it at hand: what was just written into the settings is slow to read back.
+pub fn paint(settings: Settings, top: u8, bare: bool, cells: &[u8], layer: &[u8], shown: &mut [u8])
+    requires { ⌜ (Visible settings (now cells) (now layer)) × (top ≡ placeOf settings (settings .selected) .top) ⌝ }
+    requires { ⌜ ((bare ≡ true → now layer ≡ replicate 1280 0) × (length (now shown) ≡ 640)) ⌝ }
+    ensures { λ _. ⌜ ((dots : List ℕ) → now (shown .exit) ≡ painting (state settings (now (cells .entry)) (now (layer .entry)) dots)) ⌝ }
 {
-    let panes = view::view_of(settings);
+    let panes = view::view_of(settings, top);
     paint_under(settings.secret, panes, cells, shown);
     paint_keys(settings, shown);
     lay_over(settings.secret, bare, layer, shown);
@@ -126,13 +131,33 @@ fn paint_rows(panes: View, one: usize, gap: usize, two: usize, cells: &[u8], sho
     }
 }
 
-// ESC 80: "appends the picture at that moment, 8 rows of 80 with codes below 32 as 32, each followed by 13, 10".
-pub fn copy(settings: Settings, cells: &[u8], layer: &[u8], printer: &mut [u8], from: usize)
-    requires { ⌜ (Good (state settings (now cells) (now layer))) × (from + 656 ≤ length (now printer)) ⌝ }
-    ensures { λ _. ⌜ now (printer .exit) ≡ put from (copied (state settings (now (cells .entry)) (now (layer .entry)))) (now (printer .entry)) ⌝ }
+// ESC 80: "In mode 3, 80 appends the 3,840 bytes" of the dots, secret or not; else the picture.
+pub fn copy(
+    settings: Settings,
+    cells: &[u8],
+    layer: &[u8],
+    dots: &[u8],
+    printer: &mut [u8],
+    from: usize,
+)
+    requires { ⌜ (Good (state settings (now cells) (now layer) (now dots))) × (from + copySizeOf (settings .mode) ≤ length (now printer)) ⌝ }
+    ensures { λ _. ⌜ now (printer .exit) ≡ put from (copied (state settings (now (cells .entry)) (now (layer .entry)) (now (dots .entry)))) (now (printer .entry)) ⌝ }
+{
+    if settings.mode == 3 {
+        store::copy_many(printer, from, dots, 0, DOTS);
+        return;
+    }
+    copy_picture(settings, cells, layer, printer, from);
+}
+
+// "appends the picture at that moment, 8 rows of 80 with codes below 32 as 32, each followed by 13, 10".
+fn copy_picture(settings: Settings, cells: &[u8], layer: &[u8], printer: &mut [u8], from: usize)
+    requires { ⌜ (Visible settings (now cells) (now layer)) × (from + 656 ≤ length (now printer)) ⌝ }
+    ensures { λ _. ⌜ ((dots : List ℕ) → now (printer .exit) ≡ put from (pictureCopy (state settings (now (cells .entry)) (now (layer .entry)) dots)) (now (printer .entry))) ⌝ }
 {
     let mut picture = [0u8; PLACES];
-    let panes = view::view_of(settings);
+    let top = view::top_of(settings, settings.selected);
+    let panes = view::view_of(settings, top);
     paint_under(settings.secret, panes, cells, &mut picture);
     paint_keys(settings, &mut picture);
     lay_over(settings.secret, false, layer, &mut picture);

@@ -1,5 +1,7 @@
 // Where the picture takes its cells from, the same for each of its rows: a left pane, a gap and a right pane.
+ghost use mathlib.Core.Path.{_≡_};
 ghost use Prim.Native.Nat.{_+_, _*_, _≤_, _<_};
+ghost use Rattle.model.specs.Screens.{placeOf, screens};
 ghost use Rattle.model.specs.Sound.{Sound};
 ghost use Rattle.paint.specs.Panes.{Line, Window, ViewOf};
 use model::Settings;
@@ -27,16 +29,24 @@ pub(crate) fn start(pane: Pane, row: usize) -> usize
     pane.at + row * pane.width
 }
 
-// The window of a screen, by its number: the place is picked from a copy of the two, since an index into the settings themselves that
-// is not a literal would keep a compiler from taking them apart. Screen 2's cells stand behind those of screen 1.
-fn window(settings: Settings, screen: u8) -> Pane
-    requires { ⌜ (Sound settings) × (screen < 2) ⌝ }
-    ensures { λ r. ⌜ Window settings screen r ⌝ }
+// The top of a screen's window, by its number: the place is picked from a copy of the two, since an index into the settings themselves that
+// is not a literal would keep a compiler from taking them apart.
+pub(crate) fn top_of(settings: Settings, screen: u8) -> u8
+    requires { ⌜ screen < 2 ⌝ }
+    ensures { λ r. ⌜ r ≡ placeOf settings screen .top ⌝ }
 {
     let places = settings.places;
     let k = screen as usize;
     let place = places[k];
-    let above = place.top as usize - 1;
+    place.top
+}
+
+// The window of a screen, by its number and its top. Screen 2's cells stand behind those of screen 1.
+fn window(settings: Settings, screen: u8, top: u8) -> Pane
+    requires { ⌜ (Sound settings) × ((screen < screens settings) × (top ≡ placeOf settings screen .top)) ⌝ }
+    ensures { λ r. ⌜ Window settings screen r ⌝ }
+{
+    let above = top as usize - 1;
     let columns1 = settings.columns1 as usize;
     if screen == 0 {
         return Pane {
@@ -52,10 +62,10 @@ fn window(settings: Settings, screen: u8) -> Pane
     }
 }
 
-// Mode 0: the selected screen. Mode 1: its left half, "40 and 41 blank", and its right half, which starts as many lines after the left as
-// there are rows. Mode 2: screen 1, the boundary, screen 2.
-pub(crate) fn view_of(settings: Settings) -> View
-    requires { ⌜ Sound settings ⌝ }
+// Modes 0 and 3: the selected screen. Mode 1: its left half, "40 and 41 blank", and its right half, which starts as many lines after the left as
+// there are rows. Mode 2: screen 1, the boundary, screen 2. `top` is the selected screen's.
+pub(crate) fn view_of(settings: Settings, top: u8) -> View
+    requires { ⌜ (Sound settings) × (top ≡ placeOf settings (settings .selected) .top) ⌝ }
     ensures { λ r. ⌜ ViewOf settings r ⌝ }
 {
     let mode = settings.mode;
@@ -63,15 +73,15 @@ pub(crate) fn view_of(settings: Settings) -> View
     if mode == 2 {
         return View {
             rows,
-            left: window(settings, 0),
+            left: window(settings, 0, top_of(settings, 0)),
             gap: 1,
             code: settings.boundary,
-            right: window(settings, 1),
+            right: window(settings, 1, top_of(settings, 1)),
         };
     }
-    let left = window(settings, settings.selected);
+    let left = window(settings, settings.selected, top);
     let width = left.width;
-    if mode == 0 {
+    if mode != 1 {
         return View {
             rows,
             left,

@@ -26,9 +26,9 @@ use Rattle.pieces.proofs.Unsound.{closing-line, closing-refused}
 pub closing-not : (t : Terminal) (n : ℕ) (answer : Answer) → n ≡ closingNumber t → (n ≡ 0 → ⊥) → answer ≡ blankAnswer n 0 → Promised (closed t answer t)
 closing-not t n answer e z w = promised-not closing t [] n answer (e ∙ closing-refused t (λ k. z (e ∙ k))) z w
 
-module _ (s : Settings) (cells layer shown : List ℕ) (size : length (s .waiting) ≡ 12) (zero : closingNumber (terminal s cells layer shown) ≡ 0) where
+module _ (s : Settings) (cells layer dots shown : List ℕ) (size : length (s .waiting) ≡ 12) (zero : closingNumber (terminal s cells layer dots shown) ≡ 0) where
   abbrev t : Terminal
-  t = terminal s cells layer shown
+  t = terminal s cells layer dots shown
 
   good : line? (s .waiting) (s .held) (s .count) ≡ true
   good = closing-line t zero
@@ -37,30 +37,30 @@ module _ (s : Settings) (cells layer shown : List ℕ) (size : length (s .waitin
   closing-sound = line-true (s .waiting) (s .held) (s .count) good
 
   few : length (heldIn s) ≤ 12
-  few = omega (arith, held-is s cells layer shown size good, closing-sound .fits)
+  few = omega (arith, held-is s cells layer dots shown size good, closing-sound .fits)
 
   -- the message call of what waits
-  module _ (b : Answer) (s′ : Settings) (cells′ layer′ shown′ p : List ℕ) (w : Promised (called (heldIn s) (quiet s cells layer shown) [] b (terminal s′ cells′ layer′ shown′) p)) where
+  module _ (b : Answer) (s′ : Settings) (cells′ layer′ dots′ shown′ p : List ℕ) (w : Promised (called (heldIn s) (quiet s cells layer dots shown) [] b (terminal s′ cells′ layer′ dots′ shown′) p)) where
     nothing : p ≡ []
-    nothing = go p (buffer-length (called (heldIn s) (quiet s cells layer shown) [] b (terminal s′ cells′ layer′ shown′) p) w)
+    nothing = go p (buffer-length (called (heldIn s) (quiet s cells layer dots shown) [] b (terminal s′ cells′ layer′ dots′ shown′) p) w)
       where
         go : (l : List ℕ) → length l ≡ 0 → l ≡ []
         go [] e = refl
         go (x ∷ l) e = absurd (omega arith)
 
     pub closing-near : (s .count - s .held) + b .offset < 2 ^ 32
-    closing-near = omega (arith, bounded (heldIn s) (quiet s cells layer shown) [] b (terminal s′ cells′ layer′ shown′) p w .near, few, closing-sound .in-limit)
+    closing-near = omega (arith, bounded (heldIn s) (quiet s cells layer dots shown) [] b (terminal s′ cells′ layer′ dots′ shown′) p w .near, few, closing-sound .in-limit)
 
-    pub closing-by : (b .number ≡ 0 → ⊥) → Promised (closed t b (terminal s cells′ layer′ shown′))
+    pub closing-by : (b .number ≡ 0 → ⊥) → Promised (closed t b (terminal s cells′ layer′ dots′ shown′))
     closing-by z =
-        subst (λ (l : List ℕ). Promised (call closing t [] b (terminal s cells′ layer′ shown′) l)) nothing
-        (quiet-refused s cells layer shown size good closing (closing-number t) (heldIn s) (omega (arith, few)) [] b s′ cells′ layer′ shown′ p w z)
+        subst (λ (l : List ℕ). Promised (call closing t [] b (terminal s cells′ layer′ dots′ shown′) l)) nothing
+        (quiet-refused s cells layer dots shown size good closing (closing-number t) (heldIn s) (omega (arith, few)) [] b s′ cells′ layer′ dots′ shown′ p w z)
 
     pub closing-served : b .number ≡ 0 → (answer : Answer) (r : Settings) → answer ≡ countedFrom (s .count - s .held) 0 b → r ≡ withLine s′ (padded []) 0 0
-        → Promised (closed t answer (terminal r cells′ layer′ shown′))
+        → Promised (closed t answer (terminal r cells′ layer′ dots′ shown′))
     unfolding itemBytes startOf waitsAfter countAfter takenBy
     closing-served z answer r e f =
-        subst (λ (l : List ℕ). Promised (call closing t [] answer (terminal r cells′ layer′ shown′) l)) nothing
-        (quiet-served s cells layer shown size good closing (closing-number t) (heldIn s) (omega (arith, few)) [] b s′ cells′ layer′ shown′ p w refl z
+        subst (λ (l : List ℕ). Promised (call closing t [] answer (terminal r cells′ layer′ dots′ shown′) l)) nothing
+        (quiet-served s cells layer dots shown size good closing (closing-number t) (heldIn s) (omega (arith, few)) [] b s′ cells′ layer′ dots′ shown′ p w refl z
         (sym (closed-read (heldIn s) (closing-sound .unfinished))) answer r
-        (e ∙ ap (λ (n : ℕ). countedFrom (s .count - n) 0 b) (sym (held-is s cells layer shown size good))) [] 0 refl refl f)
+        (e ∙ ap (λ (n : ℕ). countedFrom (s .count - n) 0 b) (sym (held-is s cells layer dots shown size good))) [] 0 refl refl f)

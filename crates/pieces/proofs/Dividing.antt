@@ -36,8 +36,8 @@ use Rattle.pieces.proofs.Quiet.{held-is, quiet, quiet-accepted, quiet-s
 number-next : (t : Terminal) (q q′ : Request) → accepted t q ≡ true → paints? (q .asked) ≡ true → numberOf (served t q) q′ ≡ firstOf (ownReasons (served t q .state .settings) (q′ .asked))
 number-next t q q′ e f =
     let z = sizes t (accepted-sized t q e f) in
-    let g : Good (t .state) = record { sound = accepted-sound t q e; cells-are = z .0; layer-are = z .1 } in
-    number-good (served t q) q′ (subst Good (sym (state-served t q)) (good-all (eventsIn t q) (t .state) g (legal-in t q))) (sized-served t q (z .2))
+    let g : Good (t .state) = record { sound = accepted-sound t q e; cells-are = z .0; layer-are = z .1; dots-are = z .2 } in
+    number-good (served t q) q′ (subst Good (sym (state-served t q)) (good-all (eventsIn t q) (t .state) g (legal-in t q))) (sized-served t q (z .3))
 
 -- two answers counted from a start, together or each by itself
 both-from : (start n k : ℕ) (a b : Answer) → countedFrom start n (bothOf a b k) ≡ taking n (together (further start a) (further (start + k) b))
@@ -65,23 +65,23 @@ both-from start n k a b =
         let f : eqb (suc r + u) 0 ≡ false = ne-eqb (suc r + u) 0 (omega arith) in
         rw (e, f)
 
-module _ (s : Settings) (m cells layer shown buffer : List ℕ) (size : length (s .waiting) ≡ 12) (h : Told (terminal s cells layer shown) m) where
+module _ (s : Settings) (m cells layer dots shown buffer : List ℕ) (size : length (s .waiting) ≡ 12) (h : Told (terminal s cells layer dots shown) m) where
   abbrev t : Terminal
-  t = terminal s cells layer shown
+  t = terminal s cells layer dots shown
 
   abbrev q : Terminal
-  q = quiet s cells layer shown
+  q = quiet s cells layer dots shown
 
   -- the first call was served
-  module _ (xs : List ℕ) (few : length xs ≤ 4096) (b : Answer) (s₁ : Settings) (c₁ l₁ g₁ p : List ℕ) (w : Promised (called xs q buffer b (terminal s₁ c₁ l₁ g₁) p)) (z : b .number ≡ 0) where
+  module _ (xs : List ℕ) (few : length xs ≤ 4096) (b : Answer) (s₁ : Settings) (c₁ l₁ d₁ g₁ p : List ℕ) (w : Promised (called xs q buffer b (terminal s₁ c₁ l₁ d₁ g₁) p)) (z : b .number ≡ 0) where
     abbrev left₁ : Terminal
-    left₁ = terminal s₁ c₁ l₁ g₁
+    left₁ = terminal s₁ c₁ l₁ d₁ g₁
 
     abbrev asked : Request
     asked = request (message xs) (length buffer)
 
     one : Part (s .count) xs (t .state) buffer b left₁ p
-    one = part-of (s .count) xs (t .state) buffer b left₁ p q (quiet-state s cells layer shown size (h .line)) w z
+    one = part-of (s .count) xs (t .state) buffer b left₁ p q (quiet-state s cells layer dots shown size (h .line)) w z
 
     abbrev st₁ : State
     st₁ = stateOf xs (t .state) (length buffer)
@@ -106,7 +106,7 @@ module _ (s : Settings) (m cells layer shown buffer : List ℕ) (size : length (
     front-is = (λ i. take (one .printed-is i) (one .printer-is i)) ∙ take-append-seam p₁ (drop (length p₁) buffer)
 
     -- the second call
-    module _ (ys : List ℕ) (few₂ : length ys ≤ 4096) (b₂ : Answer) (s₂ : Settings) (c₂ l₂ g₂ p₂ : List ℕ) (w₂ : Promised (called ys left₁ (drop (b .printed) p) b₂ (terminal s₂ c₂ l₂ g₂) p₂)) where
+    module _ (ys : List ℕ) (few₂ : length ys ≤ 4096) (b₂ : Answer) (s₂ : Settings) (c₂ l₂ d₂ g₂ p₂ : List ℕ) (w₂ : Promised (called ys left₁ (drop (b .printed) p) b₂ (terminal s₂ c₂ l₂ d₂ g₂) p₂)) where
       second-served : b₂ .number ≡ 0
       unfolding ownReasons firstOf noneWaits
       second-served =
@@ -116,21 +116,21 @@ module _ (s : Settings) (m cells layer shown buffer : List ℕ) (size : length (
           ∙ ap (λ (x : Terminal). firstOf (ownReasons (x .state .settings) (message ys))) (sym same)
           ∙ (λ i. firstOf (reason 2 (le-leb (length ys) 4096 few₂ i) ∷ reason 16 (eq-eqb (s₁ .held) 0 none-held i) ∷ []))
 
-      two : Part (s .count) ys st₁ (drop (length p₁) buffer) b₂ (terminal s₂ c₂ l₂ g₂) p₂
+      two : Part (s .count) ys st₁ (drop (length p₁) buffer) b₂ (terminal s₂ c₂ l₂ d₂ g₂) p₂
       two =
-          part-of (s .count) ys st₁ (drop (length p₁) buffer) b₂ (terminal s₂ c₂ l₂ g₂) p₂ left₁ (one .state-is)
-          (subst (λ (x : List ℕ). Promised (called ys left₁ x b₂ (terminal s₂ c₂ l₂ g₂) p₂)) rest-is w₂) second-served
+          part-of (s .count) ys st₁ (drop (length p₁) buffer) b₂ (terminal s₂ c₂ l₂ d₂ g₂) p₂ left₁ (one .state-is)
+          (subst (λ (x : List ℕ). Promised (called ys left₁ x b₂ (terminal s₂ c₂ l₂ d₂ g₂) p₂)) rest-is w₂) second-served
 
       pub two-served : gathered (heldIn s) m ≡ uncut xs ++ uncut ys → (answer : Answer) (r : Settings) → answer ≡ countedFrom (s .count - s .held) (length m) (bothOf b b₂ (length xs))
           → (rest : List ℕ) → rest ≡ remaining (heldIn s) m → r ≡ withLine s₂ (padded rest) (length rest) (s .count + length m)
-          → Promised (pieced m t buffer answer (terminal r c₂ l₂ g₂) (take (b .printed) p ++ p₂))
+          → Promised (pieced m t buffer answer (terminal r c₂ l₂ d₂ g₂) (take (b .printed) p ++ p₂))
       unfolding lined withSettings
       two-served cut answer r e rest f g =
           let start : ℕ = s .count - length (heldIn s) in
           let ok : accepted t (request (piece m) (length buffer)) ≡ true =
-          quiet-accepted s cells layer shown size (h .line) (piece m) (piece-number t m (h .few) (h .counts)) xs few buffer b s₁ c₁ l₁ g₁ p w z in
+          quiet-accepted s cells layer dots shown size (h .line) (piece m) (piece-number t m (h .few) (h .counts)) xs few buffer b s₁ c₁ l₁ d₁ g₁ p w z in
           let fits : length (drop (length p₁) buffer) ≡ length buffer - length p₁ = length-drop (length p₁) buffer in
-          subst (λ (x : List ℕ). Promised (pieced m t buffer answer (terminal r c₂ l₂ g₂) (x ++ p₂))) (sym front-is)
-          (promised-two t m buffer xs ys cut ok (s .count) b b₂ left₁ (terminal s₂ c₂ l₂ g₂) p p₂ one two fits answer (terminal r c₂ l₂ g₂)
-          (e ∙ ap (λ (k : ℕ). countedFrom (s .count - k) (length m) (bothOf b b₂ (length xs))) (sym (held-is s cells layer shown size (h .line))) ∙ both-from start (length m) (length xs) b b₂)
-          (λ i. state ((g ∙ (λ j. withLine s₂ (padded (f j)) (length (f j)) (s .count + length m))) i) c₂ l₂) refl)
+          subst (λ (x : List ℕ). Promised (pieced m t buffer answer (terminal r c₂ l₂ d₂ g₂) (x ++ p₂))) (sym front-is)
+          (promised-two t m buffer xs ys cut ok (s .count) b b₂ left₁ (terminal s₂ c₂ l₂ d₂ g₂) p p₂ one two fits answer (terminal r c₂ l₂ d₂ g₂)
+          (e ∙ ap (λ (k : ℕ). countedFrom (s .count - k) (length m) (bothOf b b₂ (length xs))) (sym (held-is s cells layer dots shown size (h .line))) ∙ both-from start (length m) (length xs) b b₂)
+          (λ i. state ((g ∙ (λ j. withLine s₂ (padded (f j)) (length (f j)) (s .count + length m))) i) c₂ l₂ d₂) refl)

@@ -34,7 +34,7 @@ pub record Ended (s : Settings) (m bytes : List ℕ) (k n end : ℕ) : Type 0 wh
   pub front : take end bytes ≡ take (wholeEnd (heldIn s ++ take k m)) (heldIn s ++ take k m)
   pub rest : take (n - end) (drop end bytes) ≡ drop (wholeEnd (heldIn s ++ take k m)) (heldIn s ++ take k m)
 
-module _ (s : Settings) (m cells layer shown : List ℕ) (size : length (s .waiting) ≡ 12) (h : Told (terminal s cells layer shown) m) (k : ℕ) (l : k ≤ length m)
+module _ (s : Settings) (m cells layer dots shown : List ℕ) (size : length (s .waiting) ≡ 12) (h : Told (terminal s cells layer dots shown) m) (k : ℕ) (l : k ≤ length m)
     (bytes : List ℕ) (is : take (s .held + k) bytes ≡ heldIn s ++ take k m) where
   abbrev n : ℕ
   n = s .held + k
@@ -43,7 +43,7 @@ module _ (s : Settings) (m cells layer shown : List ℕ) (size : length (s .wait
   xs = heldIn s ++ take k m
 
   length-is : length xs ≡ n
-  length-is = length-append (heldIn s) (take k m) ∙ (λ i. held-is s cells layer shown size (h .line) i + length-take-le k m l i)
+  length-is = length-append (heldIn s) (take k m) ∙ (λ i. held-is s cells layer dots shown size (h .line) i + length-take-le k m l i)
 
   pub array-long : n ≤ length bytes
   array-long = omega (arith, ap length is ∙ length-is, length-take n bytes)
@@ -56,7 +56,7 @@ module _ (s : Settings) (m cells layer shown : List ℕ) (size : length (s .wait
       record {
         line = told-line h;
         within = told-within h;
-        held = held-is s cells layer shown size (h .line);
+        held = held-is s cells layer dots shown size (h .line);
         long = array-long;
         end-is = f;
         low = low;

@@ -80,12 +80,12 @@ module _ {s : Settings} {m : List ℕ} {end : ℕ} (x : Plain s m end) where
   small = le-leb (length front) 4096 size
 
   -- the message call of them
-  module _ (cells layer shown buffer : List ℕ) (b : Answer) (s′ : Settings) (cells′ layer′ shown′ p : List ℕ) (w : Promised (called front (terminal s cells layer shown) buffer b (terminal s′ cells′ layer′ shown′) p)) where
+  module _ (cells layer dots shown buffer : List ℕ) (b : Answer) (s′ : Settings) (cells′ layer′ dots′ shown′ p : List ℕ) (w : Promised (called front (terminal s cells layer dots shown) buffer b (terminal s′ cells′ layer′ dots′ shown′) p)) where
     abbrev t : Terminal
-    t = terminal s cells layer shown
+    t = terminal s cells layer dots shown
 
     abbrev l : Terminal
-    l = terminal s′ cells′ layer′ shown′
+    l = terminal s′ cells′ layer′ dots′ shown′
 
     only : firstOf (reasons t (piece m)) ≡ oneOrThree t
     unfolding countable
@@ -104,12 +104,12 @@ module _ {s : Settings} {m : List ℕ} {end : ℕ} (x : Plain s m end) where
         ∙ ap (λ (v : List ℕ). lined v (s .count) (t .state)) nothing
 
     pub plain-served : b .number ≡ 0 → (answer : Answer) (r : Settings) → answer ≡ countedFrom (s .count) (length m) b → r ≡ withLine s′ (padded rest) (length rest) (s .count + length m)
-        → Promised (pieced m t buffer answer (terminal r cells′ layer′ shown′) p)
+        → Promised (pieced m t buffer answer (terminal r cells′ layer′ dots′ shown′) p)
     unfolding itemBytes countAfter takenBy lined withSettings
     plain-served z answer r f g =
         served-with t (piece m) only t front refl refl small quiet buffer b l p w refl z (s .count) (as-quiet z) (ap (λ (v : List ℕ). gathered v m) nothing ∙ cut)
-        answer (terminal r cells′ layer′ shown′) (f ∙ ap (λ (n : ℕ). taking (length m) (further n b)) start-is)
-        ((λ i. state (g i) cells′ layer′) ∙ (λ i. lined (waits i) (s .count + length m) (state s′ cells′ layer′))) refl
+        answer (terminal r cells′ layer′ dots′ shown′) (f ∙ ap (λ (n : ℕ). taking (length m) (further n b)) start-is)
+        ((λ i. state (g i) cells′ layer′ dots′) ∙ (λ i. lined (waits i) (s .count + length m) (state s′ cells′ layer′ dots′))) refl
 
     -- an accepted message leaves none waiting
     none-left : b .number ≡ 0 → (s′ .waiting ≡ padded []) × (s′ .held ≡ 0)
@@ -122,7 +122,7 @@ module _ {s : Settings} {m : List ℕ} {end : ℕ} (x : Plain s m end) where
 
     -- where all of it is whole, only the count is another
     pub plain-whole : b .number ≡ 0 → length m ≤ end → (answer : Answer) → answer ≡ countedFrom (s .count) (length m) b
-        → Promised (pieced m t buffer answer (terminal (withLine s′ (s′ .waiting) (s′ .held) (s .count + length m)) cells′ layer′ shown′) p)
+        → Promised (pieced m t buffer answer (terminal (withLine s′ (s′ .waiting) (s′ .held) (s .count + length m)) cells′ layer′ dots′ shown′) p)
     plain-whole z u answer f =
         let e : 0 ≡ length m - end = omega arith in
         let v : [] ≡ rest = ap (λ (n : ℕ). take n (drop end m)) e in

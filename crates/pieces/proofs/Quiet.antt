@@ -22,20 +22,20 @@ use Rattle.pieces.proofs.Pieces.{call, sound-either}
 use Rattle.pieces.proofs.Numbers.{accepted-with, oneOrThree, refused-with, served-with}
 
 -- the same terminal while none waits
-abbrev pub quiet : Settings → List ℕ → List ℕ → List ℕ → Terminal
-quiet s cells layer shown = terminal (withLine s (replicate 12 0) 0 (s .count)) cells layer shown
+abbrev pub quiet : Settings → List ℕ → List ℕ → List ℕ → List ℕ → Terminal
+quiet s cells layer dots shown = terminal (withLine s (replicate 12 0) 0 (s .count)) cells layer dots shown
 
 -- a call of settings that were quieted
-pub by-quiet : (s : Settings) {q : Settings} {cells layer shown xs buffer : List ℕ} {b : Answer} {l : Terminal} {p : List ℕ} → q ≡ withLine s (replicate 12 0) 0 (s .count)
-    → Promised (called xs (terminal q cells layer shown) buffer b l p) → Promised (called xs (quiet s cells layer shown) buffer b l p)
-by-quiet s {cells = cells} {layer = layer} {shown = shown} {xs = xs} {buffer = buffer} {b = b} {l = l} {p = p} e w = subst (λ (x : Settings). Promised (called xs (terminal x cells layer shown) buffer b l p)) e w
+pub by-quiet : (s : Settings) {q : Settings} {cells layer dots shown xs buffer : List ℕ} {b : Answer} {l : Terminal} {p : List ℕ} → q ≡ withLine s (replicate 12 0) 0 (s .count)
+    → Promised (called xs (terminal q cells layer dots shown) buffer b l p) → Promised (called xs (quiet s cells layer dots shown) buffer b l p)
+by-quiet s {cells = cells} {layer = layer} {dots = dots} {shown = shown} {xs = xs} {buffer = buffer} {b = b} {l = l} {p = p} e w = subst (λ (x : Settings). Promised (called xs (terminal x cells layer dots shown) buffer b l p)) e w
 
-module _ (s : Settings) (cells layer shown : List ℕ) (size : length (s .waiting) ≡ 12) (line : line? (s .waiting) (s .held) (s .count) ≡ true) where
+module _ (s : Settings) (cells layer dots shown : List ℕ) (size : length (s .waiting) ≡ 12) (line : line? (s .waiting) (s .held) (s .count) ≡ true) where
   abbrev t : Terminal
-  t = terminal s cells layer shown
+  t = terminal s cells layer dots shown
 
   abbrev q : Terminal
-  q = quiet s cells layer shown
+  q = quiet s cells layer dots shown
 
   pub held-is : length (heldIn s) ≡ s .held
   held-is = held-length (s .waiting) (s .held) (s .count) (line-true (s .waiting) (s .held) (s .count) line) size
@@ -64,19 +64,19 @@ module _ (s : Settings) (cells layer shown : List ℕ) (size : length (s .waitin
 
   -- what is asked, of which only 1 and 3 can be the number, and a message call of the bytes xs
   module _ (a : Asked) (only : firstOf (reasons t a) ≡ oneOrThree t) (xs : List ℕ) (few : length xs ≤ 4096)
-      (buffer : List ℕ) (b : Answer) (s′ : Settings) (cells′ layer′ shown′ p : List ℕ) (w : Promised (called xs q buffer b (terminal s′ cells′ layer′ shown′) p)) where
-    pub quiet-refused : (b .number ≡ 0 → ⊥) → Promised (call a t buffer b (terminal s cells′ layer′ shown′) p)
+      (buffer : List ℕ) (b : Answer) (s′ : Settings) (cells′ layer′ dots′ shown′ p : List ℕ) (w : Promised (called xs q buffer b (terminal s′ cells′ layer′ dots′ shown′) p)) where
+    pub quiet-refused : (b .number ≡ 0 → ⊥) → Promised (call a t buffer b (terminal s cells′ layer′ dots′ shown′) p)
     quiet-refused z =
-        refused-with t a only q xs same-sized same-sound (le-leb (length xs) 4096 few) none buffer b (terminal s′ cells′ layer′ shown′) p w z (terminal s cells′ layer′ shown′)
-        (λ e. λ i. terminal s (e i .state .cells) (e i .state .layer) (e i .shown))
+        refused-with t a only q xs same-sized same-sound (le-leb (length xs) 4096 few) none buffer b (terminal s′ cells′ layer′ dots′ shown′) p w z (terminal s cells′ layer′ dots′ shown′)
+        (λ e. λ i. terminal s (e i .state .cells) (e i .state .layer) (e i .state .dots) (e i .shown))
 
     pub quiet-accepted : b .number ≡ 0 → accepted t (request a (length buffer)) ≡ true
-    quiet-accepted = accepted-with t a only q xs same-sized same-sound (le-leb (length xs) 4096 few) none buffer b (terminal s′ cells′ layer′ shown′) p w
+    quiet-accepted = accepted-with t a only q xs same-sized same-sound (le-leb (length xs) 4096 few) none buffer b (terminal s′ cells′ layer′ dots′ shown′) p w
 
     pub quiet-served : paints? a ≡ true → b .number ≡ 0 → itemBytes s a ≡ uncut xs → (answer : Answer) (r : Settings) → answer ≡ countedFrom (startOf s a) (takenBy a) b
         → (rest : List ℕ) (n : ℕ) → rest ≡ waitsAfter s a → n ≡ countAfter s a → r ≡ withLine s′ (padded rest) (length rest) n
-        → Promised (call a t buffer answer (terminal r cells′ layer′ shown′) p)
+        → Promised (call a t buffer answer (terminal r cells′ layer′ dots′ shown′) p)
     unfolding lined withSettings
     quiet-served paints z cut answer r e rest n f g h =
-        served-with t a only q xs same-sized same-sound (le-leb (length xs) 4096 few) none buffer b (terminal s′ cells′ layer′ shown′) p w paints z (s .count) quiet-state cut answer (terminal r cells′ layer′ shown′) e
-        (λ i. state ((h ∙ (λ j. withLine s′ (padded (f j)) (length (f j)) (g j))) i) cells′ layer′) refl
+        served-with t a only q xs same-sized same-sound (le-leb (length xs) 4096 few) none buffer b (terminal s′ cells′ layer′ dots′ shown′) p w paints z (s .count) quiet-state cut answer (terminal r cells′ layer′ dots′ shown′) e
+        (λ i. state ((h ∙ (λ j. withLine s′ (padded (f j)) (length (f j)) (g j))) i) cells′ layer′ dots′) refl

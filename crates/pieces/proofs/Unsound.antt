@@ -8,8 +8,8 @@ use mathlib.Core.List.{List, [], _∷_}
 use Rattle.model.specs.declared.Settings.{Settings}
 use Rattle.model.specs.Checks.{inRanges?}
 use Rattle.model.specs.Line.{line?}
-use Rattle.model.specs.Screens.{height}
-use Rattle.model.specs.Sound.{arrayRanges, inside?, marks?, otherRanges, plainRanges, shapeRanges, sound?}
+use Rattle.model.specs.Screens.{height, screens}
+use Rattle.model.specs.Sound.{arrayRanges, inside?, marks?, otherRanges, plainRanges, second?, shapeRanges, sound?}
 use Rattle.model.specs.Calls.{Terminal, closing, countable, firstOf, piece, reason, reasons, short, sized, soundIn}
 use Rattle.pieces.specs.Parts.{closingNumber, lineNumber}
 use Rattle.pieces.proofs.Refusals.{closing-numbered, line-numbered}
@@ -25,7 +25,7 @@ module _ (t : Terminal) where
   unfolding soundIn sound?
   unsound e =
       ap (λ (b : Bool). inRanges? (arrayRanges s) && (inRanges? (shapeRanges (s .mode) (s .lines1) (s .lines2) (s .columns1) (s .columns2))
-      && (inRanges? (otherRanges (s .selected) (s .step) (height s)) && (inRanges? (plainRanges s) && (inside? s 0 && (inside? s 1 && (b && (marks? s 0 && marks? s 1)))))))) e ∙ simp and-false
+      && (inRanges? (otherRanges (screens s) (s .selected) (s .step) (height s)) && (inRanges? (plainRanges s) && (inside? s 0 && (second? s && (b && (marks? s 0 && marks? s 1)))))))) e ∙ simp and-false
 
   -- a piece
   pub line-refused : (m : List ℕ) → (lineNumber t m ≡ 0 → ⊥) → lineNumber t m ≡ firstOf (reasons t (piece m))

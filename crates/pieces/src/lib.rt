@@ -2,6 +2,7 @@
 ghost use mathlib.Core.Path.{_≡_};
 ghost use mathlib.Core.Bool.{true};
 ghost use Prim.Native.Nat.{_+_, _^_, _<_, _≤_};
+ghost use lib.Dec.{leb};
 ghost use lib.ListN.{length, replicate};
 ghost use Rattle.model.specs.Calls.{terminal};
 ghost use Rattle.model.specs.Line.{padded};
@@ -19,10 +20,17 @@ pub fn plain(held: u8, length: usize, count: u32) -> bool
 }
 
 // What a piece is refused by; 0 where only the rest of its settings can still be at fault, which a message call judges.
-pub fn line_number(settings: Settings, piece: &[u8], cells: &[u8], layer: &[u8], shown: &[u8]) -> u8
-    ensures { λ r. ⌜ r ≡ lineNumber (terminal settings (now (cells .entry)) (now (layer .entry)) (now (shown .entry))) (now (piece .entry)) ⌝ }
+pub fn line_number(
+    settings: Settings,
+    piece: &[u8],
+    cells: &[u8],
+    layer: &[u8],
+    shown: &[u8],
+    dots: &[u8],
+) -> u8
+    ensures { λ r. ⌜ r ≡ lineNumber (terminal settings (now (cells .entry)) (now (layer .entry)) (now (dots .entry)) (now (shown .entry))) (now (piece .entry)) ⌝ }
 {
-    if !stores_sized(cells, layer, shown) {
+    if !stores_sized(cells, layer, shown, dots) {
         return 1;
     }
     if piece.len() > 4096 {
@@ -32,17 +40,31 @@ pub fn line_number(settings: Settings, piece: &[u8], cells: &[u8], layer: &[u8],
     if !line::sound(waiting, settings.held, settings.count) {
         return 3;
     }
-    if (settings.count as usize) + piece.len() <= 1000000000 {
+    if in_count(settings.count, piece.len()) {
         return 0;
     }
     if soundness::sound(settings) { 15 } else { 3 }
 }
 
-// And the closing.
-pub fn closing_number(settings: Settings, cells: &[u8], layer: &[u8], shown: &[u8]) -> u8
-    ensures { λ r. ⌜ r ≡ closingNumber (terminal settings (now (cells .entry)) (now (layer .entry)) (now (shown .entry))) ⌝ }
+// Whether so many bytes more are in the stream's limit.
+fn in_count(count: u32, size: usize) -> bool
+    requires { ⌜ size ≤ 4096 ⌝ }
+    ensures { λ r. ⌜ r ≡ leb (count + size) 1000000000 ⌝ }
 {
-    if !stores_sized(cells, layer, shown) {
+    (count as usize) + size <= 1000000000
+}
+
+// And the closing.
+pub fn closing_number(
+    settings: Settings,
+    cells: &[u8],
+    layer: &[u8],
+    shown: &[u8],
+    dots: &[u8],
+) -> u8
+    ensures { λ r. ⌜ r ≡ closingNumber (terminal settings (now (cells .entry)) (now (layer .entry)) (now (dots .entry)) (now (shown .entry))) ⌝ }
+{
+    if !stores_sized(cells, layer, shown, dots) {
         return 1;
     }
     let waiting = settings.waiting;

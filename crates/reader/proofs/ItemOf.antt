@@ -1,7 +1,7 @@
 -- What some bytes are, once the tests on them are decided.
 use mathlib.Core.Path.{_∙_, _≡_, ap, refl, sym}
 use Prim.Native.Nat.{ℕ, _<_, _≤_}
-use mathlib.Core.Bool.{Bool, true, false}
+use mathlib.Core.Bool.{Bool, true, false, cond}
 use mathlib.Core.List.{List, [], _∷_}
 use lib.ListN.{getD, length}
 use lib.Dec.{eqb}
@@ -11,9 +11,10 @@ use Rattle.model.specs.declared.Item.{Item}
 use Rattle.model.specs.declared.Item.the-variants.{Printed, Control, Sequence, Refused}
 use Rattle.model.specs.declared.Sequence.the-variants.{Select}
 use Rattle.model.specs.Reading.{decoded, ended, itemOf, needed, unfinished?}
-use Rattle.model.specs.Checks.{inRanges?, passes}
-use Rattle.model.specs.Judging.{allowed, fitting, judged, legal?}
-use Rattle.model.proofs.Tests.{differ, elim-at}
+use Rattle.model.specs.Checks.{inRanges?, passes, range}
+use Rattle.model.specs.Sequences.{idle?}
+use Rattle.model.specs.Judging.{allowed, badOf, fitting, judged, judgedRanges, legal?}
+use Rattle.model.proofs.Tests.{by-test, differ, elim-at}
 use Rattle.reader.specs.Decoding.{whole}
 
 -- a test that is decided
@@ -62,5 +63,8 @@ ended-by bs c e = ap (λ (k : ℕ). elim (eqb k 209) as (λ b. Item) [ true ↦ 
 
 -- what a message's end makes of a sequence is not refused again
 pub judged-ended : (bs : List ℕ) (s : Limits) (room : ℕ) → judged (ended bs) s room ≡ ended bs
-unfolding ended allowed fitting legal? inRanges? passes
-judged-ended bs s room = elim-at (λ (i : Item). judged i s room ≡ i) (eqb (getD bs 1 0) 209) (Sequence (Select 0)) (Refused 12 0) (λ e. refl) (λ e. refl)
+unfolding ended allowed fitting legal? judgedRanges inRanges? passes
+judged-ended bs s room =
+    elim-at (λ (i : Item). judged i s room ≡ i) (eqb (getD bs 1 0) 209) (Sequence (Select 0)) (Refused 12 0)
+    (λ e. by-test (λ b. fitting (s .mode) (cond (inRanges? (cond b [] (range 0 0 1 ∷ []))) (Sequence (Select 0)) (Refused 11 (badOf (Select 0) s))) room ≡ Sequence (Select 0)) (idle? (s .mode) 209) refl refl)
+    (λ e. refl)

@@ -15,6 +15,7 @@ use Rattle.model.specs.declared.Sequence.{Sequence as Seq}
 use Rattle.model.specs.declared.Sequence.the-variants.{Pattern, Select}
 use Rattle.model.specs.Sequences.{Row, codeOf, find, modeRowOf, modeRows, refusal, rowOf, rows}
 use Rattle.model.specs.Reading.{afterEscape, decoded, ended, itemOf, kindOf, needed, unfinished?}
+use Rattle.model.specs.Picture.{copySizeOf}
 use Rattle.model.specs.Judging.{allowed, badOf, fitting, judged, legal?}
 use Rattle.model.proofs.Tests.{cond-at, elim-at}
 use Rattle.model.proofs.Gathering.{found}
@@ -33,8 +34,8 @@ unfolding allowed fitting
 judged-sequence (Printed c) s room q e = e
 judged-sequence (Control c) s room q e = e
 judged-sequence (Sequence p) s room q e =
-    cond-at (λ (i : Item). fitting i room ≡ Sequence q → Sequence p ≡ Sequence q) (legal? p s) (Sequence p) (Refused 11 (badOf p s))
-    (λ l. cond-at (λ (i : Item). i ≡ Sequence q → Sequence p ≡ Sequence q) (eqb (codeOf p) 80 && ltb room 656) (Refused 13 0) (Sequence p) (λ f e. cc) (λ f e. e)) (λ l e. cc) e
+    cond-at (λ (i : Item). fitting (s .mode) i room ≡ Sequence q → Sequence p ≡ Sequence q) (legal? p s) (Sequence p) (Refused 11 (badOf p s))
+    (λ l. cond-at (λ (i : Item). i ≡ Sequence q → Sequence p ≡ Sequence q) (eqb (codeOf p) 80 && ltb room (copySizeOf (s .mode))) (Refused 13 0) (Sequence p) (λ f e. cc) (λ f e. e)) (λ l e. cc) e
 judged-sequence (Refused n p) s room q e = e
 
 -- what begins 27, 224 needs eleven bytes

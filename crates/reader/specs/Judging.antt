@@ -10,7 +10,11 @@ use Rattle.reader.specs.declared.judging.Verdict.{Verdict}
 abbrev pub verdict : Bool → ℕ → Verdict
 verdict b n = record { good = b; parameter = n }
 
--- it is good exactly if all checks pass; if it is not, its parameter is the number of the first that fails
-pub record Finds (cs : List Check) (v : Verdict) : Type 0 where
+-- it is good exactly if all checks pass; if it is not, its parameter is the number of the first that fails, the first of the list counted as n
+pub record FindsFrom (n : ℕ) (cs : List Check) (v : Verdict) : Type 0 where
   pub passed : v .good ≡ inRanges? cs
-  pub first : v .good ≡ false → v .parameter ≡ firstBad 1 cs
+  pub first : v .good ≡ false → v .parameter ≡ firstBad n cs
+
+-- "counted from 1 after the second byte"
+abbrev pub Finds : List Check → Verdict → Type 0
+Finds = FindsFrom 1

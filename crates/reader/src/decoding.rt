@@ -27,7 +27,7 @@ pub fn decode(own: &[u8], at: usize) -> Item
     }
 }
 
-// 208, by its mode byte; mode 3 is 14, any other 11, itself the bad parameter.
+// 208, by its mode byte; one that is no mode is 11, itself the bad parameter.
 fn mode(own: &[u8]) -> Item
     ensures { λ r. ⌜ ((o : ℕ) → r ≡ modeRowOf (getD (now (own .entry)) 2 0) .made (sent (now (own .entry))) o) ⌝ }
 {
@@ -45,10 +45,7 @@ fn mode(own: &[u8]) -> Item
             columns: byte(own, 4),
             boundary: byte(own, 5),
         }),
-        3 => Item::Refused {
-            number: 14,
-            parameter: 0,
-        },
+        3 => Item::Sequence(Sequence::Mode3),
         _ => Item::Refused {
             number: 11,
             parameter: 1,

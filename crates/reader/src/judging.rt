@@ -2,10 +2,13 @@
 ghost use Prim.Native.Nat.{_+_, _-_, _<_};
 ghost use mathlib.Core.Bool.{_&&_, cond};
 ghost use mathlib.Core.Path.{_≡_};
-ghost use lib.Dec.{leb};
-ghost use Rattle.model.specs.Judging.{fitting, judged, lineRanges, ranges};
-ghost use Rattle.reader.specs.Judging.{Finds, verdict};
-use model::COPY;
+ghost use mathlib.Core.List.{[], _∷_};
+ghost use lib.Dec.{eqb, leb};
+ghost use Rattle.model.specs.Dot.{twoBytes};
+ghost use Rattle.model.specs.Sequences.{codeOf};
+ghost use Rattle.model.specs.Judging.{fitting, judged, judgedRanges, lineRanges, ranges};
+ghost use Rattle.model.specs.Checks.{free, passes, range};
+ghost use Rattle.reader.specs.Judging.{Finds, FindsFrom, verdict};
 use model::Item;
 use model::Limits;
 use model::Sequence;
@@ -25,7 +28,7 @@ pub fn judge(limits: Limits, room: usize, item: Item) -> Item
         Item::Sequence(q) => {
             let found = check(limits, q);
             if found.good {
-                fit(room, q)
+                fit(limits.mode, room, q)
             } else {
                 Item::Refused {
                     number: 11,
@@ -37,13 +40,13 @@ pub fn judge(limits: Limits, room: usize, item: Item) -> Item
     }
 }
 
-// 13: "ESC P with fewer than 656 bytes of printer room left in this call".
-fn fit(room: usize, q: Sequence) -> Item
-    ensures { λ r. ⌜ r ≡ fitting (Item.Sequence q) room ⌝ }
+// 13: "ESC P with fewer than 656 bytes of printer room left in this call", in mode 3 "under 3,840".
+fn fit(mode: u8, room: usize, q: Sequence) -> Item
+    ensures { λ r. ⌜ r ≡ fitting mode (Item.Sequence q) room ⌝ }
 {
     match q {
         Sequence::Copy => {
-            if room < COPY {
+            if room < tables::copy_size(mode) {
                 Item::Refused {
                     number: 13,
                     parameter: 0,
@@ -57,32 +60,34 @@ fn fit(room: usize, q: Sequence) -> Item
 }
 
 // Parameters are counted from 1 after the second byte (208: the mode byte is 1); the sequences that are not named here have none that
-// is judged.
+// is judged. What is idle in the mode is not judged, asked in the arms and not before them, so that a sequence costs one `match`.
 fn check(limits: Limits, q: Sequence) -> Verdict
-    ensures { λ r. ⌜ Finds (ranges q limits) r ⌝ }
+    ensures { λ r. ⌜ Finds (judgedRanges q limits) r ⌝ }
 {
     match q {
-        Sequence::Put { line, column } => {
-            of_two(
-                1,
-                shifted(line, limits.lines),
-                shifted(column, limits.columns),
-            )
-        }
+        Sequence::Put { line, column } => placing(limits, line, column),
         Sequence::Charset(n) => of_one(1, tables::charset(n)),
         Sequence::LinesUp { from, count } => region(limits, from, count),
         Sequence::LinesDown { from, count } => region(limits, from, count),
-        Sequence::Step(n) => of_one(1, within(1, n, limits.height)),
-        Sequence::Tracking(n) => of_one(1, within(0, n, 1)),
+        Sequence::Step(n) => of_one(1, within(1, n, limits.height) | (limits.mode == 3)),
+        Sequence::Tracking(n) => of_one(1, within(0, n, 1) | (limits.mode == 3)),
+        Sequence::DrawLine { .. } => {
+            if limits.mode == 3 {
+                stroke(q)
+            } else {
+                of_one(1, true)
+            }
+        }
+        Sequence::DrawDot { p1, p2, p3, p4 } => dot(limits.mode, p1, p2, p3, p4),
         Sequence::Mode0 { lines1, lines2 } => two_screens(lines1, lines2),
         Sequence::Mode1 { lines } => of_one(2, within(16, lines, 48)),
         Sequence::Mode2 { lines, columns, .. } => {
             of_two(2, within(8, lines, 48), within(1, columns, 78))
         }
-        Sequence::Select(n) => of_one(1, within(0, n, 1)),
+        Sequence::Select(n) => of_one(1, within(0, n, 1) | (limits.mode == 3)),
         Sequence::Mark { row, column, .. } => of_two(1, within(1, row, 8), within(1, column, 80)),
-        Sequence::Display(n) => of_one(1, within(0, n, 1)),
-        Sequence::CursorKind(n) => of_one(1, within(0, n, 3)),
+        Sequence::Display(n) => of_one(1, within(0, n, 1) | (limits.mode == 3)),
+        Sequence::CursorKind(n) => of_one(1, within(0, n, 3) | (limits.mode == 3)),
         Sequence::Pattern { code, .. } => of_one(1, within(224, code, 254)),
         Sequence::Repeat(n) => of_one(1, within(0, n, 1)),
         Sequence::RepeatDelay(n) => of_one(1, within(1, n, 127)),
@@ -90,6 +95,17 @@ fn check(limits: Limits, q: Sequence) -> Verdict
         Sequence::Shift(n) => of_one(1, tables::shift(n)),
         _ => of_one(1, true),
     }
+}
+
+// 61: line and column of the selected screen, each sent 31 higher.
+fn placing(limits: Limits, line: u8, column: u8) -> Verdict
+    ensures { λ r. ⌜ Finds (ranges (Sequence.Put line column) limits) r ⌝ }
+{
+    of_two(
+        1,
+        shifted(line, limits.lines),
+        shifted(column, limits.columns),
+    )
 }
 
 // Of one parameter that is judged: its number, and whether it is in its range.
@@ -111,6 +127,70 @@ fn of_two(number: u8, first: bool, next: bool) -> Verdict
         good: first & next,
         parameter: behind(number, first),
     }
+}
+
+// Of some parameters, and of those behind them where these are good.
+fn unless_bad(first: Verdict, next: Verdict) -> Verdict
+    ensures { λ r. ⌜ r ≡ cond (first .good) next first ⌝ }
+{
+    if first.good { next } else { first }
+}
+
+// 198 in mode 3: its start, its end and its function; the mask is free. Any other sequence has none that is judged here.
+fn stroke(q: Sequence) -> Verdict
+    ensures { λ r. ⌜ ((s : Limits) → Finds (cond (eqb (codeOf q) 198) (ranges q s) []) r) ⌝ }
+{
+    match q {
+        Sequence::DrawLine {
+            p1,
+            p2,
+            p3,
+            p4,
+            p5,
+            p6,
+            p7,
+            p8,
+            p9: _,
+            p10: _,
+            p11,
+        } => unless_bad(
+            point(2, p1, p2, p3, p4),
+            unless_bad(point(6, p5, p6, p7, p8), of_one(11, within(1, p11, 3))),
+        ),
+        _ => of_one(1, true),
+    }
+}
+
+// 199, judged in mode 3 alone: "sets (1) or clears (0) a dot, vertical 0 to 63, horizontal 0 to 479".
+fn dot(mode: u8, p1: u8, p2: u8, p3: u8, p4: u8) -> Verdict
+    ensures { λ r. ⌜ ((s : Limits) → s .mode ≡ mode → Finds (judgedRanges (Sequence.DrawDot p1 p2 p3 p4) s) r) ⌝ }
+{
+    if mode != 3 {
+        return of_one(1, true);
+    }
+    let first = of_two(1, within(0, p1, 1), within(0, p2, 63));
+    unless_bad(first, of_one(4, up_to(p3, p4, 479)))
+}
+
+// Of a dot of 198, horizontal and vertical, each "named by its low byte": the first one's number.
+fn point(number: u8, h1: u8, h2: u8, v1: u8, v2: u8) -> Verdict
+    requires { ⌜ number < 250 ⌝ }
+    ensures { λ r. ⌜ FindsFrom number (range 0 (twoBytes h1 h2) 479 ∷ free ∷ range 0 (twoBytes v1 v2) 63 ∷ []) r ⌝ }
+{
+    let h = up_to(h1, h2, 479);
+    let v = up_to(v1, v2, 63);
+    if h {
+        of_one(number + 2, v)
+    } else {
+        of_one(number, false)
+    }
+}
+
+// A number of two bytes, from 0 on.
+fn up_to(high: u8, low: u8, most: u16) -> bool
+    ensures { λ r. ⌜ r ≡ passes (range 0 (twoBytes high low) most) ⌝ }
+{
+    tables::two_bytes(high, low) <= most
 }
 
 // The number behind, if the first one is good.

@@ -45,7 +45,7 @@ pub fn read_item(limits: Limits, room: usize, message: &[u8], at: usize) -> Read
     }
 }
 
-// The same at an ESC. "Sequences are checked 10, 12, 14, 11, 13": `decode` gives 14, `judge` the last two.
+// The same at an ESC. "Sequences are checked 10, 12, 14, 11, 13", of which 14 has ended (P11): `judge` gives the last two.
 fn read_sequence(limits: Limits, room: usize, message: &[u8], at: usize) -> Reading
     requires { ⌜ at < length (now message) ⌝ }
     requires { ⌜ length (now message) ≤ 4096 ⌝ }

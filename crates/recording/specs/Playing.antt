@@ -5,32 +5,36 @@ use mathlib.Core.List.{List, []}
 use lib.ListN.{length}
 use Rattle.model.specs.declared.Answer.{Answer}
 use Rattle.model.specs.declared.Outcome.{Outcome}
-use Rattle.model.specs.declared.Settings.{Settings}
 use Rattle.model.specs.Calls.{Asked, Call, KeyPromised, Promised, Terminal, answerOf, keyText, printedBy, request, terminal}
 use Rattle.model.specs.Opening.{OpeningPromised, firstPart, openingNumber, unopened}
 use Rattle.report.specs.Adler.{adlerFrom}
 use Rattle.recording.specs.declared.Played.{Played}
 
--- an opening by a rule (P9), accepted or refused: what it returns is used from then on; and the sum of the printer bytes so far
-pub record Opens (rule : ℕ) (cells layer shown : List ℕ) (sum : ℕ) (r : Played) (cells′ layer′ shown′ : List ℕ) : Type 0 where
-  pub opens : OpeningPromised rule cells layer shown (r .settings) (openingNumber rule (unopened cells layer shown)) cells′ layer′ shown′
+-- an opening by a rule (P9), accepted or refused: what it returns is used from then on; the sum of the printer bytes so far, and the printer room
+-- (P11)
+pub record Opens (rule : ℕ) (cells layer dots shown : List ℕ) (sum room : ℕ) (r : Played) (cells′ layer′ dots′ shown′ : List ℕ) : Type 0 where
+  pub opens : OpeningPromised rule cells layer dots shown (r .settings) (openingNumber rule (unopened cells layer dots shown)) cells′ layer′ dots′ shown′
   pub sum-is : r .printer ≡ sum
+  pub room-is : r .room ≡ room
 
 -- a call: what is asked, what it was given (terminal, printer buffer), what it returns and leaves
 abbrev pub callOf : Asked → Terminal → List ℕ → Answer → Terminal → List ℕ → Call
 callOf asked given buffer answer left printer = record { asked = asked; given = given; left = left; answer = answer; buffer = buffer; printer = printer }
 
--- a call on t with that printer buffer, and the sum over the printer bytes of all calls, before and after
-pub record Plays (asked : Asked) (t : Terminal) (buffer : List ℕ) (sum sum′ : ℕ) (t′ : Terminal) (printer : List ℕ) : Type 0 where
+-- a call on t with that printer buffer, from p to r: the sum over the printer bytes of all calls; the room stays
+pub record Plays (asked : Asked) (t : Terminal) (buffer : List ℕ) (p r : Played) (t′ : Terminal) (printer : List ℕ) : Type 0 where
   pub plays : Promised (callOf asked t buffer (answerOf t (request asked (length buffer))) t′ printer)
-  pub sum-is : sum′ ≡ adlerFrom sum (printedBy t (request asked (length buffer)))
+  pub sum-is : r .printer ≡ adlerFrom (p .printer) (printedBy t (request asked (length buffer)))
+  pub room-is : r .room ≡ p .room
 
 -- a key call, which is lent no store and prints nothing: what it promises, whatever the stores
-pub record KeyPlayed (key : ℕ) (text : List ℕ) (s s′ : Settings) (sum sum′ : ℕ) : Type 0 where
-  pub plays : KeyPromised key text s (answerOf (terminal s [] [] []) (request (keyText key text) 0)) s′
-  pub sum-is : sum′ ≡ sum
+pub record KeyPlayed (key : ℕ) (text : List ℕ) (p r : Played) : Type 0 where
+  pub plays : KeyPromised key text (p .settings) (answerOf (terminal (p .settings) [] [] [] []) (request (keyText key text) 0)) (r .settings)
+  pub sum-is : r .printer ≡ p .printer
+  pub room-is : r .room ≡ p .room
 
 -- what is handed on of a call that left its printer buffer so: its settings, and the sum with its printer bytes
-pub record Told (sum : ℕ) (out : Outcome) (printer : List ℕ) (r : Played) : Type 0 where
+pub record Told (p : Played) (out : Outcome) (printer : List ℕ) (r : Played) : Type 0 where
   pub settings-are : r .settings ≡ out .settings
-  pub sum-is : r .printer ≡ adlerFrom sum (firstPart (out .answer .printed) printer)
+  pub sum-is : r .printer ≡ adlerFrom (p .printer) (firstPart (out .answer .printed) printer)
+  pub room-is : r .room ≡ p .room

@@ -1,8 +1,9 @@
-// Recordings of calls, read record by record from standard input and played: body length and kind, two bytes each, little-endian, then the
-// body.
+// Recordings of calls, read record by record from standard input and played from an opening by rule 1: body length and kind, two bytes each,
+// little-endian, then the body. Kind 1 is a message, 2 a piece of a stream, 3 its closing, 4 a key text: the key's number, then the text; 7 is an
+// opening, whose body is the rule; 8 the printer room of the calls behind it, two bytes.
 ghost use mathlib.Core.Path.{_≡_};
 ghost use mathlib.Core.List.{[]};
-ghost use Prim.Native.Nat.{_+_, _*_};
+ghost use Prim.Native.Nat.{_+_, _*_, _≤_};
 ghost use Rattle.model.specs.Calls.{Asked, terminal};
 ghost use Rattle.recording.specs.Playing.{KeyPlayed, Opens, Plays, Told};
 use libc::STDIN_FILENO;
@@ -17,10 +18,23 @@ pub enum Record {
     Whole { kind: u16, length: u16 },
 }
 
-// The settings as the last call left them, and the sum of the printer bytes of all calls.
+// The settings as the last call left them, the sum of the printer bytes of all calls, and the printer room of the next.
 pub struct Played {
     pub settings: Settings,
     pub printer: u32,
+    pub room: usize,
+}
+
+// The printer room at first, two copies of the picture, and the most that a record can ask for.
+const ROOM: usize = 1312;
+
+pub const MOST_ROOM: usize = 8192;
+
+// The kind of the next record, and its size with its head of four bytes; size 0 where the recording ends, by a record that is bad or not.
+pub struct Next {
+    pub kind: u16,
+    pub size: usize,
+    pub bad: bool,
 }
 
 // The next record; the start of `body` is its body. Callers lend 65,536 bytes, in which every body fits. It only reads: what comes in
@@ -55,15 +69,136 @@ pub fn little(low: u8, high: u8) -> u16
     (high as u16) * 256 + low as u16
 }
 
-// From an opening by rule 1; no printer bytes yet.
-pub fn open(cells: &mut [u8], layer: &mut [u8], shown: &mut [u8]) -> Played
-    ensures { λ r. ⌜ Opens 1 (now (cells .entry)) (now (layer .entry)) (now (shown .entry)) 1 r (now (cells .exit)) (now (layer .exit)) (now (shown .exit)) ⌝ }
+// The next record, or the recording's end: after its last byte, or at a record that is cut, passes the limit or asks for nothing.
+pub fn next_call(left: usize, body: &mut [u8]) -> Next
+    ensures { λ r. ⌜ (r .size ≤ left) × (r .size ≤ 65539) ⌝ }
 {
-    let opened = terminal::opening(1, cells, layer, shown);
+    match next_record(body) {
+        Record::End => ended(false),
+        Record::Cut => ended(true),
+        Record::Whole { kind, length } => {
+            let size = length as usize + 4;
+            if !asks(kind, length) {
+                return ended(true);
+            }
+            if kind == 8 && room_of(body) > MOST_ROOM {
+                return ended(true);
+            }
+            if size > left {
+                return ended(true);
+            }
+            Next {
+                kind,
+                size,
+                bad: false,
+            }
+        }
+    }
+}
+
+fn ended(bad: bool) -> Next
+    ensures { λ r. ⌜ r .size ≤ 0 ⌝ }
+{
+    Next {
+        kind: 0,
+        size: 0,
+        bad,
+    }
+}
+
+// Whether a record of this kind and length of body asks for something: a closing has no body, a key text a byte at least, an opening one byte, a
+// printer room two.
+fn asks(kind: u16, length: u16) -> bool {
+    match kind {
+        1 | 2 => true,
+        3 => length == 0,
+        4 => length >= 1,
+        7 => length == 1,
+        8 => length == 2,
+        _ => false,
+    }
+}
+
+// What a record asks for, its line with that number; with number 0 it is done with no word. Other kinds than these six never come here, nor a body
+// that is too short for its kind.
+pub fn play(
+    number: u64,
+    kind: u16,
+    played: Played,
+    body: &[u8],
+    cells: &mut [u8],
+    layer: &mut [u8],
+    shown: &mut [u8],
+    dots: &mut [u8],
+    printer: &mut [u8],
+) -> Played {
+    let start: usize = 0;
+    let end = played.room;
+    if end > printer.len() {
+        return played;
+    }
+    match kind {
+        2 => play_piece(
+            number,
+            played,
+            body,
+            cells,
+            layer,
+            shown,
+            dots,
+            &mut printer[start..end],
+        ),
+        3 => play_closing(number, played, cells, layer, shown, dots),
+        4 => play_key_record(number, played, body),
+        7 => play_opening_record(number, played, body, cells, layer, shown, dots),
+        8 => play_room(number, played, body),
+        _ => play_message(
+            number,
+            played,
+            body,
+            cells,
+            layer,
+            shown,
+            dots,
+            &mut printer[start..end],
+        ),
+    }
+}
+
+// A key text: its first byte is the key's number.
+fn play_key_record(number: u64, played: Played, body: &[u8]) -> Played {
+    if body.len() == 0 {
+        return played;
+    }
+    play_key(number, played, body[0], &body[1..])
+}
+
+// An opening: its only byte is the rule.
+fn play_opening_record(
+    number: u64,
+    played: Played,
+    body: &[u8],
+    cells: &mut [u8],
+    layer: &mut [u8],
+    shown: &mut [u8],
+    dots: &mut [u8],
+) -> Played {
+    if body.len() == 0 {
+        return played;
+    }
+    play_opening(number, played, body[0], cells, layer, shown, dots)
+}
+
+// From an opening by rule 1; no printer bytes yet.
+pub fn open(cells: &mut [u8], layer: &mut [u8], shown: &mut [u8], dots: &mut [u8]) -> Played
+    ensures { λ r. ⌜ Opens 1 (now (cells .entry)) (now (layer .entry)) (now (dots .entry)) (now (shown .entry)) 1 1312 r (now (cells .exit)) (now (layer .exit)) (now (dots .exit)) (now (shown .exit)) ⌝ }
+{
+    let opened = terminal::opening(1, cells, layer, shown, dots);
     let settings = opened.settings;
     Played {
         settings,
         printer: 1,
+        room: ROOM,
     }
 }
 
@@ -75,13 +210,14 @@ pub fn play_message(
     cells: &mut [u8],
     layer: &mut [u8],
     shown: &mut [u8],
+    dots: &mut [u8],
     printer: &mut [u8],
 ) -> Played
-    ensures { λ r. ⌜ Plays (Asked.message (now (message .entry))) (terminal (played .settings) (now (cells .entry)) (now (layer .entry)) (now (shown .entry))) (now (printer .entry)) (played .printer) (r .printer) (terminal (r .settings) (now (cells .exit)) (now (layer .exit)) (now (shown .exit))) (now (printer .exit)) ⌝ }
+    ensures { λ r. ⌜ Plays (Asked.message (now (message .entry))) (terminal (played .settings) (now (cells .entry)) (now (layer .entry)) (now (dots .entry)) (now (shown .entry))) (now (printer .entry)) played r (terminal (r .settings) (now (cells .exit)) (now (layer .exit)) (now (dots .exit)) (now (shown .exit))) (now (printer .exit)) ⌝ }
 {
     let before = played.settings;
-    let outcome = terminal::message(before, message, cells, layer, shown, printer);
-    told(number, played.printer, outcome, printer)
+    let outcome = terminal::message(before, message, cells, layer, shown, dots, printer);
+    told(number, played, outcome, printer)
 }
 
 // One piece of a stream, and its line.
@@ -92,13 +228,14 @@ pub fn play_piece(
     cells: &mut [u8],
     layer: &mut [u8],
     shown: &mut [u8],
+    dots: &mut [u8],
     printer: &mut [u8],
 ) -> Played
-    ensures { λ r. ⌜ Plays (Asked.piece (now (piece .entry))) (terminal (played .settings) (now (cells .entry)) (now (layer .entry)) (now (shown .entry))) (now (printer .entry)) (played .printer) (r .printer) (terminal (r .settings) (now (cells .exit)) (now (layer .exit)) (now (shown .exit))) (now (printer .exit)) ⌝ }
+    ensures { λ r. ⌜ Plays (Asked.piece (now (piece .entry))) (terminal (played .settings) (now (cells .entry)) (now (layer .entry)) (now (dots .entry)) (now (shown .entry))) (now (printer .entry)) played r (terminal (r .settings) (now (cells .exit)) (now (layer .exit)) (now (dots .exit)) (now (shown .exit))) (now (printer .exit)) ⌝ }
 {
     let before = played.settings;
-    let outcome = stream::px8_piece(before, piece, cells, layer, shown, printer);
-    told(number, played.printer, outcome, printer)
+    let outcome = stream::px8_piece(before, piece, cells, layer, shown, dots, printer);
+    told(number, played, outcome, printer)
 }
 
 // The closing of a stream, and its line. It is lent no printer buffer.
@@ -108,18 +245,19 @@ pub fn play_closing(
     cells: &mut [u8],
     layer: &mut [u8],
     shown: &mut [u8],
+    dots: &mut [u8],
 ) -> Played
-    ensures { λ r. ⌜ Plays Asked.closing (terminal (played .settings) (now (cells .entry)) (now (layer .entry)) (now (shown .entry))) [] (played .printer) (r .printer) (terminal (r .settings) (now (cells .exit)) (now (layer .exit)) (now (shown .exit))) [] ⌝ }
+    ensures { λ r. ⌜ Plays Asked.closing (terminal (played .settings) (now (cells .entry)) (now (layer .entry)) (now (dots .entry)) (now (shown .entry))) [] played r (terminal (r .settings) (now (cells .exit)) (now (layer .exit)) (now (dots .exit)) (now (shown .exit))) [] ⌝ }
 {
     let before = played.settings;
-    let outcome = stream::px8_closing(before, cells, layer, shown);
+    let outcome = stream::px8_closing(before, cells, layer, shown, dots);
     let none = [0u8; 0];
-    told(number, played.printer, outcome, &none)
+    told(number, played, outcome, &none)
 }
 
 // A key call, and its line: `K answer A`. It is lent no store, and prints nothing.
 pub fn play_key(number: u64, played: Played, key: u8, text: &[u8]) -> Played
-    ensures { λ r. ⌜ KeyPlayed key (now (text .entry)) (played .settings) (r .settings) (played .printer) (r .printer) ⌝ }
+    ensures { λ r. ⌜ KeyPlayed key (now (text .entry)) played r ⌝ }
 {
     let before = played.settings;
     let outcome = terminal::key(before, key as usize, text);
@@ -129,6 +267,7 @@ pub fn play_key(number: u64, played: Played, key: u8, text: &[u8]) -> Played
     Played {
         settings,
         printer: played.printer,
+        room: played.room,
     }
 }
 
@@ -140,41 +279,74 @@ pub fn play_opening(
     cells: &mut [u8],
     layer: &mut [u8],
     shown: &mut [u8],
+    dots: &mut [u8],
 ) -> Played
-    ensures { λ r. ⌜ Opens rule (now (cells .entry)) (now (layer .entry)) (now (shown .entry)) (played .printer) r (now (cells .exit)) (now (layer .exit)) (now (shown .exit)) ⌝ }
+    ensures { λ r. ⌜ Opens rule (now (cells .entry)) (now (layer .entry)) (now (dots .entry)) (now (shown .entry)) (played .printer) (played .room) r (now (cells .exit)) (now (layer .exit)) (now (dots .exit)) (now (shown .exit)) ⌝ }
 {
-    let opened = terminal::opening(rule as usize, cells, layer, shown);
+    let opened = terminal::opening(rule as usize, cells, layer, shown, dots);
     let settings = opened.settings;
     say_short(number, opened.number);
     Played {
         settings,
         printer: played.printer,
+        room: played.room,
     }
 }
 
+// Another printer room from here on, and its line: `K room N`.
+pub fn play_room(number: u64, played: Played, body: &[u8]) -> Played {
+    let room = room_of(body);
+    if number != 0 {
+        report::say_number(b"", number);
+        report::say_number(b" room ", room as u64);
+        report::say(b"\n");
+    }
+    let settings = played.settings;
+    Played {
+        settings,
+        printer: played.printer,
+        room,
+    }
+}
+
+// The two bytes of a printer room; 0 where they are not there.
+fn room_of(body: &[u8]) -> usize {
+    if body.len() < 2 {
+        return 0;
+    }
+    little(body[0], body[1]) as usize
+}
+
 // The line of a call; what it left, and the sum over its printer bytes, is handed on.
-fn told(number: u64, sum: u32, outcome: Outcome, printer: &[u8]) -> Played
-    ensures { λ r. ⌜ Told sum outcome (now (printer .entry)) r ⌝ }
+fn told(number: u64, played: Played, outcome: Outcome, printer: &[u8]) -> Played
+    ensures { λ r. ⌜ Told played outcome (now (printer .entry)) r ⌝ }
 {
     let settings = outcome.settings;
     let answer = outcome.answer;
     say_line(number, answer);
-    let sum = report::adler32(sum, terminal::printed(printer, answer.printed));
+    let sum = report::adler32(played.printer, terminal::printed(printer, answer.printed));
     Played {
         settings,
         printer: sum,
+        room: played.room,
     }
 }
 
-// `K answer A`.
+// `K answer A`; nothing with number 0.
 fn say_short(number: u64, answer: u8) {
+    if number == 0 {
+        return;
+    }
     report::say_number(b"", number);
     report::say_byte(b" answer ", answer);
     report::say(b"\n");
 }
 
-// `K answer A taken T accepted C refused R first F at O printed P parameter N`.
+// `K answer A taken T accepted C refused R first F at O printed P parameter N`; nothing with number 0.
 fn say_line(number: u64, answer: Answer) {
+    if number == 0 {
+        return;
+    }
     report::say_number(b"", number);
     report::say(b" ");
     report::say_answer(answer);

@@ -70,8 +70,9 @@ fn left_by(message: &[u8]) -> Settings {
     let mut cells = [0u8; 3840];
     let mut layer = [0u8; 1280];
     let mut shown = [0u8; 640];
+    let mut dots = [0u8; 3840];
     let mut printer = [0u8; 656];
-    let opened = terminal::opening(1, &mut cells, &mut layer, &mut shown);
+    let opened = terminal::opening(1, &mut cells, &mut layer, &mut shown, &mut dots);
     let settings = opened.settings;
     let outcome = terminal::message(
         settings,
@@ -79,6 +80,7 @@ fn left_by(message: &[u8]) -> Settings {
         &mut cells,
         &mut layer,
         &mut shown,
+        &mut dots,
         &mut printer,
     );
     outcome.settings

@@ -17,6 +17,7 @@ pub fn say_standing(
     cells: &[u8],
     layer: &[u8],
     shown: &[u8; SHOWN],
+    dots: &[u8],
     printer: u32,
 ) {
     let places = settings.places;
@@ -38,6 +39,7 @@ pub fn say_standing(
     say_number(b" patterns ", patterns_sum(&patterns) as u64);
     say_number(b" printer ", printer as u64);
     say_number(b" texts ", texts_sum(&texts) as u64);
+    say_number(b" dots ", adler32(1, dots) as u64);
     say(b"\n");
     say_rows(shown);
 }

@@ -30,7 +30,7 @@ module _ {f : Frame} where
   unfolding stored
   stored-spot {p} {c} {l} {n} b h k =
       stays (record { stands = h .stands; cells-are = length-set c (cellIn f p) b ∙ h .cells-are; layer-are = unmarked-layer n (h .layer-are) refl })
-      (λ s e i. rw (cell-is (state s c l) e i, ← unmark-none (shownHere (state s c l)) l, k .is (state s c l) e i, unmark-none n l))
+      (λ s ds e i. rw (cell-is (state s c l ds) e i, ← unmark-none (shownHere (state s c l ds)) l, k .is (state s c l ds) e i, unmark-none n l))
 
   -- one byte
   printed-spot : {p : Place} {c l : List ℕ} {n : ℕ} (b : ℕ) → Ready f p c l → p .waiting ≡ 0 → p .column < f .columns → Reads lost f p false → Spot f p n
@@ -48,12 +48,12 @@ module _ {f : Frame} where
   chunk-acts [] {p} {c = c} {l = l} {n = n} h w room j i a b d =
       let z : p .column + 0 ≡ p .column = omega arith in
       let y : p ≡ putAt (p .line) (p .column) p = λ o. record { line = p .line; column = p .column; top = p .top; waiting = w o } in
-      rw (a, b, d, z) (subst (λ (o : Place). Acts (printedAll []) f p o c l c l) y (likewise (λ s e k. refl) (still h)))
+      rw (a, b, d, z) (subst (λ (o : Place). Acts (printedAll []) f p o c l c l) y (likewise (λ s ds e k. refl) (still h)))
   chunk-acts (x ∷ xs) {p} {n = n} h w room j i a b d =
       let v = printed-spot x h w (omega arith) j i in
       let z : p .column + suc (length xs) ≡ suc (p .column) + length xs = omega arith in
       let y : cellIn f (putAt (p .line) (suc (p .column)) p) ≡ suc (cellIn f p) = omega (arith, h .stands .fits .column-low) in
-      likewise (λ s e k. refl)
+      likewise (λ s ds e k. refl)
       (then v (chunk-acts xs (v .ready) refl (omega arith) (lost-next (suc (p .column)) j) (spot-next (h .stands .fits .column-low) i) (rw z at a) (rw y b) d))
 
   -- so a part of a message copied to where the cursor stands

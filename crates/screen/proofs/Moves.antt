@@ -58,7 +58,7 @@ module _ {f : Frame} {p : Place} {c l : List ℕ} (h : Ready f p c l) where
   unfolding stored
   stored-acts code {m} {n} a shown b =
       stays (record { stands = h .stands; cells-are = length-set c m code ∙ h .cells-are; layer-are = unmarked-layer n (h .layer-are) b })
-      (λ s e i. rw (cell-is (state s c l) e i, shown (state s c l) e i, a, b))
+      (λ s ds e i. rw (cell-is (state s c l ds) e i, shown (state s c l ds) e i, a, b))
 
 -- P9: a cursor waits in the last column under rule 2, and nowhere else
 waiting-stands : {f : Frame} {p : Place} → Stands f p → f .columns ≤ p .column → f .rule ≡ 2 → Stands f (waitAt p)
@@ -122,4 +122,4 @@ module _ {f : Frame} {p : Place} {c l : List ℕ} where
   -- "other codes do nothing"
   pub no-code : (n : ℕ) → Ready f p c l → (n ≡ 8 → ⊥) → (n ≡ 10 → ⊥) → (n ≡ 13 → ⊥) → (n ≡ 12 → ⊥) → Acts (control n) f p p c l c l
   unfolding control
-  no-code n h a b d e = likewise (λ s i j. rw (ne-eqb n 8 a, ne-eqb n 10 b, ne-eqb n 13 d, ne-eqb n 12 e)) (still h)
+  no-code n h a b d e = likewise (λ s ds i j. rw (ne-eqb n 8 a, ne-eqb n 10 b, ne-eqb n 13 d, ne-eqb n 12 e)) (still h)

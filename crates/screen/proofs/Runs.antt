@@ -105,7 +105,7 @@ pub record Along (m : List ℕ) (f : Frame) (from : ℕ) (p : Place) (c l k : Li
 module _ {m : List ℕ} {f : Frame} {p : Place} {c l k : List ℕ} where
   pub along-none : (from : ℕ) → Ready f p c l → length k ≡ 96 → Along m f from p c l k from p c l k
   unfolding printedAll
-  along-none from r n = record { low = omega arith; acts = let z : from - from ≡ 0 = omega arith in likewise-with (λ s e i j. rw z) (still-with r n) }
+  along-none from r n = record { low = omega arith; acts = let z : from - from ≡ 0 = omega arith in likewise-with (λ s ds e i j. rw z) (still-with r n) }
 
   -- a part of one byte, of as many as stay in the line, behind the step that waited
   module _ {at to : ℕ} {q : Place} {r : Run} {c₀ l₀ k₀ c₁ l₁ k₁ : List ℕ} (w : ActsWith awaited f p q c l k c₀ l₀ k₀) where
@@ -114,7 +114,7 @@ module _ {m : List ℕ} {f : Frame} {p : Place} {c l k : List ℕ} where
     part-one h j e i a = record {
       some = omega arith;
       most = omega arith;
-      acts = let n : r .at - at ≡ 1 = omega (arith, e) in likewise-with (λ s x y z. rw (n, drop-cons m at 0 (omega arith))) (then-with w (rw i at a));
+      acts = let n : r .at - at ≡ 1 = omega (arith, e) in likewise-with (λ s ds x y z. rw (n, drop-cons m at 0 (omega arith))) (then-with w (rw i at a));
     }
 
     pub part-many : {n : ℕ} → 1 ≤ n → at + n ≤ to → to ≤ length m → r .at ≡ at + n → q .column < f .columns → ActsWith (printedAll (take n (drop at m))) f q (r .place) c₀ l₀ k₀ c₁ l₁ k₁ → Part m at to f p r c l k c₁ l₁ k₁
@@ -126,17 +126,17 @@ module _ {m : List ℕ} {f : Frame} {p : Place} {c l k : List ℕ} where
         record {
           some = omega arith;
           most = omega arith;
-          acts = rw z (likewise-with (λ s x y v.
-              let st : State = state (withHere s q k₀) c₀ l₀ in
-              let d : awaited (state s c l) ≡ st = w .does s x y v in
-              awaited-first bs (state s c l) (omega (arith, some)) (ap awaited d ∙ awaited-not st (ap (λ (o : Place). o .waiting) (placed-there q x) ∙ waits-not (w .ready .stands) g) ∙ sym d))
+          acts = rw z (likewise-with (λ s ds x y v.
+              let st : State = state (withHere s q k₀) c₀ l₀ ds in
+              let d : awaited (state s c l ds) ≡ st = w .does s ds x y v in
+              awaited-first bs (state s c l ds) (omega (arith, some)) (ap awaited d ∙ awaited-not st (ap (λ (o : Place). o .waiting) (placed-there q x) ∙ waits-not (w .ready .stands) g) ∙ sym d))
               (then-with w a));
         }
 
   pub along-part : {from at to : ℕ} {q : Place} {r : Run} {c₁ l₁ k₁ c₂ l₂ k₂ : List ℕ} → Along m f from p c l k at q c₁ l₁ k₁ → Part m at to f q r c₁ l₁ k₁ c₂ l₂ k₂ → Along m f from p c l k (r .at) (r .place) c₂ l₂ k₂
   along-part {from} {at} {r = r} a w = record {
     low = omega (arith, a .low, w .some);
-    acts = likewise-with (λ s i j o. rw (bytes-more m from at (r .at) (a .low) (omega (arith, w .some))) (printed-more _ _ _)) (then-with (a .acts) (w .acts));
+    acts = likewise-with (λ s ds i j o. rw (bytes-more m from at (r .at) (a .low) (omega (arith, w .some))) (printed-more _ _ _)) (then-with (a .acts) (w .acts));
   }
 
   pub along-all : {at to : ℕ} {r : Run} {c₁ l₁ k₁ : List ℕ} → WholeRun m at to → r .at ≡ to → Along m f at p c l k (r .at) (r .place) c₁ l₁ k₁ → Ran m at f p r c l k c₁ l₁ k₁

@@ -82,7 +82,7 @@ spot-next {f} {p} {n} low h = record { is = further }
   where
     further : Reads (λ (st : State). min 640 (shownHere st)) f (putAt (p .line) (suc (p .column)) p) (min 640 (suc n))
     further st e i =
-        let s : State = state (withPlace (st .settings) p) (st .cells) (st .layer) in
+        let s : State = state (withPlace (st .settings) p) (st .cells) (st .layer) (st .dots) in
         let e′ = framed-placed p e in
         let i′ = placed-there p e in
         let k : min 640 (shownHere s) ≡ min 640 n = h .is s e′ i′ in

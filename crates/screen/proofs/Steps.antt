@@ -19,7 +19,7 @@ use Rattle.screen.proofs.Rows.{unmark-empty}
 
 -- another place of the same frame
 pub moved : {f : Frame} {p r : Place} → Stands f p → Fits (f .rule) (f .lines) (f .columns) (f .height) r → Stands f r
-moved h k = record { among = h .among; columns-low = h .columns-low; marks-among = h .marks-among; lines-high = h .lines-high; height-low = h .height-low; height-high = h .height-high; step-high = h .step-high; fits = k }
+moved h k = record { among = h .among; columns-low = h .columns-low; marks-among = h .marks-among; lines-high = h .lines-high; height-low = h .height-low; height-high = h .height-high; whole = h .whole; step-high = h .step-high; fits = k }
 
 pub put-stands : {f : Frame} {p r : Place} {line column : ℕ} → Stands f p → 1 ≤ line → line ≤ f .lines → 1 ≤ column → column ≤ f .columns → r ≡ putAt line column p → Stands f r
 put-stands h a b c d k = rw k (moved h (record { line-low = a; line-high = b; column-low = c; column-high = d; top-low = h .fits .top-low; top-high = h .fits .top-high; waits = omega arith }))
@@ -43,7 +43,7 @@ unmarked-layer {l = l} n h k = record { size = ap length k ∙ length-unmark n l
 module _ {f : Frame} {p : Place} {c l : List ℕ} (h : Ready f p c l) where
   pub placed-acts : (r : Place) → Stands f r → Acts (placed r) f p r c l c l
   unfolding placed
-  placed-acts r k = record { does = λ s e i. refl; ready = record { stands = k; cells-are = h .cells-are; layer-are = h .layer-are } }
+  placed-acts r k = record { does = λ s ds e i. refl; ready = record { stands = k; cells-are = h .cells-are; layer-are = h .layer-are } }
 
   -- the cursor in a line and a column of the screen, which the rule has from the place
   pub cursor-acts : (line column : Place → ℕ) {r : Place} → 1 ≤ line p → line p ≤ f .lines → 1 ≤ column p → column p ≤ f .columns → r ≡ putAt (line p) (column p) p
@@ -55,8 +55,8 @@ module _ {f : Frame} {p : Place} {c l : List ℕ} (h : Ready f p c l) where
   unfolding emptied withLayer
   emptied-acts k =
       stays (record { stands = h .stands; cells-are = h .cells-are; layer-are = empty-layer k })
-      (λ s e i. ap (λ (x : List ℕ). state s c x) (sym k))
+      (λ s ds e i. ap (λ (x : List ℕ). state s c x ds) (sym k))
 
   pub cells-acts : (c′ : List ℕ) → length c′ ≡ length c → Acts (withCells c′) f p p c l c′ l
   unfolding withCells
-  cells-acts c′ k = stays (record { stands = h .stands; cells-are = k ∙ h .cells-are; layer-are = h .layer-are }) (λ s e i. refl)
+  cells-acts c′ k = stays (record { stands = h .stands; cells-are = k ∙ h .cells-are; layer-are = h .layer-are }) (λ s ds e i. refl)

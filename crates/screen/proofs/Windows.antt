@@ -1,5 +1,5 @@
 -- The window: where its top goes, worked out from a frame and a place, and turning it there.
-use mathlib.Core.Path.{_∙_, _≡_, ap, sym}
+use mathlib.Core.Path.{_∙_, _≡_, ap, refl, sym}
 use Prim.Native.Nat.{_+_, _-_, _/_, _≤_, max, min, ℕ}
 use native.Mathlib.Omega.{arith}
 use mathlib.Core.Bool.{_&&_, _||_, Bool, cond, false, true}
@@ -12,13 +12,17 @@ use Rattle.model.specs.State.{State, putAt, state, topAt}
 use Rattle.model.specs.Screens.{here}
 use Rattle.model.specs.Rules.{centred, emptied, held, missed, nearest, placed, topped}
 use Rattle.screen.specs.declared.Frame.{Frame}
-use Rattle.screen.specs.Frame.{LayerOf, Stands}
+use Rattle.screen.specs.Frame.{Framed, LayerOf, Stands}
 use Rattle.screen.specs.Acts.{Acts, ActsAbove, Reads, Top, withPlace}
 use Rattle.screen.specs.Here.{earlier, greatest, later, lost}
 use Rattle.screen.proofs.Acting.{at-value, framed-placed, placed-there, still, then, when-false, when-true}
 use Rattle.screen.proofs.Steps.{emptied-acts, here-is, moved, placed-acts}
 
 -- where the top goes
+-- 212
+pub first-top : {f : Frame} {p : Place} → Stands f p → Top (λ (st : State). 1) f p 1
+first-top h = record { is = λ st e i. refl; low = omega arith; high = omega arith }
+
 module _ {f : Frame} {p : Place} {r : ℕ} where
   -- "held in range"
   pub held-top : (t : ℕ) → Stands f p → r ≡ max 1 (min t (f .lines + 1 - f .height)) → Top (held t) f p r
@@ -56,7 +60,7 @@ lost-is st e i = rw (i, ← e .height-is, ← e .tracking-is)
 -- in another column of its line it is as much in the window
 pub lost-next : {f : Frame} {p : Place} {b : Bool} (column : ℕ) → Reads lost f p b → Reads lost f (putAt (p .line) column p) b
 lost-next {p = p} column h st e i =
-    let s : State = state (withPlace (st .settings) p) (st .cells) (st .layer) in
+    let s : State = state (withPlace (st .settings) p) (st .cells) (st .layer) (st .dots) in
     let e′ = framed-placed p e in
     let i′ = placed-there p e in
     lost-is st e i ∙ sym (lost-is s e′ i′) ∙ h s e′ i′
@@ -78,6 +82,13 @@ module _ {f : Frame} {p : Place} (h : Stands f p) {l : List ℕ} (n : LayerOf f 
       (moved h (record { line-low = h .fits .line-low; line-high = h .fits .line-high; column-low = h .fits .column-low; column-high = h .fits .column-high; top-low = low; top-high = high; waits = h .fits .waits })) in
       rw g (when-false _ (top-test t (ne-eqb t (p .top) k))
       (at-value (λ (x : Place) (st : State). emptied (placed (topAt t x) st)) here-is (then a (emptied-acts (a .ready) j))))
+
+-- P11: in mode 3 the window is as tall as the screen, so its top is 1 before and after
+pub topped-whole : {f : Frame} {p : Place} {value : State → ℕ} {t : ℕ} → Stands f p → f .mode ≡ 3 → Top value f p t → (st : State) → Framed (st .settings) f → here st ≡ p → topped (value st) st ≡ st
+unfolding topped
+topped-whole {p = p} {value} {t} h m k st e i =
+    let same : t ≡ p .top = omega (arith, k .low, k .high, h .whole m, h .fits .top-low, h .fits .top-high) in
+    ap (λ (b : Bool). cond b st (emptied (placed (topAt (value st) (here st)) st))) (eq-eqb (value st) (here st .top) (k .is st e i ∙ same ∙ sym (ap (λ (x : Place). x .top) i)))
 
 module _ {f : Frame} {p r : Place} {l l′ : List ℕ} where
   -- a top that is read off what stands

@@ -8,6 +8,7 @@ use Rattle.model.specs.declared.Place.{Place}
 use Rattle.model.specs.declared.Settings.{Settings}
 use Rattle.model.specs.State.{State, state, withMarks, withPlaces}
 use Rattle.model.specs.Screens.{placeOf, here}
+use Rattle.model.specs.Rules.{withDots}
 use Rattle.screen.specs.declared.Frame.{Frame}
 use Rattle.screen.specs.Frame.{Framed, Ready}
 
@@ -15,9 +16,10 @@ use Rattle.screen.specs.Frame.{Framed, Ready}
 abbrev pub withPlace : Settings → Place → Settings
 withPlace s r = withPlaces s (set (s .places) (s .selected) r)
 
--- from place p, cells and layer to place r, cells′ and layer′, as the rule does, and ready for the next; the marks stay
+-- from place p, cells and layer to place r, cells′ and layer′, as the rule does, and ready for the next; the marks stay, and the dots (P11), whatever
+-- they are
 pub record Acts (rule : State → State) (f : Frame) (p r : Place) (cells layer cells′ layer′ : List ℕ) : Type 0 where
-  pub does : (s : Settings) → Framed s f → placeOf s (s .selected) ≡ p → rule (state s cells layer) ≡ state (withPlace s r) cells′ layer′
+  pub does : (s : Settings) (dots : List ℕ) → Framed s f → placeOf s (s .selected) ≡ p → rule (state s cells layer dots) ≡ state (withPlace s r) cells′ layer′ dots
   pub ready : Ready f r cells′ layer′
 
 -- and other marks (P5)
@@ -26,13 +28,17 @@ withHere s r marks = withMarks (withPlace s r) marks
 
 -- the same of a function that is lent the marks as well, from marks to marks′
 pub record ActsWith (rule : State → State) (f : Frame) (p r : Place) (cells layer marks cells′ layer′ marks′ : List ℕ) : Type 0 where
-  pub does : (s : Settings) → Framed s f → placeOf s (s .selected) ≡ p → s .marks ≡ marks → rule (state s cells layer) ≡ state (withHere s r marks′) cells′ layer′
+  pub does : (s : Settings) (dots : List ℕ) → Framed s f → placeOf s (s .selected) ≡ p → s .marks ≡ marks → rule (state s cells layer dots) ≡ state (withHere s r marks′) cells′ layer′ dots
   pub ready : Ready f r cells′ layer′
   pub marks-are : length marks′ ≡ 96
 
 -- the same of a function that is lent the layer alone: the cells stay, whatever they are
 abbrev pub ActsAbove : (State → State) → Frame → Place → Place → List ℕ → List ℕ → Type 0
 ActsAbove rule f p r layer layer′ = (cells : List ℕ) → length cells ≡ 3840 → Acts rule f p r cells layer cells layer′
+
+-- P11: a rule with the dots set aside. 42 and code 12 clear them in mode 3; who is lent the dots does that
+abbrev pub exceptDots : (State → State) → State → State
+exceptDots rule st = withDots (st .dots) (rule st)
 
 -- what is read off what stands, of any settings with that frame and that place
 abbrev pub Reads : {A : Type 0} → (State → A) → Frame → Place → A → Type 0

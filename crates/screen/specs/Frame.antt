@@ -28,8 +28,10 @@ pub record Framed (s : Settings) (f : Frame) : Type 0 where
   pub step-is : f .step ≡ s .step
   pub tracking-is : f .tracking ≡ s .tracking
   pub rule-is : f .rule ≡ s .rule
+  pub mode-is : f .mode ≡ s .mode
 
--- the screen of f lies among the cells and its marks among the marks, its window is no taller than it, and p is a place of it
+-- the screen of f lies among the cells and its marks among the marks, its window is no taller than it and in mode 3 (P11) as tall, and p is a
+-- place of it
 pub record Stands (f : Frame) (p : Place) : Type 0 where
   pub among : f .base + f .lines * f .columns ≤ 3840
   pub columns-low : 1 ≤ f .columns
@@ -37,6 +39,7 @@ pub record Stands (f : Frame) (p : Place) : Type 0 where
   pub lines-high : f .lines ≤ 48
   pub height-low : 2 ≤ f .height
   pub height-high : f .height ≤ f .lines
+  pub whole : f .mode ≡ 3 → f .height ≡ f .lines
   pub step-high : f .step ≤ f .height
   pub fits : Fits (f .rule) (f .lines) (f .columns) (f .height) p
 
@@ -58,4 +61,4 @@ pub record FrameOf (s : Settings) (f : Frame) : Type 0 where
 
 -- what parameters are judged by
 abbrev pub limitsIn : Frame → Limits
-limitsIn f = record { lines = f .lines; columns = f .columns; height = f .height }
+limitsIn f = record { mode = f .mode; lines = f .lines; columns = f .columns; height = f .height }

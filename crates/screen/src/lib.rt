@@ -15,7 +15,7 @@ ghost use mathlib.Core.Path.{_≡_};
 ghost use Prim.Native.Nat.{_+_, _*_, _-_, _<_, min};
 ghost use lib.Dec.{eqb};
 ghost use lib.ListN.{length};
-ghost use mathlib.Core.Bool.{cond, true};
+ghost use mathlib.Core.Bool.{cond, false, true};
 ghost use Rattle.model.specs.Sound.{Sound};
 ghost use Rattle.model.specs.Checks.{InRanges};
 ghost use Rattle.model.specs.Judging.{ranges, legal?};
@@ -23,12 +23,13 @@ ghost use Rattle.model.specs.State.{State, putAt};
 ghost use Rattle.model.specs.Screens.{here};
 ghost use Rattle.model.specs.Rules.{printed, control, placed, right, stored, tracked, trackedFar};
 ghost use Rattle.screen.specs.Frame.{Stands, LayerOf, Ready, FrameOf, limitsIn};
-ghost use Rattle.screen.specs.Acts.{ActsAbove, ActsWith};
+ghost use Rattle.screen.specs.Acts.{ActsAbove, ActsWith, exceptDots};
 ghost use Rattle.model.specs.OnScreen.{onScreen?};
 ghost use Rattle.screen.specs.Obeys.{Obeys};
 
 // Of the selected screen: its first cell, its first mark, its lines and columns; the rows of the shown screen that show text and the window's height H; by
-// how many columns the picture shows it further right (mode 2, screen 2); the step of the window, whether it tracks the cursor, and the rule of the last column.
+// how many columns the picture shows it further right (mode 2, screen 2); the step of the window, whether it tracks the cursor, the rule of the last column, and
+// the mode, which no function here asks.
 // `bare` is no setting: it says that the layer is known to be empty, so that it need not be emptied again.
 pub struct Frame {
     pub base: usize,
@@ -41,6 +42,7 @@ pub struct Frame {
     pub step: u8,
     pub tracking: u8,
     pub rule: u8,
+    pub mode: u8,
     pub bare: bool,
 }
 
@@ -61,6 +63,7 @@ pub fn frame_of(settings: Settings, bare: bool) -> Frame
             step: settings.step,
             tracking: settings.tracking,
             rule: settings.rule,
+            mode: settings.mode,
             bare,
         }
     } else {
@@ -75,6 +78,7 @@ pub fn frame_of(settings: Settings, bare: bool) -> Frame
             step: settings.step,
             tracking: settings.tracking,
             rule: settings.rule,
+            mode: settings.mode,
             bare,
         }
     }
@@ -115,7 +119,8 @@ fn print_here(
     window::track(frame, next, layer)
 }
 
-// A control code: 8 one column back, 10 one line down, 13 to column 1, 12 as ESC 42; other codes do nothing.
+// A control code: 8 one column back, 10 one line down, 13 to column 1, 12 as ESC 42; other codes do nothing. The dots, which 12 clears in mode 3,
+// are not lent here.
 pub fn control(
     frame: Frame,
     place: Place,
@@ -126,7 +131,7 @@ pub fn control(
 ) -> Place
     requires { ⌜ Ready frame place (now cells) (now layer) ⌝ }
     requires { ⌜ length (now marks) ≡ 96 ⌝ }
-    ensures { λ r. ⌜ ActsWith (control code) frame place r (now (cells .entry)) (now (layer .entry)) (now (marks .entry)) (now (cells .exit)) (now (layer .exit)) (now (marks .exit)) ⌝ }
+    ensures { λ r. ⌜ ActsWith (exceptDots (control code)) frame place r (now (cells .entry)) (now (layer .entry)) (now (marks .entry)) (now (cells .exit)) (now (layer .exit)) (now (marks .exit)) ⌝ }
 {
     match code {
         8 => {
@@ -146,7 +151,9 @@ pub fn control(
     }
 }
 
-// An accepted sequence that acts on the selected screen alone. Any other leaves all as it is.
+// An accepted sequence that acts on the selected screen alone. Any other leaves all as it is. The five that turn the window are idle in mode 3: there
+// the window is as tall as the screen, so that they find its top where they would put it, and no mode is asked. The dots, which 42 clears in mode 3,
+// are not lent here.
 pub fn act(
     frame: Frame,
     place: Place,

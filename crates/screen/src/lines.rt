@@ -16,7 +16,7 @@ ghost use Rattle.model.specs.Screens.{columnsHere, here, linesHere};
 ghost use Rattle.model.specs.Marks.{endOf};
 ghost use Rattle.model.specs.Rules.{blankFrom, cleared, erased, lifted, marksHere, onLines, shifted};
 ghost use Rattle.screen.specs.Frame.{Ready, Stands};
-ghost use Rattle.screen.specs.Acts.{Acts, ActsWith};
+ghost use Rattle.screen.specs.Acts.{Acts, ActsWith, exceptDots};
 ghost use Rattle.screen.specs.Here.{cellIn};
 ghost use Rattle.screen.specs.Logical.{carried};
 
@@ -89,7 +89,7 @@ pub(crate) fn shift(
     logical::unmark_ends(frame, from, count, marks);
 }
 
-// 42: "blanks the screen, cursor home, top 1, layer empty"; its marks are cleared.
+// 42: "blanks the screen, cursor home, top 1, layer empty"; its marks are cleared. The dots are not lent here.
 pub(crate) fn clear(
     frame: Frame,
     place: Place,
@@ -99,7 +99,7 @@ pub(crate) fn clear(
 ) -> Place
     requires { ⌜ Ready frame place (now cells) (now layer) ⌝ }
     requires { ⌜ length (now marks) ≡ 96 ⌝ }
-    ensures { λ r. ⌜ ActsWith cleared frame place r (now (cells .entry)) (now (layer .entry)) (now (marks .entry)) (now (cells .exit)) (now (layer .exit)) (now (marks .exit)) ⌝ }
+    ensures { λ r. ⌜ ActsWith (exceptDots cleared) frame place r (now (cells .entry)) (now (layer .entry)) (now (marks .entry)) (now (cells .exit)) (now (layer .exit)) (now (marks .exit)) ⌝ }
 {
     store::blank(cells, frame.base, times(frame.lines, frame.columns));
     marks::empty(frame, layer);

@@ -28,23 +28,24 @@ use Rattle.serving.specs.Counting.{answerAt, countsWith, noCounts}
 use Rattle.serving.specs.Serves.{Serves}
 
 -- counting an item is counting it
-counted-at : (i : Item) (n at : ℕ) (c : Counts) → counted i at (answerAt n c) ≡ answerAt n (countsWith i at c)
-counted-at (Printed b) n at c = refl
-counted-at (Control b) n at c = refl
-counted-at (Sequence q) n at c = refl
-counted-at (Refused k p) n at c = refl
+module _ (mode : ℕ) where
+  counted-at : (i : Item) (n at : ℕ) (c : Counts) → counted i at (printerBytes mode i) (answerAt n c) ≡ answerAt n (countsWith mode i at c)
+  counted-at (Printed b) n at c = refl
+  counted-at (Control b) n at c = refl
+  counted-at (Sequence q) n at c = refl
+  counted-at (Refused k p) n at c = refl
 
-printed-with : (i : Item) (at : ℕ) (c : Counts) → countsWith i at c .printed ≡ c .printed + printerBytes i
-printed-with (Printed b) at c = omega arith
-printed-with (Control b) at c = omega arith
-printed-with (Sequence q) at c = refl
-printed-with (Refused k p) at c = omega arith
+  printed-with : (i : Item) (at : ℕ) (c : Counts) → countsWith mode i at c .printed ≡ c .printed + printerBytes mode i
+  printed-with (Printed b) at c = omega arith
+  printed-with (Control b) at c = omega arith
+  printed-with (Sequence q) at c = refl
+  printed-with (Refused k p) at c = omega arith
 
-counts-few : (i : Item) (at : ℕ) (c : Counts) → countsWith i at c .accepted + countsWith i at c .refused ≤ c .accepted + c .refused + 1
-counts-few (Printed b) at c = omega arith
-counts-few (Control b) at c = omega arith
-counts-few (Sequence q) at c = omega arith
-counts-few (Refused k p) at c = omega arith
+  counts-few : (i : Item) (at : ℕ) (c : Counts) → countsWith mode i at c .accepted + countsWith mode i at c .refused ≤ c .accepted + c .refused + 1
+  counts-few (Printed b) at c = omega arith
+  counts-few (Control b) at c = omega arith
+  counts-few (Sequence q) at c = omega arith
+  counts-few (Refused k p) at c = omega arith
 
 -- the message m, what stood at first and the printer buffer as it came
 module _ (m : List ℕ) (first : State) (buffer : List ℕ) where
@@ -79,32 +80,36 @@ module _ (m : List ℕ) (first : State) (buffer : List ℕ) where
     abbrev room : ℕ
     room = length buffer - c .printed
 
+    -- the mode that it is read in
+    abbrev mode : ℕ
+    mode = st .settings .mode
+
     abbrev item : Item
     item = judged (itemOf at (ownBytes m at)) (limitsOf (st .settings)) room
 
     -- an item obeyed, counted, and its copy printed behind those before
     Turned : Item → Type 0
-    Turned i = (size : ℕ) (st′ : State) (printer′ : List ℕ) → size ≡ length (ownBytes m at) → at + size ≤ length m → legalItem? i (limitsOf (st .settings)) ≡ true → 1 ≤ size → printerBytes i ≤ room
-        → st′ ≡ applyItem (λ o. getD m o 0) i st → printer′ ≡ put (c .printed) (copyOf i st) printer → Going (at + size) st′ (countsWith i at c) printer′
+    Turned i = (size : ℕ) (st′ : State) (printer′ : List ℕ) → size ≡ length (ownBytes m at) → at + size ≤ length m → legalItem? i (limitsOf (st .settings)) ≡ true → 1 ≤ size → printerBytes mode i ≤ room
+        → st′ ≡ applyItem (λ o. getD m o 0) i st → printer′ ≡ put (c .printed) (copyOf i st) printer → Going (at + size) st′ (countsWith mode i at c) printer′
 
     turned : Turned item
     unfolding readAt Turned
     turned size st′ printer′ n inside legal some roomy e w =
         let ys : List ℕ = copyOf item st in
-        let k : length ys ≡ printerBytes item = length-copy item st in
-        let p : countsWith item at c .printed ≡ c .printed + length ys = printed-with item at c ∙ ap (λ (x : ℕ). c .printed + x) (sym k) in
+        let k : length ys ≡ printerBytes mode item = length-copy item st in
+        let p : countsWith mode item at c .printed ≡ c .printed + length ys = printed-with mode item at c ∙ ap (λ (x : ℕ). c .printed + x) (sym k) in
         let here : obeyedBy (readAt m at st room) st ≡ st′ = obeyed-in-message m at st room ∙ sym e in
-        let left : room - printerBytes item ≡ length buffer - countsWith item at c .printed = omega (arith, printed-with item at c) in
+        let left : room - printerBytes mode item ≡ length buffer - countsWith mode item at c .printed = omega (arith, printed-with mode item at c) in
         let fit : c .printed + length ys ≤ length printer = omega (arith, g .same-size, g .fits) in
-        let tail : List ℕ = prints m (at + size) st′ (length buffer - countsWith item at c .printed) in
+        let tail : List ℕ = prints m (at + size) st′ (length buffer - countsWith mode item at c .printed) in
         record {
           reached = inside;
           good = subst Good (sym e) (obeyed-item (λ o. getD m o 0) item st (g .good) legal .good);
-          few = omega (arith, counts-few item at c, g .few);
-          fits = omega (arith, printed-with item at c, g .fits);
+          few = omega (arith, counts-few mode item at c, g .few);
+          fits = omega (arith, printed-with mode item at c, g .fits);
           same-size = ap length w ∙ length-put (c .printed) ys printer fit ∙ g .same-size;
           state-left = sym (ends-turn m at st room more ∙ (λ i. ends m (at + sym n i) (here i) (left i))) ∙ g .state-left;
-          answer-left = sym (answers-turn m at st room (answerAt (length m) c) more ∙ (λ i. answers m (at + sym n i) (here i) (left i) (counted-at item (length m) at c i))) ∙ g .answer-left;
+          answer-left = sym (answers-turn m at st room (answerAt (length m) c) more ∙ (λ i. answers m (at + sym n i) (here i) (left i) (counted-at mode item (length m) at c i))) ∙ g .answer-left;
           printed-done =
               (λ i. take (p i) (w i) ++ tail) ∙ ap (λ (l : List ℕ). l ++ tail) (put-front (c .printed) ys printer fit) ∙ append-assoc (take (c .printed) printer) ys tail
               ∙ ap (λ (l : List ℕ). take (c .printed) printer ++ l) (sym (prints-turn m at st room more ∙ (λ i. ys ++ prints m (at + sym n i) (here i) (left i)))) ∙ g .printed-done;
@@ -117,14 +122,14 @@ module _ (m : List ℕ) (first : State) (buffer : List ℕ) where
         further p n xs = sym (drop-drop n p xs)
 
     -- the item that is read at the offset
-    pub turn : (i : Item) → i ≡ item → (size : ℕ) (st′ : State) (printer′ : List ℕ) → size ≡ length (ownBytes m at) → at + size ≤ length m → legalItem? i (limitsOf (st .settings)) ≡ true → 1 ≤ size → printerBytes i ≤ room
-        → st′ ≡ applyItem (λ o. getD m o 0) i st → printer′ ≡ put (c .printed) (copyOf i st) printer → Going (at + size) st′ (countsWith i at c) printer′
+    pub turn : (i : Item) → i ≡ item → (size : ℕ) (st′ : State) (printer′ : List ℕ) → size ≡ length (ownBytes m at) → at + size ≤ length m → legalItem? i (limitsOf (st .settings)) ≡ true → 1 ≤ size → printerBytes mode i ≤ room
+        → st′ ≡ applyItem (λ o. getD m o 0) i st → printer′ ≡ put (c .printed) (copyOf i st) printer → Going (at + size) st′ (countsWith mode i at c) printer′
     unfolding Turned
     turn i e = subst Turned (sym e) turned
 
   -- the end
-  pub finish : (at : ℕ) (st : State) (c : Counts) (printer : List ℕ) → Going at st c printer → length m ≤ at → (r : Outcome) {shown : List ℕ} → state (r .settings) (st .cells) (st .layer) ≡ st → r .answer ≡ answerAt at c
-      → shown ≡ painting (state (r .settings) (st .cells) (st .layer)) → Serves m first buffer r (st .cells) (st .layer) shown printer
+  pub finish : (at : ℕ) (st : State) (c : Counts) (printer : List ℕ) → Going at st c printer → length m ≤ at → (r : Outcome) {shown : List ℕ} → state (r .settings) (st .cells) (st .layer) (st .dots) ≡ st → r .answer ≡ answerAt at c
+      → shown ≡ painting (state (r .settings) (st .cells) (st .layer) (st .dots)) → Serves m first buffer r (st .cells) (st .layer) (st .dots) shown printer
   unfolding rest ends answers prints applyAll countedAll copies written
   finish at st c printer g h r e a w =
       let end : at ≡ length m = omega (arith, g .reached) in

@@ -3,3 +3,4 @@ pub mod Runs
 pub mod Acted
 pub mod Turns
 pub mod Layers
+pub mod Wiping

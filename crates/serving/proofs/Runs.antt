@@ -15,7 +15,7 @@ use Rattle.model.specs.declared.Item.the-variants.{Control, Printed, Refused, S
 use Rattle.model.specs.declared.Sequence.the-variants.{Select}
 use Rattle.model.specs.declared.Limits.{Limits}
 use Rattle.model.specs.State.{State}
-use Rattle.model.specs.Picture.{copySize}
+use Rattle.model.specs.Picture.{copySizeOf}
 use Rattle.model.specs.Sequences.{Row, codeOf, modeRowOf, modeRows, refusal, rowOf, rows}
 use Rattle.model.specs.Judging.{allowed, badOf, fitting, judged, legal?}
 use Rattle.model.specs.Reading.{afterEscape, decoded, ended, itemOf, kindOf, needed, ownBytes, unfinished?}
@@ -77,8 +77,8 @@ unfolding allowed fitting
 still-none (Printed c) s n h = h
 still-none (Control c) s n h = refl
 still-none (Sequence q) s n h =
-    cond-at (λ (i : Item). printed? (fitting i n) ≡ false) (legal? q s) (Sequence q) (Refused 11 (badOf q s))
-    (λ e. cond-at (λ (i : Item). printed? i ≡ false) (eqb (codeOf q) 80 && ltb n copySize) (Refused 13 0) (Sequence q) (λ f. refl) (λ f. refl)) (λ e. refl)
+    cond-at (λ (i : Item). printed? (fitting (s .mode) i n) ≡ false) (legal? q s) (Sequence q) (Refused 11 (badOf q s))
+    (λ e. cond-at (λ (i : Item). printed? i ≡ false) (eqb (codeOf q) 80 && ltb n (copySizeOf (s .mode))) (Refused 13 0) (Sequence q) (λ f. refl) (λ f. refl)) (λ e. refl)
 still-none (Refused k p) s n h = refl
 
 module _ (m : List ℕ) (at : ℕ) (more : at < length m) where

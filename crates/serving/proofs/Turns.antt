@@ -1,5 +1,5 @@
--- The loop's invariant over its own variables, and its turns: a run of printed bytes, another item of the selected screen, and an item
--- that does not stay there. Each takes what the functions that the turn calls ensure. What stands is the settings with the place and the marks
+-- The loop's invariant over its own variables, and its turns: a run of printed bytes, another item of the selected screen, an idle item that does not
+-- stay there, and one that is obeyed. Each takes what the functions that the turn calls ensure. What stands is the settings with the place and the marks
 -- that are kept beside them.
 use mathlib.Core.Path.{_∙_, _≡_, ap, refl, subst, sym}
 use Prim.Native.Nat.{_+_, _-_, _^_, _<_, _≤_, ℕ}
@@ -23,7 +23,7 @@ use Rattle.model.specs.Sound.{Good}
 use Rattle.model.specs.Judging.{allowed, judged, legalItem?, limitsOf}
 use Rattle.model.specs.Picture.{copied, painting}
 use Rattle.model.specs.Reading.{itemOf, ownBytes}
-use Rattle.model.specs.Rules.{applyItem}
+use Rattle.model.specs.Rules.{applyItem, withDots}
 use Rattle.model.specs.Sequences.{codeOf}
 use Rattle.model.specs.Items.{copyOf, printerBytes}
 use Rattle.model.specs.OnScreen.{onScreen?, onScreenCodes, staysOnScreen?}
@@ -42,12 +42,13 @@ use Rattle.screen.proofs.Carried.{carried-here, framed-here, same-here}
 use Rattle.screen.proofs.Frames.{limits-are}
 use Rattle.serving.specs.declared.Counts.{Counts}
 use Rattle.serving.specs.Counting.{Countable, answerAt, countsWith, noCounts}
-use Rattle.serving.specs.Acting.{Applied, Applying, Moves, Offered, applied, bareThen, printed?}
+use Rattle.serving.specs.Acting.{Applied, Applying, Moves, Offered, applied, bareThen, dotsThen, idleItem?, printed?}
 use Rattle.serving.specs.Serves.{Servable, Serves}
 use Rattle.serving.proofs.Going.{Going, finish, start, turn}
 use Rattle.store.proofs.Laws.{put-none}
 use Rattle.serving.proofs.Runs.{begins, run}
 use Rattle.serving.proofs.Layers.{bare-left}
+use Rattle.serving.proofs.Wiping.{away-spares, idle-leaves, printed-spares, stays-dots}
 
 -- an item of the selected screen is no copy
 stays-unprinted : (i : Item) (st : State) → staysOnScreen? i ≡ true → copyOf i st ≡ []
@@ -59,17 +60,17 @@ stays-unprinted (Sequence q) st h =
 stays-unprinted (Refused n p) st h = refl
 
 -- a printed byte counts nothing, and nothing more is known of the layer after it
-printed-counts : (i : Item) (at : ℕ) (c : Counts) → printed? i ≡ true → countsWith i at c ≡ c
-printed-counts (Printed b) at c h = refl
-printed-counts (Control d) at c h = absurd (differ (sym h))
-printed-counts (Sequence q) at c h = absurd (differ (sym h))
-printed-counts (Refused n p) at c h = absurd (differ (sym h))
+printed-counts : (mode : ℕ) (i : Item) (at : ℕ) (c : Counts) → printed? i ≡ true → countsWith mode i at c ≡ c
+printed-counts mode (Printed b) at c h = refl
+printed-counts mode (Control d) at c h = absurd (differ (sym h))
+printed-counts mode (Sequence q) at c h = absurd (differ (sym h))
+printed-counts mode (Refused n p) at c h = absurd (differ (sym h))
 
-printed-bare : (i : Item) (b : Bool) → printed? i ≡ true → bareThen i b ≡ b
-printed-bare (Printed c) b h = refl
-printed-bare (Control c) b h = absurd (differ (sym h))
-printed-bare (Sequence q) b h = absurd (differ (sym h))
-printed-bare (Refused n p) b h = absurd (differ (sym h))
+printed-bare : (mode : ℕ) (i : Item) (b : Bool) → printed? i ≡ true → bareThen mode i b ≡ b
+printed-bare mode (Printed c) b h = refl
+printed-bare mode (Control c) b h = absurd (differ (sym h))
+printed-bare mode (Sequence q) b h = absurd (differ (sym h))
+printed-bare mode (Refused n p) b h = absurd (differ (sym h))
 
 -- an item that does not stay is no printed byte
 away : (i : Item) → staysOnScreen? i ≡ false → printed? i ≡ false
@@ -78,9 +79,14 @@ away (Control c) h = refl
 away (Sequence q) h = refl
 away (Refused n p) h = refl
 
+-- what stands, known with its dots set aside, and its dots
+redotted : (st : State) {s : Settings} {cells layer dots dots′ : List ℕ} → withDots dots st ≡ state s cells layer dots → st .dots ≡ dots′ → st ≡ state s cells layer dots′
+unfolding withDots
+redotted st e h = λ i. record { settings = e i .settings; cells = e i .cells; layer = e i .layer; dots = h i }
+
 -- a frame that says otherwise of the layer
 abbrev bared : Frame → Bool → Frame
-bared f b = record { base = f .base; first = f .first; lines = f .lines; columns = f .columns; rows = f .rows; height = f .height; shift = f .shift; step = f .step; tracking = f .tracking; rule = f .rule; bare = b }
+bared f b = record { base = f .base; first = f .first; lines = f .lines; columns = f .columns; rows = f .rows; height = f .height; shift = f .shift; step = f .step; tracking = f .tracking; rule = f .rule; mode = f .mode; bare = b }
 
 framed-bared : {s : Settings} {f : Frame} (b : Bool) → Framed s f → Framed s (bared f b)
 framed-bared b e = record {
@@ -96,28 +102,29 @@ framed-bared b e = record {
   step-is = e .step-is;
   tracking-is = e .tracking-is;
   rule-is = e .rule-is;
+  mode-is = e .mode-is;
 }
 
 ready-bared : {f : Frame} {p : Place} {c l : List ℕ} (b : Bool) → Ready f p c l → (b ≡ true → l ≡ replicate 1280 0) → Ready (bared f b) p c l
 ready-bared b h k = let d = h .stands in record {
-  stands = record { among = d .among; columns-low = d .columns-low; marks-among = d .marks-among; lines-high = d .lines-high; height-low = d .height-low; height-high = d .height-high; step-high = d .step-high; fits = d .fits };
+  stands = record { among = d .among; columns-low = d .columns-low; marks-among = d .marks-among; lines-high = d .lines-high; height-low = d .height-low; height-high = d .height-high; whole = d .whole; step-high = d .step-high; fits = d .fits };
   cells-are = h .cells-are;
   layer-are = record { size = h .layer-are .size; empty = k };
 }
 
-module _ (m cells₀ layer₀ printer₀ : List ℕ) (s₀ : Settings) where
-  pub record Loop (cells layer printer : List ℕ) (s : Settings) (p : Place) (marks : List ℕ) (f : Frame) (c : Counts) (at : ℕ) : Type 0 where
-    pub going : Going m (state s₀ cells₀ layer₀) printer₀ at (state (withHere s p marks) cells layer) c printer
+module _ (m cells₀ layer₀ dots₀ printer₀ : List ℕ) (s₀ : Settings) where
+  pub record Loop (cells layer dots printer : List ℕ) (s : Settings) (p : Place) (marks : List ℕ) (f : Frame) (c : Counts) (at : ℕ) : Type 0 where
+    pub going : Going m (state s₀ cells₀ layer₀ dots₀) printer₀ at (state (withHere s p marks) cells layer dots) c printer
     pub framed : Framed s f
     pub ready : Ready f p cells layer
     pub short : length m ≤ 4096
 
-  pub begin : {f : Frame} {p : Place} {b : Bool} → {shown₀ : List ℕ} → Servable s₀ m cells₀ layer₀ shown₀ → (FrameOf s₀ f) × (f .bare ≡ b) → (b ≡ true → layer₀ ≡ replicate (length layer₀) 0) → p ≡ placeOf s₀ (s₀ .selected)
-      → {c : Counts} → c ≡ noCounts → Loop cells₀ layer₀ printer₀ s₀ p (s₀ .marks) f c 0
+  pub begin : {f : Frame} {p : Place} {b : Bool} → {shown₀ : List ℕ} → Servable s₀ m cells₀ layer₀ dots₀ shown₀ → (FrameOf s₀ f) × (f .bare ≡ b) → (b ≡ true → layer₀ ≡ replicate (length layer₀) 0) → p ≡ placeOf s₀ (s₀ .selected)
+      → {c : Counts} → c ≡ noCounts → Loop cells₀ layer₀ dots₀ printer₀ s₀ p (s₀ .marks) f c 0
   begin {p = p} v f k h e = record {
-    going = subst (λ x. Going m (state s₀ cells₀ layer₀) printer₀ 0 (state (withHere s₀ p (s₀ .marks)) cells₀ layer₀) x printer₀) (sym e)
-        (subst (λ (x : Settings). Going m (state s₀ cells₀ layer₀) printer₀ 0 (state x cells₀ layer₀) noCounts printer₀) (sym (same-here s₀ p (s₀ .marks) (sym h) refl))
-        (start m (state s₀ cells₀ layer₀) printer₀ (v .good)));
+    going = subst (λ x. Going m (state s₀ cells₀ layer₀ dots₀) printer₀ 0 (state (withHere s₀ p (s₀ .marks)) cells₀ layer₀ dots₀) x printer₀) (sym e)
+        (subst (λ (x : Settings). Going m (state s₀ cells₀ layer₀ dots₀) printer₀ 0 (state x cells₀ layer₀ dots₀) noCounts printer₀) (sym (same-here s₀ p (s₀ .marks) (sym h) refl))
+        (start m (state s₀ cells₀ layer₀ dots₀) printer₀ (v .good)));
     framed = f .0 .framed;
     ready = record {
       stands = subst (Stands _) (sym h) (f .0 .stands);
@@ -127,16 +134,20 @@ module _ (m cells₀ layer₀ printer₀ : List ℕ) (s₀ : Settings) where
     short = v .short;
   }
 
-  module _ {cells layer printer : List ℕ} {s : Settings} {p : Place} {marks : List ℕ} {f : Frame} {c : Counts} {at : ℕ} (g : Loop cells layer printer s p marks f c at) where
+  module _ {cells layer dots printer : List ℕ} {s : Settings} {p : Place} {marks : List ℕ} {f : Frame} {c : Counts} {at : ℕ} (g : Loop cells layer dots printer s p marks f c at) where
     -- what stands
     abbrev st : State
-    st = state (withHere s p marks) cells layer
+    st = state (withHere s p marks) cells layer dots
 
     pub marks-are : length marks ≡ 96
     marks-are = marks-96 st (g .going .good)
 
     limits : limitsIn f ≡ limitsOf (withHere s p marks)
     limits = sym (limits-are (framed-here p marks (g .framed)))
+
+    -- the mode that it is read in
+    in-mode : f .mode ≡ s .mode
+    in-mode = g .framed .mode-is
 
     module _ (more : at < length m) (r : Reading) (w : ReadAt m at (limitsIn f) (length printer - c .printed) r) where
       abbrev rule : State → State
@@ -148,20 +159,23 @@ module _ (m cells₀ layer₀ printer₀ : List ℕ) (s₀ : Settings) where
       legal : legalItem? (r .item) (limitsOf (withHere s p marks)) ≡ true
       legal = subst (λ (l : Limits). legalItem? (r .item) l ≡ true) limits (w .legal)
 
-      pub roomy : c .printed + printerBytes (r .item) ≤ length printer
+      pub roomy : c .printed + printerBytes (f .mode) (r .item) ≤ length printer
       roomy =
-          let h : printerBytes (r .item) ≤ length printer - c .printed = subst (λ (i : Item). printerBytes i ≤ length printer - c .printed) (sym (w .item-is)) (fits-room (allowed (itemOf at (ownBytes m at)) (limitsIn f)) (length printer - c .printed)) in
+          let h : printerBytes (f .mode) (r .item) ≤ length printer - c .printed = subst (λ (i : Item). printerBytes (f .mode) i ≤ length printer - c .printed) (sym (w .item-is)) (fits-room (f .mode) (allowed (itemOf at (ownBytes m at)) (limitsIn f)) (length printer - c .printed)) in
           omega (arith, h, g .going .fits, g .going .same-size)
 
-      pub countable : length printer < 2 ^ 64 → Countable c (r .item) at
+      roomy-here : c .printed + printerBytes (s .mode) (r .item) ≤ length printer
+      roomy-here = subst (λ (k : ℕ). c .printed + printerBytes k (r .item) ≤ length printer) in-mode roomy
+
+      pub countable : length printer < 2 ^ 64 → Countable c (f .mode) (r .item) at
       countable h = record { few = omega (arith, g .going .few, g .short, more); near = omega (arith, g .short, more); roomy = omega (arith, roomy) }
 
       -- an item obeyed, by whatever it came about
-      obeyed : {cells′ layer′ printer′ : List ℕ} {s′ : Settings} {p′ : Place} {marks′ : List ℕ} {f′ : Frame} → Framed s′ f′ → Ready f′ p′ cells′ layer′ → state (withHere s′ p′ marks′) cells′ layer′ ≡ rule st
-          → printer′ ≡ put (c .printed) (copyOf (r .item) st) printer → {c′ : Counts} → c′ ≡ countsWith (r .item) at c → Loop cells′ layer′ printer′ s′ p′ marks′ f′ c′ (at + r .length)
-      obeyed {cells′} {layer′} {printer′} {s′} {p′} {marks′} h d e q k = record {
-        going = subst (λ (x : Counts). Going m (state s₀ cells₀ layer₀) printer₀ (at + r .length) (state (withHere s′ p′ marks′) cells′ layer′) x printer′) (sym k)
-            (turn m (state s₀ cells₀ layer₀) printer₀ at st c printer (g .going) more (r .item) is-item (r .length) _ _ (w .length-is) (w .inside) legal (w .some) (omega (arith, roomy, g .going .same-size)) e q);
+      obeyed : {cells′ layer′ dots′ printer′ : List ℕ} {s′ : Settings} {p′ : Place} {marks′ : List ℕ} {f′ : Frame} → Framed s′ f′ → Ready f′ p′ cells′ layer′ → state (withHere s′ p′ marks′) cells′ layer′ dots′ ≡ rule st
+          → printer′ ≡ put (c .printed) (copyOf (r .item) st) printer → {c′ : Counts} → c′ ≡ countsWith (f .mode) (r .item) at c → Loop cells′ layer′ dots′ printer′ s′ p′ marks′ f′ c′ (at + r .length)
+      obeyed {cells′} {layer′} {dots′} {printer′} {s′} {p′} {marks′} h d e q k = record {
+        going = subst (λ (x : Counts). Going m (state s₀ cells₀ layer₀ dots₀) printer₀ (at + r .length) (state (withHere s′ p′ marks′) cells′ layer′ dots′) x printer′) (sym (k ∙ ap (λ (n : ℕ). countsWith n (r .item) at c) in-mode))
+            (turn m (state s₀ cells₀ layer₀ dots₀) printer₀ at st c printer (g .going) more (r .item) is-item (r .length) _ _ (w .length-is) (w .inside) legal (w .some) (omega (arith, roomy-here, g .going .same-size)) e q);
         framed = h;
         ready = d;
         short = g .short;
@@ -179,34 +193,45 @@ module _ (m cells₀ layer₀ printer₀ : List ℕ) (s₀ : Settings) where
         prints = λ h. begins m at more (limitsIn f) (length printer - c .printed) (subst (λ (i : Item). printed? i ≡ true) (w .item-is) h);
       }
 
-      -- what the item did on the selected screen, what is known of the layer then, and the counts
-      module _ {v : Run} {cells₁ layer₁ marks₁ : List ℕ} (d : Moves m at (r .length) (r .item) f p v cells layer marks cells₁ layer₁ marks₁) {b : Bool} (t : b ≡ bareThen (r .item) (f .bare)) {c′ : Counts} (k : c′ ≡ countsWith (r .item) at c) where
+      -- what an item did on the selected screen, what is known of the layer then, the dots, and the counts
+      module _ {v : Run} {cells₁ layer₁ marks₁ dots₁ : List ℕ} (d : Moves m at (r .length) (r .item) f p v cells layer marks cells₁ layer₁ marks₁) {b : Bool} (t : b ≡ bareThen (f .mode) (r .item) (f .bare)) (y : dots₁ ≡ dotsThen (f .mode) (r .item) dots) {c′ : Counts} (k : c′ ≡ countsWith (f .mode) (r .item) at c) where
         abbrev Next : ℕ → Type 0
-        Next at′ = Loop cells₁ layer₁ printer s (v .place) marks₁ (bared f b) c′ at′
+        Next at′ = Loop cells₁ layer₁ dots₁ printer s (v .place) marks₁ (bared f b) c′ at′
+
+        -- by the mode of the settings
+        bare-here : b ≡ bareThen (s .mode) (r .item) (f .bare)
+        bare-here = t ∙ ap (λ (n : ℕ). bareThen n (r .item) (f .bare)) in-mode
+
+        wiped : dots₁ ≡ dotsThen (s .mode) (r .item) dots
+        wiped = y ∙ ap (λ (n : ℕ). dotsThen n (r .item) dots) in-mode
 
         ran : printed? (r .item) ≡ true → Next (v .at)
         ran h =
             let u = d .run h in
             let q = u .run .printing in
             let n : at + (v .at - at) ≡ v .at = omega (arith, q .some) in
-            let g₂ = run m (state s₀ cells₀ layer₀) printer₀ (v .at - at) at st c printer (g .going) (omega (arith, n, q .inside)) (λ j x y. q .print j x (omega (arith, n, y))) in
-            let g₃ = subst (λ (x : State). Going m (state s₀ cells₀ layer₀) printer₀ (v .at) x c printer) (carried-here (g .framed) (u .acts))
-            (subst (λ (x : ℕ). Going m (state s₀ cells₀ layer₀) printer₀ x (printedAll (take (v .at - at) (drop at m)) st) c printer) n g₂) in
+            let g₂ = run m (state s₀ cells₀ layer₀ dots₀) printer₀ (v .at - at) at st c printer (g .going) (omega (arith, n, q .inside)) (λ j x y. q .print j x (omega (arith, n, y))) in
+            let g₃ = subst (λ (x : State). Going m (state s₀ cells₀ layer₀ dots₀) printer₀ (v .at) x c printer) (carried-here dots (g .framed) (u .acts) ∙ ap (state (withHere s (v .place) marks₁) cells₁ layer₁) (sym (y ∙ printed-spares (f .mode) (r .item) dots h)))
+            (subst (λ (x : ℕ). Going m (state s₀ cells₀ layer₀ dots₀) printer₀ x (printedAll (take (v .at - at) (drop at m)) st) c printer) n g₂) in
             record {
-              going = subst (λ (x : Counts). Going m (state s₀ cells₀ layer₀) printer₀ (v .at) (state (withHere s (v .place) marks₁) cells₁ layer₁) x printer) (sym (k ∙ printed-counts (r .item) at c h)) g₃;
+              going = subst (λ (x : Counts). Going m (state s₀ cells₀ layer₀ dots₀) printer₀ (v .at) (state (withHere s (v .place) marks₁) cells₁ layer₁ dots₁) x printer) (sym (k ∙ printed-counts (f .mode) (r .item) at c h)) g₃;
               framed = framed-bared b (g .framed);
-              ready = ready-bared b (u .acts .ready) (λ x. u .acts .ready .layer-are .empty (sym (t ∙ printed-bare (r .item) (f .bare) h) ∙ x));
+              ready = ready-bared b (u .acts .ready) (λ x. u .acts .ready .layer-are .empty (sym (t ∙ printed-bare (f .mode) (r .item) (f .bare) h) ∙ x));
               short = g .short;
             }
+
+        -- one that is done by what it did there, and prints nothing
+        over : printed? (r .item) ≡ false → rule st ≡ state (withHere s (v .place) marks₁) cells₁ layer₁ dots₁ → Ready f (v .place) cells₁ layer₁ → copyOf (r .item) st ≡ [] → Next (v .at)
+        over n e a q =
+            let l : rule st .layer ≡ layer₁ = ap (λ (x : State). x .layer) e in
+            let known : b ≡ true → layer₁ ≡ replicate 1280 0 =
+            λ x. sym l ∙ bare-left (r .item) (f .bare) (λ o. getD m o 0) st (sym bare-here ∙ x) (λ y. ((λ off. g .ready .layer-are .empty y), (λ on. l ∙ a .layer-are .empty y))) in
+            subst Next (sym (d .next n)) (obeyed (framed-bared b (g .framed)) (ready-bared b a known) (sym e) (unprinted q) k)
 
         moved : printed? (r .item) ≡ false → staysOnScreen? (r .item) ≡ true → Next (v .at)
         moved n h =
             let a = d .acts n h (λ o. getD m o 0) in
-            let e : rule st ≡ state (withHere s (v .place) marks₁) cells₁ layer₁ = carried-here (g .framed) a in
-            let l : rule st .layer ≡ layer₁ = ap (λ (x : State). x .layer) e in
-            let known : b ≡ true → layer₁ ≡ replicate 1280 0 =
-            λ x. sym l ∙ bare-left (r .item) (f .bare) (λ o. getD m o 0) st (sym t ∙ x) (λ y. ((λ off. absurd (differ (sym h ∙ off))), (λ on. l ∙ a .ready .layer-are .empty y))) in
-            subst Next (sym (d .next n)) (obeyed (framed-bared b (g .framed)) (ready-bared b (a .ready) known) (sym e) (unprinted (stays-unprinted (r .item) st h)) k)
+            over n (redotted (rule st) (carried-here dots (g .framed) a) (sym (stays-dots (λ o. getD m o 0) (r .item) st h) ∙ sym wiped)) (a .ready) (stays-unprinted (r .item) st h)
 
         -- one that stays
         pub acted : staysOnScreen? (r .item) ≡ true → Next (v .at)
@@ -223,44 +248,54 @@ module _ (m cells₀ layer₀ printer₀ : List ℕ) (s₀ : Settings) where
             go true e = d .run e .run .printing .some
             go false e = omega (arith, d .next e, w .some)
 
-        -- one that does not: the place and the marks go back into the settings
+        -- one that does not, and is idle
+        pub idled : staysOnScreen? (r .item) ≡ false → idleItem? (f .mode) (r .item) ≡ true → Next (v .at)
+        idled h i =
+            let e = d .rests h in
+            let o : dots₁ ≡ dots = y ∙ away-spares (f .mode) (r .item) dots h in
+            let z = idle-leaves (λ o. getD m o 0) (r .item) st (subst (λ (n : ℕ). idleItem? n (r .item) ≡ true) in-mode i) in
+            over (away (r .item) h) (sym ((λ i. state (withHere s (e .0 i) (e .1 .1 .1 i)) (e .1 .0 i) (e .1 .1 .0 i) (o i)) ∙ z .0)) (rw (e .0, e .1 .0, e .1 .1 .0) (g .ready)) (z .1)
+
+        -- one that is not idle: the place and the marks go back into the settings
         module _ (h : staysOnScreen? (r .item) ≡ false) {ps : List Place} (back : ps ≡ set (s .places) (s .selected) (v .place)) where
           abbrev stood : State
-          stood = state (withMarks (withPlaces s ps) marks₁) cells₁ layer₁
+          stood = state (withMarks (withPlaces s ps) marks₁) cells₁ layer₁ dots₁
 
           same : stood ≡ st
           same =
               let e = d .rests h in
               let j : ps ≡ set (s .places) (s .selected) p = back ∙ ap (set (s .places) (s .selected)) (e .0) in
-              λ i. state (withMarks (withPlaces s (j i)) (e .1 .1 .1 i)) (e .1 .0 i) (e .1 .1 .0 i)
+              let o : dots₁ ≡ dots = y ∙ away-spares (f .mode) (r .item) dots h in
+              λ i. state (withMarks (withPlaces s (j i)) (e .1 .1 .1 i)) (e .1 .0 i) (e .1 .1 .0 i) (o i)
 
-          pub applying : Applying (withMarks (withPlaces s ps) marks₁) (r .item) m cells₁ layer₁ printer (c .printed)
-          applying = record {
+          pub applying : idleItem? (f .mode) (r .item) ≡ false → Applying (withMarks (withPlaces s ps) marks₁) (r .item) m cells₁ layer₁ dots₁ printer (c .printed)
+          applying i = record {
             good = subst Good (sym same) (g .going .good);
             legal = subst (λ (x : State). legalItem? (r .item) (limitsOf (x .settings)) ≡ true) (sym same) legal;
+            awake = subst (λ (n : ℕ). idleItem? n (r .item) ≡ false) in-mode i;
             rows = w .rows-inside;
-            roomy = roomy;
+            roomy = roomy-here;
           }
 
-          module _ {s₂ : Settings} {cells₂ layer₂ printer₂ : List ℕ} (a : Applied (withMarks (withPlaces s ps) marks₁) (r .item) m (c .printed) s₂ cells₁ layer₁ printer cells₂ layer₂ printer₂) where
-            done : state s₂ cells₂ layer₂ ≡ rule st
+          module _ {s₂ : Settings} {cells₂ layer₂ dots₂ printer₂ : List ℕ} (a : Applied (withMarks (withPlaces s ps) marks₁) (r .item) m (c .printed) s₂ cells₁ layer₁ dots₁ printer cells₂ layer₂ dots₂ printer₂) where
+            done : state s₂ cells₂ layer₂ dots₂ ≡ rule st
             unfolding applied
             done = a .does ∙ ap (λ (x : Bool). cond x stood (rule stood)) h ∙ ap rule same
 
-            pub good : Good (state s₂ cells₂ layer₂)
+            pub good : Good (state s₂ cells₂ layer₂ dots₂)
             good = subst Good (sym done) (obeyed-item (λ o. getD m o 0) (r .item) st (g .going .good) legal .good)
 
-            pub changed : {p₂ : Place} {f₂ : Frame} → p₂ ≡ placeOf s₂ (s₂ .selected) → (FrameOf s₂ f₂) × (f₂ .bare ≡ b) → Loop cells₂ layer₂ printer₂ s₂ p₂ (s₂ .marks) f₂ c′ (v .at)
+            pub changed : {p₂ : Place} {f₂ : Frame} → p₂ ≡ placeOf s₂ (s₂ .selected) → (FrameOf s₂ f₂) × (f₂ .bare ≡ b) → Loop cells₂ layer₂ dots₂ printer₂ s₂ p₂ (s₂ .marks) f₂ c′ (v .at)
             changed {p₂} {f₂} i q =
                 let l : rule st .layer ≡ layer₂ = ap (λ (x : State). x .layer) (sym done) in
                 let known : f₂ .bare ≡ true → layer₂ ≡ replicate 1280 0 =
-                λ x. sym l ∙ bare-left (r .item) (f .bare) (λ o. getD m o 0) st (sym t ∙ sym (q .1) ∙ x) (λ y. ((λ off. g .ready .layer-are .empty y), (λ on. absurd (differ (sym on ∙ h))))) in
-                subst (λ (x : ℕ). Loop cells₂ layer₂ printer₂ s₂ p₂ (s₂ .marks) f₂ c′ x) (sym (d .next (away (r .item) h)))
+                λ x. sym l ∙ bare-left (r .item) (f .bare) (λ o. getD m o 0) st (sym bare-here ∙ sym (q .1) ∙ x) (λ y. ((λ off. g .ready .layer-are .empty y), (λ on. absurd (differ (sym on ∙ h))))) in
+                subst (λ (x : ℕ). Loop cells₂ layer₂ dots₂ printer₂ s₂ p₂ (s₂ .marks) f₂ c′ x) (sym (d .next (away (r .item) h)))
                 (obeyed (q .0 .framed)
                 (record { stands = subst (Stands f₂) (sym i) (q .0 .stands); cells-are = good .cells-are; layer-are = record { size = good .layer-are; empty = known } })
-                (ap (λ (x : Settings). state x cells₂ layer₂) (same-here s₂ p₂ (s₂ .marks) (sym i) refl) ∙ done) (a .prints ∙ ap (λ (x : State). put (c .printed) (copyOf (r .item) x) printer) same) k)
+                (ap (λ (x : Settings). state x cells₂ layer₂ dots₂) (same-here s₂ p₂ (s₂ .marks) (sym i) refl) ∙ done) (a .prints ∙ ap (λ (x : State). put (c .printed) (copyOf (r .item) x) printer) same) k)
 
-    pub end : (r : Outcome) {shown : List ℕ} → length m ≤ at → r .settings ≡ withHere s p marks → r .answer ≡ answerAt at c → shown ≡ painting (state (withHere s p marks) cells layer)
-        → Serves m (state s₀ cells₀ layer₀) printer₀ r cells layer shown printer
+    pub end : (r : Outcome) {shown : List ℕ} → length m ≤ at → r .settings ≡ withHere s p marks → r .answer ≡ answerAt at c → shown ≡ painting (state (withHere s p marks) cells layer dots)
+        → Serves m (state s₀ cells₀ layer₀ dots₀) printer₀ r cells layer dots shown printer
     end r h e a w =
-        finish m (state s₀ cells₀ layer₀) printer₀ at st c printer (g .going) h r (ap (λ (x : Settings). state x cells layer) e) a (w ∙ ap (λ (x : Settings). painting (state x cells layer)) (sym e))
+        finish m (state s₀ cells₀ layer₀ dots₀) printer₀ at st c printer (g .going) h r (ap (λ (x : Settings). state x cells layer dots) e) a (w ∙ ap (λ (x : Settings). painting (state x cells layer dots)) (sym e))

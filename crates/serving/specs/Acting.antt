@@ -3,7 +3,7 @@ use mathlib.Core.Path.{_≡_}
 use Prim.Native.Nat.{ℕ, _+_, _≤_}
 use mathlib.Core.Bool.{Bool, true, false, cond, _||_}
 use mathlib.Core.List.{List, [], _∷_}
-use lib.ListN.{length, getD}
+use lib.ListN.{length, getD, replicate}
 use lib.Dec.{eqb}
 use Rattle.model.specs.declared.Item.{Item}
 use Rattle.model.specs.declared.Item.the-variants.{Control, Printed, Refused, Sequence}
@@ -17,12 +17,12 @@ use Rattle.model.specs.Checks.{member}
 use Rattle.model.specs.Sound.{Good}
 use Rattle.model.specs.Judging.{legalItem?, limitsOf}
 use Rattle.model.specs.Rules.{applyItem}
-use Rattle.model.specs.Sequences.{codeOf}
+use Rattle.model.specs.Sequences.{codeOf, idle?}
 use Rattle.model.specs.Items.{copyOf, printerBytes}
 use Rattle.model.specs.OnScreen.{staysOnScreen?}
 use Rattle.screen.specs.declared.Frame.{Frame}
 use Rattle.screen.specs.declared.run.Run.{Run}
-use Rattle.screen.specs.Acts.{ActsWith}
+use Rattle.screen.specs.Acts.{ActsWith, exceptDots}
 use Rattle.screen.specs.Run.{Ran, prints?}
 
 -- a printed byte
@@ -31,6 +31,13 @@ printed? (Printed b) = true
 printed? (Control c) = false
 printed? (Sequence q) = false
 printed? (Refused n p) = false
+
+-- P11: an item that is idle in a mode
+abbrev pub idleItem? : ℕ → Item → Bool
+idleItem? mode (Printed b) = false
+idleItem? mode (Control c) = false
+idleItem? mode (Sequence q) = idle? mode (codeOf q)
+idleItem? mode (Refused n p) = false
 
 -- an item of the message m, at an offset, of so many bytes: its parameters are in their ranges, and a printed byte prints
 pub record Offered (m : List ℕ) (at size : ℕ) (i : Item) (l : Limits) : Type 0 where
@@ -45,35 +52,46 @@ pub record Moves (m : List ℕ) (at size : ℕ) (i : Item) (f : Frame) (p : Plac
   pub run : printed? i ≡ true → Ran m at f p r cells layer marks cells′ layer′ marks′
   -- behind any other item the next begins
   pub next : printed? i ≡ false → r .at ≡ at + size
-  -- if it stays it does what its rule says, whatever the message
-  pub acts : printed? i ≡ false → staysOnScreen? i ≡ true → (n : ℕ → ℕ) → ActsWith (applyItem n i) f p (r .place) cells layer marks cells′ layer′ marks′
+  -- if it stays it does what its rule says, whatever the message, the dots set aside
+  pub acts : printed? i ≡ false → staysOnScreen? i ≡ true → (n : ℕ → ℕ) → ActsWith (exceptDots (applyItem n i)) f p (r .place) cells layer marks cells′ layer′ marks′
   -- else it leaves all as it was
   pub rests : staysOnScreen? i ≡ false → (r .place ≡ p) × ((cells′ ≡ cells) × ((layer′ ≡ layer) × (marks′ ≡ marks)))
 
--- the sequences after which the layer is empty, whatever stood: 42, 208, and "84, 89, 144, 145, 209"
+-- P11: "42 in mode 3 .. clear[s] the dots", and code 12 does as 42: the dots after an item of the selected screen
+abbrev pub clears? : Item → Bool
+clears? (Printed b) = false
+clears? (Control c) = eqb c 12
+clears? (Sequence q) = eqb (codeOf q) 42
+clears? (Refused n p) = false
+
+unfoldable pub dotsThen : ℕ → Item → List ℕ → List ℕ
+dotsThen mode i dots = cond (clears? i) (cond (eqb mode 3) (replicate 3840 0) dots) dots
+
+-- the sequences after which the layer is empty, whatever stood, where they are not idle: 42, 208, and "84, 89, 144, 145, 209"
 abbrev pub emptying : List ℕ
 emptying = 42 ∷ 84 ∷ 89 ∷ 144 ∷ 145 ∷ 208 ∷ 209 ∷ []
 
--- whether the layer is known to be empty after an item, by whether it was before: those empty it, code 12 does as 42, and 210 "marks the layer". A
--- lift, a top that moves and another key display empty it too, and nothing is known of that
-abbrev pub bareThen : Item → Bool → Bool
-bareThen (Printed b) bare = bare
-bareThen (Control c) bare = eqb c 12 || bare
-bareThen (Sequence q) bare = cond (eqb (codeOf q) 210) false (member (codeOf q) emptying || bare)
-bareThen (Refused n p) bare = bare
+-- whether the layer is known to be empty after an item in a mode, by whether it was before: those empty it, code 12 does as 42, 210 "marks the layer",
+-- and what is idle leaves it. A lift, a top that moves and another key display empty it too, and nothing is known of that
+abbrev pub bareThen : ℕ → Item → Bool → Bool
+bareThen mode (Printed b) bare = bare
+bareThen mode (Control c) bare = eqb c 12 || bare
+bareThen mode (Sequence q) bare = cond (idle? mode (codeOf q)) bare (cond (eqb (codeOf q) 210) false (member (codeOf q) emptying || bare))
+bareThen mode (Refused n p) bare = bare
 
 -- what an item that does not stay does with the message m; one that stays is done already
 unfoldable pub applied : List ℕ → Item → State → State
 applied m i st = cond (staysOnScreen? i) st (applyItem (λ o. getD m o 0) i st)
 
--- what stands is good, every parameter is in its range, the eight rows of a pattern lie in the message, and a copy has room
-pub record Applying (s : Settings) (i : Item) (m cells layer printer : List ℕ) (from : ℕ) : Type 0 where
-  pub good : Good (state s cells layer)
+-- what stands is good, every parameter is in its range, the item is not idle, the eight rows of a pattern lie in the message, and a copy has room
+pub record Applying (s : Settings) (i : Item) (m cells layer dots printer : List ℕ) (from : ℕ) : Type 0 where
+  pub good : Good (state s cells layer dots)
   pub legal : legalItem? i (limitsOf s) ≡ true
+  pub awake : idleItem? (s .mode) i ≡ false
   pub rows : (c at : ℕ) → i ≡ Sequence (Pattern c at) → at + 8 ≤ length m
-  pub roomy : from + printerBytes i ≤ length printer
+  pub roomy : from + printerBytes (s .mode) i ≤ length printer
 
 -- what then stands: settings r, and the stores marked ′
-pub record Applied (s : Settings) (i : Item) (m : List ℕ) (from : ℕ) (r : Settings) (cells layer printer cells′ layer′ printer′ : List ℕ) : Type 0 where
-  pub does : state r cells′ layer′ ≡ applied m i (state s cells layer)
-  pub prints : printer′ ≡ put from (copyOf i (state s cells layer)) printer
+pub record Applied (s : Settings) (i : Item) (m : List ℕ) (from : ℕ) (r : Settings) (cells layer dots printer cells′ layer′ dots′ printer′ : List ℕ) : Type 0 where
+  pub does : state r cells′ layer′ dots′ ≡ applied m i (state s cells layer dots)
+  pub prints : printer′ ≡ put from (copyOf i (state s cells layer dots)) printer

@@ -1,11 +1,10 @@
 -- The counts while a message is served, and the answer that they make at an offset.
 use Prim.Native.Nat.{ℕ, _+_, _^_, _<_}
-use mathlib.Core.Bool.{Bool, cond}
+use mathlib.Core.Bool.{cond}
 use lib.Dec.{eqb}
 use Rattle.model.specs.declared.Answer.{Answer}
 use Rattle.model.specs.declared.Item.{Item}
 use Rattle.model.specs.declared.Item.the-variants.{Printed, Control, Sequence, Refused}
-use Rattle.model.specs.Picture.{copySize}
 use Rattle.model.specs.Items.{printerBytes}
 use Rattle.serving.specs.declared.Counts.{Counts}
 
@@ -22,22 +21,22 @@ abbrev pub refusedWith : ℕ → ℕ → ℕ → Counts → Counts
 refusedWith n p at c =
     record { accepted = c .accepted; refused = c .refused + 1; first = cond (eqb (c .refused) 0) n (c .first); parameter = cond (eqb (c .refused) 0) p (c .parameter); offset = cond (eqb (c .refused) 0) at (c .offset); printed = c .printed }
 
--- one item more, at an offset
-abbrev pub countsWith : Item → ℕ → Counts → Counts
-countsWith (Printed b) at c = c
-countsWith (Control b) at c = c
-countsWith (Sequence q) at c = acceptedWith (printerBytes (Sequence q)) c
-countsWith (Refused n p) at c = refusedWith n p at c
+-- one item more, read in a mode (P11) at an offset
+abbrev pub countsWith : ℕ → Item → ℕ → Counts → Counts
+countsWith mode (Printed b) at c = c
+countsWith mode (Control b) at c = c
+countsWith mode (Sequence q) at c = acceptedWith (printerBytes mode (Sequence q)) c
+countsWith mode (Refused n p) at c = refusedWith n p at c
 
 -- the counts have room for one more
-pub record Countable (c : Counts) (i : Item) (at : ℕ) : Type 0 where
+pub record Countable (c : Counts) (mode : ℕ) (i : Item) (at : ℕ) : Type 0 where
   pub few : c .accepted + c .refused < 4096
   pub near : at < 4096
-  pub roomy : c .printed + printerBytes i < 2 ^ 64
+  pub roomy : c .printed + printerBytes mode i < 2 ^ 64
 
-pub record Accepting (c : Counts) (copied : Bool) : Type 0 where
+pub record Accepting (c : Counts) (bytes : ℕ) : Type 0 where
   pub few : c .accepted < 4096
-  pub roomy : c .printed + cond copied copySize 0 < 2 ^ 64
+  pub roomy : c .printed + bytes < 2 ^ 64
 
 -- the answer when so many bytes are taken
 abbrev pub answerAt : ℕ → Counts → Answer

@@ -13,8 +13,8 @@ use Rattle.model.specs.Reading.{Read, uncut}
 use Rattle.model.specs.Items.{applyAll, blankAnswer, copies, countedAll, eventsOf, readsOf}
 
 -- what serving asks: that what stands is good, a message that is not too long, and a shown screen of its size
-pub record Servable (s : Settings) (m cells layer shown : List ℕ) : Type 0 where
-  pub good : Good (state s cells layer)
+pub record Servable (s : Settings) (m cells layer dots shown : List ℕ) : Type 0 where
+  pub good : Good (state s cells layer dots)
   pub short : length m ≤ 4096
   pub shown-are : length shown ≡ 640
 
@@ -22,8 +22,8 @@ pub record Servable (s : Settings) (m cells layer shown : List ℕ) : Type 0 whe
 abbrev pub itemsOf : List ℕ → State → List ℕ → List Read
 itemsOf m st buffer = readsOf (uncut m) 0 st (length buffer)
 
-pub record Serves (m : List ℕ) (st : State) (buffer : List ℕ) (r : Outcome) (cells layer shown printer : List ℕ) : Type 0 where
-  pub state-is : state (r .settings) cells layer ≡ applyAll (eventsOf (itemsOf m st buffer)) st
-  pub shown-is : shown ≡ painting (state (r .settings) cells layer)
+pub record Serves (m : List ℕ) (st : State) (buffer : List ℕ) (r : Outcome) (cells layer dots shown printer : List ℕ) : Type 0 where
+  pub state-is : state (r .settings) cells layer dots ≡ applyAll (eventsOf (itemsOf m st buffer)) st
+  pub shown-is : shown ≡ painting (state (r .settings) cells layer dots)
   pub answer-is : r .answer ≡ countedAll (itemsOf m st buffer) (blankAnswer 0 (length m))
   pub printer-is : printer ≡ written (copies (eventsOf (itemsOf m st buffer)) st) buffer

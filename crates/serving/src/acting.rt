@@ -7,9 +7,11 @@ ghost use Rattle.model.specs.State.{state};
 ghost use Rattle.model.specs.Sound.{Good};
 ghost use Rattle.model.specs.Items.{copyOf, printerBytes};
 ghost use Rattle.model.specs.OnScreen.{staysOnScreen?};
+ghost use lib.Dec.{eqb};
+ghost use Rattle.model.specs.Sequences.{codeOf};
 ghost use Rattle.reader.specs.Reading.{ReadAt};
 ghost use Rattle.screen.specs.Frame.{Ready, limitsIn};
-ghost use Rattle.serving.specs.Acting.{Offered, Moves, bareThen, Applying, Applied};
+ghost use Rattle.serving.specs.Acting.{Offered, Moves, bareThen, clears?, dotsThen, idleItem?, Applying, Applied};
 use crate::counting::is_copy;
 use model::Item;
 use model::Limits;
@@ -27,11 +29,22 @@ pub(crate) fn read_at(frame: Frame, room: usize, message: &[u8], at: usize) -> R
     ensures { λ r. ⌜ ReadAt (now (message .entry)) at (limitsIn frame) room r ⌝ }
 {
     let limits = Limits {
+        mode: frame.mode,
         lines: frame.lines,
         columns: frame.columns,
         height: frame.height,
     };
     reader::read_item(limits, room, message, at)
+}
+
+// Whether an item is idle in a mode.
+pub(crate) fn idle(mode: u8, item: Item) -> bool
+    ensures { λ r. ⌜ r ≡ idleItem? mode item ⌝ }
+{
+    match item {
+        Item::Sequence(q) => tables::idle(mode, q),
+        _ => false,
+    }
 }
 
 // Whether an item acts on the selected screen alone.
@@ -46,8 +59,8 @@ pub(crate) fn stays(item: Item) -> bool
     }
 }
 
-// What an item at an offset, with so many bytes, does on the selected screen: where the cursor and the window are then, and where the next
-// item begins. A printed byte begins a run, and all of it is printed at once. An item that does not stay leaves all as it is.
+// What an item at an offset, with so many bytes, does on the selected screen: where the cursor and the window are then, and where the next item
+// begins. A printed byte begins a run, and all of it is printed at once. An item that does not stay leaves all as it is.
 pub(crate) fn act(
     frame: Frame,
     place: Place,
@@ -79,21 +92,49 @@ pub(crate) fn act(
     }
 }
 
+// "42 in mode 3 .. clear[s] the dots", and so does code 12. Any other item leaves them here.
+pub(crate) fn wipe_after(mode: u8, item: Item, dots: &mut [u8])
+    requires { ⌜ length (now dots) ≡ 3840 ⌝ }
+    ensures { λ _. ⌜ now (dots .exit) ≡ dotsThen mode item (now (dots .entry)) ⌝ }
+{
+    if clears(item) & (mode == 3) {
+        dots::wipe(dots);
+    }
+}
+
+// Whether an item is 42 or code 12.
+fn clears(item: Item) -> bool
+    ensures { λ r. ⌜ r ≡ clears? item ⌝ }
+{
+    match item {
+        Item::Control(c) => c == 12,
+        Item::Sequence(q) => is_clear(q),
+        _ => false,
+    }
+}
+
+// Whether a sequence is 42.
+fn is_clear(q: Sequence) -> bool
+    ensures { λ r. ⌜ r ≡ eqb (codeOf q) 42 ⌝ }
+{
+    if let Sequence::Clear = q { true } else { false }
+}
+
 // What is known of the layer after an item: it is empty (true), or nothing is known of it.
-pub(crate) fn bare_after(item: Item, bare: bool) -> bool
-    ensures { λ r. ⌜ r ≡ bareThen item bare ⌝ }
+pub(crate) fn bare_after(mode: u8, item: Item, bare: bool) -> bool
+    ensures { λ r. ⌜ r ≡ bareThen mode item bare ⌝ }
 {
     match item {
         Item::Control(c) => (c == 12) | bare,
-        Item::Sequence(q) => bare_then(q, bare),
+        Item::Sequence(q) => bare_then(mode, q, bare),
         _ => bare,
     }
 }
 
-// The same of a sequence: 210 marks the layer, these others "empty the whole layer". So does a 211 that changes the key display, of which nothing
-// is known here.
-fn bare_then(q: Sequence, bare: bool) -> bool
-    ensures { λ r. ⌜ r ≡ bareThen (Item.Sequence q) bare ⌝ }
+// The same of a sequence: 210 marks the layer, these others "empty the whole layer", but for a 209 in mode 3, where it is idle. So does a 211 that
+// changes the key display, of which nothing is known here.
+fn bare_then(mode: u8, q: Sequence, bare: bool) -> bool
+    ensures { λ r. ⌜ r ≡ bareThen mode (Item.Sequence q) bare ⌝ }
 {
     match q {
         Sequence::Mark {
@@ -116,7 +157,8 @@ fn bare_then(q: Sequence, bare: bool) -> bool
             columns: _,
             boundary: _,
         } => true,
-        Sequence::Select(_) => true,
+        Sequence::Mode3 => true,
+        Sequence::Select(_) => (mode != 3) | bare,
         _ => bare,
     }
 }
@@ -129,36 +171,38 @@ pub(crate) fn apply(
     message: &[u8],
     cells: &mut [u8],
     layer: &mut [u8],
+    dots: &mut [u8],
     printer: &mut [u8],
     from: usize,
 ) -> Settings
-    requires { ⌜ Applying settings item (now message) (now cells) (now layer) (now printer) from ⌝ }
-    ensures { λ r. ⌜ Applied settings item (now (message .entry)) from r (now (cells .entry)) (now (layer .entry)) (now (printer .entry)) (now (cells .exit)) (now (layer .exit)) (now (printer .exit)) ⌝ }
+    requires { ⌜ Applying settings item (now message) (now cells) (now layer) (now dots) (now printer) from ⌝ }
+    ensures { λ r. ⌜ Applied settings item (now (message .entry)) from r (now (cells .entry)) (now (layer .entry)) (now (dots .entry)) (now (printer .entry)) (now (cells .exit)) (now (layer .exit)) (now (dots .exit)) (now (printer .exit)) ⌝ }
 {
     let Item::Sequence(q) = item else {
         return settings;
     };
-    print_copy(settings, q, cells, layer, printer, from);
+    print_copy(settings, q, cells, layer, dots, printer, from);
     if settings::is_pattern(q) {
         return settings::store_pattern(settings, q, message);
     }
-    settings::obey(settings, q, cells, layer)
+    settings::obey(settings, q, cells, layer, dots)
 }
 
-// 80: "appends the picture at that moment"; any other sequence prints nothing.
+// 80: "appends the picture at that moment", in mode 3 the dots; any other sequence prints nothing.
 fn print_copy(
     settings: Settings,
     q: Sequence,
     cells: &[u8],
     layer: &[u8],
+    dots: &[u8],
     printer: &mut [u8],
     from: usize,
 )
-    requires { ⌜ Good (state settings (now cells) (now layer)) ⌝ }
-    requires { ⌜ from + printerBytes (Item.Sequence q) ≤ length (now printer) ⌝ }
-    ensures { λ _. ⌜ now (printer .exit) ≡ put from (copyOf (Item.Sequence q) (state settings (now (cells .entry)) (now (layer .entry)))) (now (printer .entry)) ⌝ }
+    requires { ⌜ Good (state settings (now cells) (now layer) (now dots)) ⌝ }
+    requires { ⌜ from + printerBytes (settings .mode) (Item.Sequence q) ≤ length (now printer) ⌝ }
+    ensures { λ _. ⌜ now (printer .exit) ≡ put from (copyOf (Item.Sequence q) (state settings (now (cells .entry)) (now (layer .entry)) (now (dots .entry)))) (now (printer .entry)) ⌝ }
 {
     if is_copy(q) {
-        paint::copy(settings, cells, layer, printer, from);
+        paint::copy(settings, cells, layer, dots, printer, from);
     }
 }

@@ -2,13 +2,11 @@
 ghost use mathlib.Core.Path.{_≡_};
 ghost use lib.Dec.{eqb};
 ghost use Rattle.model.specs.Sequences.{codeOf};
-ghost use mathlib.Core.Bool.{cond};
 ghost use Prim.Native.Nat.{_<_};
-ghost use Rattle.model.specs.Picture.{copySize};
+ghost use Rattle.model.specs.Items.{printerBytes};
 ghost use Rattle.serving.specs.Counting.{noCounts, acceptedWith, refusedWith, countsWith, answerAt, Accepting, Countable};
 use crate::Counts;
 use model::Answer;
-use model::COPY;
 use model::Item;
 use model::Sequence;
 
@@ -33,29 +31,38 @@ pub(crate) fn is_copy(q: Sequence) -> bool
     if let Sequence::Copy = q { true } else { false }
 }
 
-// One item more, at an offset: "sequences accepted, sequences refused, number and offset of the first refusal .., printer bytes".
-pub(crate) fn count(counts: Counts, item: Item, at: usize) -> Counts
-    requires { ⌜ Countable counts item at ⌝ }
-    ensures { λ r. ⌜ r ≡ countsWith item at counts ⌝ }
+// One item more, read in a mode at an offset: "sequences accepted, sequences refused, number and offset of the first refusal .., printer bytes".
+pub(crate) fn count(counts: Counts, mode: u8, item: Item, at: usize) -> Counts
+    requires { ⌜ Countable counts mode item at ⌝ }
+    ensures { λ r. ⌜ r ≡ countsWith mode item at counts ⌝ }
 {
     match item {
         Item::Printed(_) => counts,
         Item::Control(_) => counts,
-        Item::Sequence(q) => accept(counts, is_copy(q)),
+        Item::Sequence(q) => accept(counts, printer_bytes(mode, q)),
         Item::Refused { number, parameter } => refuse(counts, number, parameter, at as u32),
     }
 }
 
-// A sequence accepted, a copy with its bytes.
-fn accept(counts: Counts, copied: bool) -> Counts
-    requires { ⌜ Accepting counts copied ⌝ }
-    ensures { λ r. ⌜ r ≡ acceptedWith (cond copied copySize 0) counts ⌝ }
+// The printer bytes of an accepted sequence: a copy's, by the mode.
+fn printer_bytes(mode: u8, q: Sequence) -> usize
+    ensures { λ r. ⌜ r ≡ printerBytes mode (Item.Sequence q) ⌝ }
+{
+    if is_copy(q) {
+        tables::copy_size(mode)
+    } else {
+        0
+    }
+}
+
+// A sequence accepted, with so many printer bytes.
+fn accept(counts: Counts, bytes: usize) -> Counts
+    requires { ⌜ Accepting counts bytes ⌝ }
+    ensures { λ r. ⌜ r ≡ acceptedWith bytes counts ⌝ }
 {
     let mut c = counts;
     c.accepted += 1;
-    if copied {
-        c.printed += COPY;
-    }
+    c.printed += bytes;
     c
 }
 

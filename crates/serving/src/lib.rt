@@ -1,4 +1,5 @@
-// The message loop: items read one after the other, each obeyed, counted and, for a copy, printed; then the picture is painted.
+// The message loop: items read one after the other, each obeyed, counted and, for a copy, printed; then the picture is painted. What is idle in the
+// mode is counted: of these the ones of the selected screen change nothing by themselves, and the others are skipped before anything looks at them.
 mod acting;
 mod counting;
 mod places;
@@ -7,15 +8,19 @@ ghost use mathlib.Core.Path.{_≡_};
 ghost use mathlib.Core.Bool.{true};
 ghost use lib.ListN.{length, replicate};
 ghost use Rattle.model.specs.State.{state};
-ghost use Rattle.model.specs.Sound.{Good};
+ghost use Prim.Native.Nat.{ℕ};
+ghost use mathlib.Core.List.{List};
 ghost use Rattle.model.specs.Picture.{painting};
+ghost use Rattle.paint.specs.Painted.{Visible};
 ghost use Rattle.screen.specs.Acts.{withPlace};
 ghost use Rattle.serving.specs.Serves.{Servable, Serves};
 use acting::act;
 use acting::apply;
 use acting::bare_after;
+use acting::idle;
 use acting::read_at;
 use acting::stays;
+use acting::wipe_after;
 use counting::answer_of;
 use counting::count;
 use counting::no_counts;
@@ -44,10 +49,11 @@ pub fn serve(
     cells: &mut [u8],
     layer: &mut [u8],
     shown: &mut [u8],
+    dots: &mut [u8],
     printer: &mut [u8],
 ) -> Outcome
-    requires { ⌜ Servable settings (now message) (now cells) (now layer) (now shown) ⌝ }
-    ensures { λ r. ⌜ Serves (now (message .entry)) (state settings (now (cells .entry)) (now (layer .entry))) (now (printer .entry)) r (now (cells .exit)) (now (layer .exit)) (now (shown .exit)) (now (printer .exit)) ⌝ }
+    requires { ⌜ Servable settings (now message) (now cells) (now layer) (now dots) (now shown) ⌝ }
+    ensures { λ r. ⌜ Serves (now (message .entry)) (state settings (now (cells .entry)) (now (layer .entry)) (now (dots .entry))) (now (printer .entry)) r (now (cells .exit)) (now (layer .exit)) (now (dots .exit)) (now (shown .exit)) (now (printer .exit)) ⌝ }
 {
     let mut s = settings;
     let mut place = selected_place(s);
@@ -59,7 +65,7 @@ pub fn serve(
         let printed = counts.printed;
         let read = read_at(frame, printer.len() - printed, message, at);
         let item = read.item;
-        counts = count(counts, item, at);
+        counts = count(counts, frame.mode, item, at);
         let run = act(
             frame,
             place,
@@ -73,14 +79,18 @@ pub fn serve(
         );
         place = run.place;
         at = run.at;
-        frame.bare = bare_after(item, frame.bare);
+        frame.bare = bare_after(frame.mode, item, frame.bare);
+        wipe_after(frame.mode, item, dots);
         if stays(item) {
+            continue;
+        }
+        if idle(frame.mode, item) {
             continue;
         }
         let places = placed(s, place);
         s.places = places;
         s.marks = marks;
-        s = apply(s, item, message, cells, layer, printer, printed);
+        s = apply(s, item, message, cells, layer, dots, printer, printed);
         place = selected_place(s);
         marks = s.marks;
         frame = screen::frame_of(s, frame.bare);
@@ -100,13 +110,13 @@ fn finish(
     layer: &[u8],
     shown: &mut [u8],
 ) -> Outcome
-    requires { ⌜ (Good (state (withPlace settings place) (now cells) (now layer))) × ((bare ≡ true → now layer ≡ replicate 1280 0) × (length (now shown) ≡ 640)) ⌝ }
-    ensures { λ r. ⌜ (r .settings ≡ withPlace settings place) × ((r .answer ≡ answer) × (now (shown .exit) ≡ painting (state (withPlace settings place) (now (cells .entry)) (now (layer .entry))))) ⌝ }
+    requires { ⌜ (Visible (withPlace settings place) (now cells) (now layer)) × ((bare ≡ true → now layer ≡ replicate 1280 0) × (length (now shown) ≡ 640)) ⌝ }
+    ensures { λ r. ⌜ (r .settings ≡ withPlace settings place) × ((r .answer ≡ answer) × ((dots : List ℕ) → now (shown .exit) ≡ painting (state (withPlace settings place) (now (cells .entry)) (now (layer .entry)) dots))) ⌝ }
 {
     let mut s = settings;
     let places = placed(s, place);
     s.places = places;
-    paint::paint(s, bare, cells, layer, shown);
+    paint::paint(s, place.top, bare, cells, layer, shown);
     Outcome {
         settings: s,
         answer,

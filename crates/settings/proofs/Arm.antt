@@ -16,9 +16,9 @@ abbrev Stayed : Settings → Settings → Type 0
 Stayed s r = (r .patterns ≡ s .patterns) × (r .texts ≡ s .texts)
 
 -- in `obey`, where it is not 224
-pub arm : {s r : Settings} {q k : Seq} {cells layer cells′ layer′ : List ℕ} → q ≡ k → ((m : List ℕ) → state r cells′ layer′ ≡ settled m k (state s cells layer)) → Stayed s (settled [] k (state s cells layer) .settings) → eqb (codeOf k) 224 ≡ false → Obeyed s q r cells layer cells′ layer′
+pub arm : {s r : Settings} {q k : Seq} {cells layer dots cells′ layer′ dots′ : List ℕ} → q ≡ k → ((m : List ℕ) → state r cells′ layer′ dots′ ≡ settled m k (state s cells layer dots)) → Stayed s (settled [] k (state s cells layer dots) .settings) → eqb (codeOf k) 224 ≡ false → Obeyed s q r cells layer dots cells′ layer′ dots′
 arm is stands kept other = record { does = λ e m. rw is (stands m); left = λ e. absurd (differ (sym e ∙ ap (λ (j : Seq). eqb (codeOf j) 224) is ∙ other)); keeps = (ap (λ (st : State). st .settings .patterns) (stands []) ∙ kept .0, ap (λ (st : State). st .settings .texts) (stands []) ∙ kept .1) }
 
 -- in `set`, where it changes no store
-pub set-arm : {s r : Settings} {q k : Seq} → q ≡ k → ((m cells layer : List ℕ) → state r cells layer ≡ settled m k (state s cells layer)) → Stayed s (settled [] k (state s [] []) .settings) → member (codeOf k) more ≡ false → Setting s q r
-set-arm is stands kept other = record { does = λ e m cells layer. rw is (stands m cells layer); left = λ e. absurd (differ (sym e ∙ ap (λ (j : Seq). member (codeOf j) more) is ∙ other)); keeps = (ap (λ (st : State). st .settings .patterns) (stands [] [] []) ∙ kept .0, ap (λ (st : State). st .settings .texts) (stands [] [] []) ∙ kept .1) }
+pub set-arm : {s r : Settings} {q k : Seq} → q ≡ k → ((m cells layer dots : List ℕ) → state r cells layer dots ≡ settled m k (state s cells layer dots)) → Stayed s (settled [] k (state s [] [] []) .settings) → member (codeOf k) more ≡ false → Setting s q r
+set-arm is stands kept other = record { does = λ e m cells layer dots. rw is (stands m cells layer dots); left = λ e. absurd (differ (sym e ∙ ap (λ (j : Seq). member (codeOf j) more) is ∙ other)); keeps = (ap (λ (st : State). st .settings .patterns) (stands [] [] [] []) ∙ kept .0, ap (λ (st : State). st .settings .texts) (stands [] [] [] []) ∙ kept .1) }

@@ -12,12 +12,12 @@ use Rattle.model.specs.State.{State, nowhere, withDisplay}
 use Rattle.model.specs.Screens.{height, linesOf, placeOf}
 use Rattle.model.specs.Sound.{Sound}
 use Rattle.model.specs.Rules.{displaying, emptied, heldPlace, keyLine, withLayer, withSettings}
-use Rattle.model.proofs.Keep.{height-high, height-low, shaped-height}
+use Rattle.model.proofs.Keep.{height-high, height-low, second-height, shaped-height}
 use Rattle.model.proofs.Tests.{cond-at, differ}
 
 module _ (s : Settings) (n : ℕ) {h : ℕ} (e : h ≡ height (withDisplay s n (s .places) (s .step))) where
-  pub fits : Sound s → (1 ≤ h) × (h ≤ s .lines1) × (h ≤ s .lines2)
-  fits sound = let t : Settings = withDisplay s n (s .places) (s .step) in omega (arith, height-low t, height-high t, shaped-height (sound .shaped))
+  pub fits : Sound s → (s .mode ≡ 3 → ⊥) → (1 ≤ h) × (h ≤ s .lines1) × (h ≤ s .lines2)
+  fits sound two = let t : Settings = withDisplay s n (s .places) (s .step) in omega (arith, height-low t, height-high t, shaped-height (sound .shaped), second-height (sound .shaped) two)
 
   pub displayed : {p q : Place} {k : ℕ} → p ≡ heldPlace (s .lines1) h (getD (s .places) 0 nowhere) → q ≡ heldPlace (s .lines2) h (getD (s .places) 1 nowhere) → k ≡ min (s .step) h
       → withDisplay s n (p ∷ q ∷ []) k ≡ displaying n s

@@ -1,5 +1,6 @@
 pub mod Arm
 pub mod Displays
+pub mod Drawings
 pub mod Idle
 pub mod Parts
 pub mod Rows

@@ -1,3 +1,4 @@
 pub mod Keyed
 pub mod Given
+pub mod Drawing
 pub mod Obey

@@ -9,10 +9,11 @@ ghost use Rattle.model.specs.Rules.{heldPlace, keyLine};
 use model::Place;
 use model::Settings;
 
-// "A changed 211 empties the layer, holds both tops in their new range and lowers step to H if above"; the same value does nothing.
+// "A changed 211 empties the layer, holds both tops in their new range and lowers step to H if above"; the same value does nothing. In mode 3,
+// which has no second screen, it is idle.
 pub fn display(settings: Settings, on: u8, layer: &mut [u8]) -> Settings
-    requires { ⌜ (Sound settings) × (length (now layer) ≡ 1280) ⌝ }
-    ensures { λ r. ⌜ ((cells : List ℕ) → state r cells (now (layer .exit)) ≡ keyLine on (state settings cells (now (layer .entry)))) ⌝ }
+    requires { ⌜ (Sound settings) × ((settings .mode ≡ 3 → ⊥) × (length (now layer) ≡ 1280)) ⌝ }
+    ensures { λ r. ⌜ ((cells dots : List ℕ) → state r cells (now (layer .exit)) dots ≡ keyLine on (state settings cells (now (layer .entry)) dots)) ⌝ }
 {
     if on == settings.display {
         return settings;

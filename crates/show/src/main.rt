@@ -2,6 +2,7 @@
 use libc::STDIN_FILENO;
 use model::CELLS;
 use model::COPY;
+use model::DOTS;
 use model::LAYER;
 use model::MESSAGE;
 use model::SHOWN;
@@ -13,8 +14,9 @@ fn main() {
     let mut cells = [0u8; CELLS];
     let mut layer = [0u8; LAYER];
     let mut shown = [0u8; SHOWN];
+    let mut dots = [0u8; DOTS];
     let mut printer = [0u8; COPY];
-    let opened = terminal::opening(1, &mut cells, &mut layer, &mut shown);
+    let opened = terminal::opening(1, &mut cells, &mut layer, &mut shown, &mut dots);
     let settings = opened.settings;
     let outcome = terminal::message(
         settings,
@@ -22,6 +24,7 @@ fn main() {
         &mut cells,
         &mut layer,
         &mut shown,
+        &mut dots,
         &mut printer,
     );
     let answer = outcome.answer;

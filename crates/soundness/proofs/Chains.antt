@@ -5,22 +5,26 @@ use native.Mathlib.Omega.{arith}
 use mathlib.Core.Bool.{Bool, true, false, _&&_, and-assoc, and-false, and-true}
 use mathlib.Core.List.{[], _∷_}
 use lib.ListN.{getD}
-use lib.Dec.{leb}
+use lib.Dec.{leb, ltb}
+use borrow.Author.Tests.{le-leb, lt-leb, ltb-false, ltb-true, ne-eqb}
 use Rattle.model.specs.declared.Keys.{Keys}
 use Rattle.model.specs.declared.Place.{Place}
 use Rattle.model.specs.declared.Settings.{Settings}
 use Rattle.model.specs.Checks.{inRanges?, member, passes, range}
-use Rattle.model.specs.Screens.{columnsOf, height, linesOf, placeOf}
+use Rattle.model.specs.Screens.{columnsOf, height, linesOf, placeOf, screens}
 use Rattle.model.specs.State.{nowhere}
 use Rattle.model.proofs.Keep.{height-low}
 use Rattle.model.specs.Line.{line?}
-use Rattle.model.specs.Sound.{arrayRanges, charsets, inside?, insideRanges, keyRanges, marks?, mostWait, otherRanges, plainRanges, shapeRanges, shifts, sound?}
+use Rattle.model.specs.Sound.{aloneRanges, arrayRanges, charsets, inside?, insideRanges, keyRanges, marks?, mostWait, otherRanges, plainRanges, second?, shapeRanges, shifts, sound?}
 
 pub four : (a b c d e f g h : Bool) → (a && b && c && d && e && f && g && h) ≡ ((a && b) && ((c && d) && ((e && f) && ((g && h) && true))))
 four a b c d e f g h = simp (and-assoc, and-true)
 
-pub five : (a b c d e f g h i j : Bool) → (a && b && c && d && e && f && g && h && i && j) ≡ ((a && b) && ((c && d) && ((e && f) && ((g && h) && ((i && j) && true)))))
+five : (a b c d e f g h i j : Bool) → (a && b && c && d && e && f && g && h && i && j) ≡ ((a && b) && ((c && d) && ((e && f) && ((g && h) && ((i && j) && true)))))
 five a b c d e f g h i j = simp (and-assoc, and-true)
+
+six : (a b c d e f g h i j k l : Bool) → (a && b && c && d && e && f && g && h && i && j && k && l) ≡ ((a && b) && ((c && d) && ((e && f) && ((g && h) && ((i && j) && ((k && l) && true))))))
+six a b c d e f g h i j k l = simp (and-assoc, and-true)
 
 -- four ranges, a test, four ranges, a test
 pub keys : (a b c d e f g h s i j k l m n o p t : Bool)
@@ -52,10 +56,15 @@ module _ (l1 l2 c1 c2 : ℕ) where
   unfolding inRanges? passes
   mode-1 = four (leb 39 c1) (leb c1 39) (leb 39 c2) (leb c2 39) (leb 16 l1) (leb l1 48) (leb l1 l2) (leb l2 l1)
 
-  pub mode-2 : (m beside : ℕ) → (leb 2 m && leb m 2 && leb 1 c1 && leb c1 78 && leb beside c2 && leb c2 beside && leb 8 l1 && leb l1 48 && leb l1 l2 && leb l2 l1)
-      ≡ inRanges? (range 2 m 2 ∷ range 1 c1 78 ∷ range beside c2 beside ∷ range 8 l1 48 ∷ range l1 l2 l1 ∷ [])
+  pub mode-2 : (beside : ℕ) → (leb 1 c1 && leb c1 78 && leb beside c2 && leb c2 beside && leb 8 l1 && leb l1 48 && leb l1 l2 && leb l2 l1)
+      ≡ inRanges? (range 1 c1 78 ∷ range beside c2 beside ∷ range 8 l1 48 ∷ range l1 l2 l1 ∷ [])
   unfolding inRanges? passes
-  mode-2 m beside = five (leb 2 m) (leb m 2) (leb 1 c1) (leb c1 78) (leb beside c2) (leb c2 beside) (leb 8 l1) (leb l1 48) (leb l1 l2) (leb l2 l1)
+  mode-2 beside = four (leb 1 c1) (leb c1 78) (leb beside c2) (leb c2 beside) (leb 8 l1) (leb l1 48) (leb l1 l2) (leb l2 l1)
+
+  pub mode-3 : (m : ℕ) → (leb 3 m && leb m 3 && leb 80 c1 && leb c1 80 && leb 0 c2 && leb c2 0 && leb 8 l1 && leb l1 8 && leb 0 l2 && leb l2 0)
+      ≡ inRanges? (range 3 m 3 ∷ range 80 c1 80 ∷ range 0 c2 0 ∷ range 8 l1 8 ∷ range 0 l2 0 ∷ [])
+  unfolding inRanges? passes
+  mode-3 m = five (leb 3 m) (leb m 3) (leb 80 c1) (leb c1 80) (leb 0 c2) (leb c2 0) (leb 8 l1) (leb l1 8) (leb 0 l2) (leb l2 0)
 
 pub window : (rule lines columns less : ℕ) (p : Place)
     → (leb 1 (p .line) && leb (p .line) lines && leb 1 (p .column) && leb (p .column) columns && leb 1 (p .top) && leb (p .top) (lines - less) && leb 0 (p .waiting) && leb (p .waiting) (mostWait rule columns (p .column)))
@@ -64,6 +73,25 @@ unfolding inRanges? passes insideRanges
 window rule lines columns less p =
     let e : lines + 1 - (less + 1) ≡ lines - less = omega arith in
     rw e (four (leb 1 (p .line)) (leb (p .line) lines) (leb 1 (p .column)) (leb (p .column) columns) (leb 1 (p .top)) (leb (p .top) (lines - less)) (leb 0 (p .waiting)) (leb (p .waiting) (mostWait rule columns (p .column))))
+
+pub alone-of : (kind display : ℕ) (p : Place)
+    → (leb 3 kind && leb kind 3 && leb 1 display && leb display 1 && leb 1 (p .line) && leb (p .line) 1 && leb 1 (p .column) && leb (p .column) 1 && leb 1 (p .top) && leb (p .top) 1 && leb 0 (p .waiting) && leb (p .waiting) 0)
+    ≡ inRanges? (aloneRanges 3 kind display p)
+unfolding inRanges? passes aloneRanges
+alone-of kind display p =
+    six (leb 3 kind) (leb kind 3) (leb 1 display) (leb display 1) (leb 1 (p .line)) (leb (p .line) 1) (leb 1 (p .column)) (leb (p .column) 1) (leb 1 (p .top)) (leb (p .top) 1) (leb 0 (p .waiting)) (leb (p .waiting) 0)
+
+-- "screen 1 selected", said of the number of screens
+below : (x n : ℕ) → ltb x n ≡ leb (x + 1) n
+below x n = go (ltb x n) refl
+  where
+    go : (b : Bool) → ltb x n ≡ b → b ≡ leb (x + 1) n
+    go true e = sym (le-leb (x + 1) n (omega (arith, ltb-true x n e)))
+    go false e = sym (lt-leb (x + 1) n (omega (arith, ltb-false x n e)))
+
+pub chosen-of : (screens selected step height : ℕ) → (ltb selected screens && leb 1 step && leb step height) ≡ inRanges? (otherRanges screens selected step height)
+unfolding inRanges? passes otherRanges
+chosen-of screens selected step height = rw (le-leb 1 (selected + 1) (omega arith), ← below selected screens) (simp (and-assoc, and-true))
 
 pub stored : (kind : ℕ) (k : Keys) (s t : Bool) → s ≡ member (k .charset) charsets → t ≡ member (k .shift) shifts
     → (leb 0 kind && leb kind 3 && leb 0 (getD (k .leds) 0 0) && leb (getD (k .leds) 0 0) 1 && leb 0 (getD (k .leds) 1 0) && leb (getD (k .leds) 1 0) 1 && leb 0 (getD (k .leds) 2 0) && leb (getD (k .leds) 2 0) 1 && s
@@ -86,7 +114,7 @@ module _ (s : Settings) where
   shaped = inRanges? (shapeRanges (s .mode) (s .lines1) (s .lines2) (s .columns1) (s .columns2))
 
   abbrev placed : Bool
-  placed = inRanges? (otherRanges (s .selected) (s .step) (height s)) && (inside? s 0 && inside? s 1)
+  placed = inRanges? (otherRanges (screens s) (s .selected) (s .step) (height s)) && (inside? s 0 && second? s)
 
   -- not of its shape, whatever else
   pub sound-shape : shaped ≡ false → sound? s ≡ false
@@ -101,7 +129,7 @@ module _ (s : Settings) where
   unfolding sound?
   sound-of x q l z e f g =
       rw (z, e, f, g)
-      (turn shaped (inRanges? (otherRanges (s .selected) (s .step) (height s))) (inside? s 0) (inside? s 1) (inRanges? (plainRanges s)) (line? (s .waiting) (s .held) (s .count)) marked)
+      (turn shaped (inRanges? (otherRanges (screens s) (s .selected) (s .step) (height s))) (inside? s 0) (second? s) (inRanges? (plainRanges s)) (line? (s .waiting) (s .held) (s .count)) marked)
 
   -- the places, what is stored or the marks fail; all pass, and the line decides
   pub sound-places : inRanges? (arrayRanges s) ≡ true → (placed && inRanges? (plainRanges s) && marked) ≡ false → sound? s ≡ false
@@ -112,16 +140,22 @@ module _ (s : Settings) where
 
 -- of settings whose H is known: H less one is what the code has
 module _ (s : Settings) (h : ℕ) (e : h ≡ height s) where
-  tall : h - 1 + 1 ≡ height s
+  pub tall : h - 1 + 1 ≡ height s
   tall = omega (arith, height-low s)
 
-  pub step-of : inRanges? (otherRanges (s .selected) (s .step) h) ≡ inRanges? (otherRanges (s .selected) (s .step) (height s))
-  step-of = ap (λ (n : ℕ). inRanges? (otherRanges (s .selected) (s .step) n)) e
+  pub step-of : {n : ℕ} → n ≡ screens s → inRanges? (otherRanges n (s .selected) (s .step) h) ≡ inRanges? (otherRanges (screens s) (s .selected) (s .step) (height s))
+  step-of f = λ i. inRanges? (otherRanges (f i) (s .selected) (s .step) (e i))
 
   pub first-of : inRanges? (insideRanges (s .rule) (s .lines1) (s .columns1) (h - 1 + 1) (getD (s .places) 0 nowhere)) ≡ inside? s 0
   unfolding inside? linesOf columnsOf placeOf
   first-of = ap (λ (n : ℕ). inRanges? (insideRanges (s .rule) (s .lines1) (s .columns1) n (getD (s .places) 0 nowhere))) tall
 
-  pub second-of : inRanges? (insideRanges (s .rule) (s .lines2) (s .columns2) (h - 1 + 1) (getD (s .places) 1 nowhere)) ≡ inside? s 1
-  unfolding inside? linesOf columnsOf placeOf
-  second-of = ap (λ (n : ℕ). inRanges? (insideRanges (s .rule) (s .lines2) (s .columns2) n (getD (s .places) 1 nowhere))) tall
+-- screen 2, by the mode
+module _ (s : Settings) where
+  pub second-alone : s .mode ≡ 3 → inRanges? (aloneRanges 3 (s .kind) (s .display) (getD (s .places) 1 nowhere)) ≡ second? s
+  unfolding second? placeOf
+  second-alone m = rw m refl
+
+  pub second-of : (n : ℕ) → n ≡ height s → (s .mode ≡ 3 → ⊥) → inRanges? (insideRanges (s .rule) (s .lines2) (s .columns2) n (getD (s .places) 1 nowhere)) ≡ second? s
+  unfolding second? inside? linesOf columnsOf placeOf
+  second-of n e d = rw (ne-eqb (s .mode) 3 d) (ap (λ (n : ℕ). inRanges? (insideRanges (s .rule) (s .lines2) (s .columns2) n (getD (s .places) 1 nowhere))) e)

@@ -4,10 +4,12 @@ ghost use mathlib.Core.Path.{_≡_};
 ghost use mathlib.Core.Bool.{true, _&&_};
 ghost use lib.ListN.{getD, length};
 ghost use Prim.Native.Nat.{_+_, _-_, _≤_, ℕ};
-ghost use Rattle.model.specs.Checks.{inRanges?};
-ghost use Rattle.model.specs.Screens.{height};
+ghost use mathlib.Core.List.{[], _∷_};
+ghost use Rattle.model.specs.declared.Settings.{Settings};
+ghost use Rattle.model.specs.Checks.{inRanges?, range};
+ghost use Rattle.model.specs.Screens.{height, screens};
 ghost use Rattle.model.specs.Marks.{marked?, mostMark};
-ghost use Rattle.model.specs.Sound.{arrayRanges, inside?, insideRanges, keyRanges, marks?, mostWait, otherRanges, plainRanges, shapeRanges, sound?};
+ghost use Rattle.model.specs.Sound.{aloneRanges, arrayRanges, inside?, insideRanges, keyRanges, marks?, mostWait, otherRanges, plainRanges, second?, shapeRanges, sound?};
 use model::Keys;
 use model::Place;
 use model::Settings;
@@ -45,16 +47,33 @@ fn shape(mode: u8, lines1: u8, lines2: u8, columns1: u8, columns2: u8) -> bool
             & (lines1 <= lines2)
             & (lines2 <= lines1);
     }
-    (2 <= mode)
-        & (mode <= 2)
-        & (1 <= columns1)
-        & (columns1 <= 78)
-        & (beside <= columns2)
-        & (columns2 <= beside)
+    if mode == 2 {
+        return (1 <= columns1)
+            & (columns1 <= 78)
+            & (beside <= columns2)
+            & (columns2 <= beside)
+            & (8 <= lines1)
+            & (lines1 <= 48)
+            & (lines1 <= lines2)
+            & (lines2 <= lines1);
+    }
+    curve(mode, lines1, lines2, columns1, columns2)
+}
+
+// P11, mode 3: "one text screen of 8 lines by 80", and no second one
+fn curve(mode: u8, lines1: u8, lines2: u8, columns1: u8, columns2: u8) -> bool
+    ensures { λ r. ⌜ r ≡ inRanges? (range 3 mode 3 ∷ range 80 columns1 80 ∷ range 0 columns2 0 ∷ range 8 lines1 8 ∷ range 0 lines2 0 ∷ []) ⌝ }
+{
+    (3 <= mode)
+        & (mode <= 3)
+        & (80 <= columns1)
+        & (columns1 <= 80)
+        & (0 <= columns2)
+        & (columns2 <= 0)
         & (8 <= lines1)
-        & (lines1 <= 48)
-        & (lines1 <= lines2)
-        & (lines2 <= lines1)
+        & (lines1 <= 8)
+        & (0 <= lines2)
+        & (lines2 <= 0)
 }
 
 // P9, the greatest flag of a cursor in a column: "the flag is sound only in the last column under rule 2"
@@ -84,11 +103,53 @@ fn inside(rule: u8, lines: u8, columns: u8, less: u8, p: Place) -> bool
         & (p.waiting <= most)
 }
 
-// selection and step
-fn chosen(selected: u8, step: u8, height: u8) -> bool
-    ensures { λ r. ⌜ r ≡ inRanges? (otherRanges selected step height) ⌝ }
+// P11, mode 3: "type 3, key display 1, .. screen 2's cursor and top at 1, its flag off"
+fn alone(kind: u8, display: u8, p: Place) -> bool
+    ensures { λ r. ⌜ r ≡ inRanges? (aloneRanges 3 kind display p) ⌝ }
 {
-    (0 <= selected) & (selected <= 1) & (1 <= step) & (step <= height)
+    (3 <= kind)
+        & (kind <= 3)
+        & (1 <= display)
+        & (display <= 1)
+        & (1 <= p.line)
+        & (p.line <= 1)
+        & (1 <= p.column)
+        & (p.column <= 1)
+        & (1 <= p.top)
+        & (p.top <= 1)
+        & (0 <= p.waiting)
+        & (p.waiting <= 0)
+}
+
+// screen 2: a cursor and a window, or in mode 3 the place of none; `less` is H less one
+fn second(settings: Settings, less: u8) -> bool
+    ensures { λ r. ⌜ (less + 1 ≡ height settings → r ≡ second? settings) ⌝ }
+{
+    let place = settings.places[1];
+    if settings.mode == 3 {
+        return alone(settings.kind, settings.display, place);
+    }
+    inside(
+        settings.rule,
+        settings.lines2,
+        settings.columns2,
+        less,
+        place,
+    )
+}
+
+// the screens that have cells, of all settings in a mode
+fn screens_of(mode: u8) -> u8
+    ensures { λ r. ⌜ ((s : Settings) → s .mode ≡ mode → r ≡ screens s) ⌝ }
+{
+    if mode == 3 { 1 } else { 2 }
+}
+
+// selection, of so many screens, and step
+fn chosen(screens: u8, selected: u8, step: u8, height: u8) -> bool
+    ensures { λ r. ⌜ r ≡ inRanges? (otherRanges screens selected step height) ⌝ }
+{
+    (selected < screens) & (1 <= step) & (step <= height)
 }
 
 // what is only stored of the keyboard, and the cursor's type; the lengths are those of the types
@@ -135,13 +196,13 @@ pub fn shaped(settings: Settings) -> bool
 
 // "cursors and windows are inside their screens, and step is 1 to H"; and the selection
 pub fn placed(settings: Settings) -> bool
-    ensures { λ r. ⌜ r ≡ (inRanges? (otherRanges (settings .selected) (settings .step) (height settings)) && (inside? settings 0 && inside? settings 1)) ⌝ }
+    ensures { λ r. ⌜ r ≡ (inRanges? (otherRanges (screens settings) (settings .selected) (settings .step) (height settings)) && (inside? settings 0 && second? settings)) ⌝ }
 {
     let height = tables::height_of(settings.mode, settings.display);
     let less = height - 1;
     let first = settings.places[0];
-    let second = settings.places[1];
-    let other = chosen(settings.selected, settings.step, height);
+    let screens = screens_of(settings.mode);
+    let other = chosen(screens, settings.selected, settings.step, height);
     let one = inside(
         settings.rule,
         settings.lines1,
@@ -149,13 +210,7 @@ pub fn placed(settings: Settings) -> bool
         less,
         first,
     );
-    let two = inside(
-        settings.rule,
-        settings.lines2,
-        settings.columns2,
-        less,
-        second,
-    );
+    let two = second(settings, less);
     other & (one & two)
 }
 

@@ -26,15 +26,16 @@ pub extern "C" fn px8_piece(
     cells: &mut [u8],
     layer: &mut [u8],
     shown: &mut [u8],
+    dots: &mut [u8],
     printer: &mut [u8],
 ) -> Outcome
-    ensures { λ r. ⌜ Promised (pieced (now (piece .entry)) (terminal settings (now (cells .entry)) (now (layer .entry)) (now (shown .entry))) (now (printer .entry)) (r .answer) (terminal (r .settings) (now (cells .exit)) (now (layer .exit)) (now (shown .exit))) (now (printer .exit))) ⌝ }
+    ensures { λ r. ⌜ Promised (pieced (now (piece .entry)) (terminal settings (now (cells .entry)) (now (layer .entry)) (now (dots .entry)) (now (shown .entry))) (now (printer .entry)) (r .answer) (terminal (r .settings) (now (cells .exit)) (now (layer .exit)) (now (dots .exit)) (now (shown .exit))) (now (printer .exit))) ⌝ }
 {
     if !plain(settings.held, piece.len(), settings.count) {
-        return behind(settings, piece, cells, layer, shown, printer);
+        return behind(settings, piece, cells, layer, shown, dots, printer);
     }
     let end = line::whole_end(piece);
-    let mut out = message(settings, &piece[..end], cells, layer, shown, printer);
+    let mut out = message(settings, &piece[..end], cells, layer, shown, dots, printer);
     if out.answer.number != 0 {
         return out;
     }
@@ -60,19 +61,20 @@ fn behind(
     cells: &mut [u8],
     layer: &mut [u8],
     shown: &mut [u8],
+    dots: &mut [u8],
     printer: &mut [u8],
 ) -> Outcome
-    ensures { λ r. ⌜ Promised (pieced (now (piece .entry)) (terminal settings (now (cells .entry)) (now (layer .entry)) (now (shown .entry))) (now (printer .entry)) (r .answer) (terminal (r .settings) (now (cells .exit)) (now (layer .exit)) (now (shown .exit))) (now (printer .exit))) ⌝ }
+    ensures { λ r. ⌜ Promised (pieced (now (piece .entry)) (terminal settings (now (cells .entry)) (now (layer .entry)) (now (dots .entry)) (now (shown .entry))) (now (printer .entry)) (r .answer) (terminal (r .settings) (now (cells .exit)) (now (layer .exit)) (now (dots .exit)) (now (shown .exit))) (now (printer .exit))) ⌝ }
 {
-    let number = line_number(settings, piece, cells, layer, shown);
+    let number = line_number(settings, piece, cells, layer, shown, dots);
     if number != 0 {
         let answer = refusal(number);
         return Outcome { settings, answer };
     }
     if piece.len() <= 52 {
-        return joined(settings, piece, cells, layer, shown, printer);
+        return joined(settings, piece, cells, layer, shown, dots, printer);
     }
-    divided(settings, piece, cells, layer, shown, printer)
+    divided(settings, piece, cells, layer, shown, dots, printer)
 }
 
 // A short piece: one message call of the bytes that waited and its own.
@@ -82,10 +84,11 @@ fn joined(
     cells: &mut [u8],
     layer: &mut [u8],
     shown: &mut [u8],
+    dots: &mut [u8],
     printer: &mut [u8],
 ) -> Outcome
-    requires { ⌜ (lineNumber (terminal settings (now cells) (now layer) (now shown)) (now piece) ≡ 0) × (length (now piece) ≤ 52) ⌝ }
-    ensures { λ r. ⌜ Promised (pieced (now (piece .entry)) (terminal settings (now (cells .entry)) (now (layer .entry)) (now (shown .entry))) (now (printer .entry)) (r .answer) (terminal (r .settings) (now (cells .exit)) (now (layer .exit)) (now (shown .exit))) (now (printer .exit))) ⌝ }
+    requires { ⌜ (lineNumber (terminal settings (now cells) (now layer) (now dots) (now shown)) (now piece) ≡ 0) × (length (now piece) ≤ 52) ⌝ }
+    ensures { λ r. ⌜ Promised (pieced (now (piece .entry)) (terminal settings (now (cells .entry)) (now (layer .entry)) (now (dots .entry)) (now (shown .entry))) (now (printer .entry)) (r .answer) (terminal (r .settings) (now (cells .exit)) (now (layer .exit)) (now (dots .exit)) (now (shown .exit))) (now (printer .exit))) ⌝ }
 {
     let held = settings.held as usize;
     let length = held + piece.len();
@@ -98,6 +101,7 @@ fn joined(
         cells,
         layer,
         shown,
+        dots,
         printer,
     );
     if one.answer.number != 0 {
@@ -120,10 +124,11 @@ fn divided(
     cells: &mut [u8],
     layer: &mut [u8],
     shown: &mut [u8],
+    dots: &mut [u8],
     printer: &mut [u8],
 ) -> Outcome
-    requires { ⌜ (lineNumber (terminal settings (now cells) (now layer) (now shown)) (now piece) ≡ 0) × (52 < length (now piece)) ⌝ }
-    ensures { λ r. ⌜ Promised (pieced (now (piece .entry)) (terminal settings (now (cells .entry)) (now (layer .entry)) (now (shown .entry))) (now (printer .entry)) (r .answer) (terminal (r .settings) (now (cells .exit)) (now (layer .exit)) (now (shown .exit))) (now (printer .exit))) ⌝ }
+    requires { ⌜ (lineNumber (terminal settings (now cells) (now layer) (now dots) (now shown)) (now piece) ≡ 0) × (52 < length (now piece)) ⌝ }
+    ensures { λ r. ⌜ Promised (pieced (now (piece .entry)) (terminal settings (now (cells .entry)) (now (layer .entry)) (now (dots .entry)) (now (shown .entry))) (now (printer .entry)) (r .answer) (terminal (r .settings) (now (cells .exit)) (now (layer .exit)) (now (dots .exit)) (now (shown .exit))) (now (printer .exit))) ⌝ }
 {
     let held = settings.held as usize;
     let length = held + 52;
@@ -136,6 +141,7 @@ fn divided(
         cells,
         layer,
         shown,
+        dots,
         printer,
     );
     if one.answer.number != 0 {
@@ -151,6 +157,7 @@ fn divided(
         cells,
         layer,
         shown,
+        dots,
         &mut printer[used..],
     );
     let answer = together(one.answer, two.answer, end as u32);
@@ -170,10 +177,11 @@ pub extern "C" fn px8_closing(
     cells: &mut [u8],
     layer: &mut [u8],
     shown: &mut [u8],
+    dots: &mut [u8],
 ) -> Outcome
-    ensures { λ r. ⌜ Promised (closed (terminal settings (now (cells .entry)) (now (layer .entry)) (now (shown .entry))) (r .answer) (terminal (r .settings) (now (cells .exit)) (now (layer .exit)) (now (shown .exit)))) ⌝ }
+    ensures { λ r. ⌜ Promised (closed (terminal settings (now (cells .entry)) (now (layer .entry)) (now (dots .entry)) (now (shown .entry))) (r .answer) (terminal (r .settings) (now (cells .exit)) (now (layer .exit)) (now (dots .exit)) (now (shown .exit)))) ⌝ }
 {
-    let number = closing_number(settings, cells, layer, shown);
+    let number = closing_number(settings, cells, layer, shown, dots);
     if number != 0 {
         let answer = refusal(number);
         return Outcome { settings, answer };
@@ -187,6 +195,7 @@ pub extern "C" fn px8_closing(
         cells,
         layer,
         shown,
+        dots,
         &mut none,
     );
     if one.answer.number != 0 {

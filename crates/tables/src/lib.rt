@@ -1,13 +1,19 @@
 // The tables of document 01 that more than one crate asks, each written once: which numbers 67 and 247 take, the rows of text by the key
-// display and H by the mode, and the length of a sequence by its second byte.
+// display and H by the mode, and the length of a sequence by its second byte. Of document 02, P11: what is idle in a mode, how long a copy is
+// there, and a number of two bytes.
 ghost use mathlib.Core.Path.{_≡_};
-ghost use Prim.Native.Nat.{_≤_};
+ghost use Prim.Native.Nat.{_≤_, _<_};
 ghost use Rattle.model.specs.declared.Settings.{Settings};
 ghost use Rattle.model.specs.Checks.{member};
+ghost use Rattle.model.specs.Dot.{twoBytes};
+ghost use Rattle.model.specs.Picture.{copySizeOf};
 ghost use Rattle.model.specs.Screens.{height, textRows};
-ghost use Rattle.model.specs.Sequences.{find, modeRowOf, refusal, rows};
+ghost use Rattle.model.specs.Sequences.{codeOf, find, idle?, modeRowOf, refusal, rows};
 ghost use Rattle.model.specs.Sound.{charsets, shifts};
 ghost use Rattle.tables.specs.Lengths.{lengthOf};
+use model::COPY;
+use model::DOTS;
+use model::Sequence;
 
 // 67: "one of U F G E D W I S N".
 pub fn charset(n: u8) -> bool
@@ -42,6 +48,42 @@ pub fn height_of(mode: u8, display: u8) -> u8
 {
     let rows = text_rows(display);
     if mode == 1 { 2 * rows } else { rows }
+}
+
+// Whether a sequence is accepted in a mode whatever its parameters, and does nothing: "In mode 3, .. 148 to 151, 209 and 211 to 215 do
+// nothing", in the others 198 and 199. One `match`, the mode asked in its arms, so that the compiler can join it to the one before it.
+pub fn idle(mode: u8, q: Sequence) -> bool
+    ensures { λ r. ⌜ r ≡ idle? mode (codeOf q) ⌝ }
+{
+    match q {
+        Sequence::Step(_) => mode == 3,
+        Sequence::Tracking(_) => mode == 3,
+        Sequence::WindowUp => mode == 3,
+        Sequence::WindowDown => mode == 3,
+        Sequence::DrawLine { .. } => mode != 3,
+        Sequence::DrawDot { .. } => mode != 3,
+        Sequence::Select(_) => mode == 3,
+        Sequence::Display(_) => mode == 3,
+        Sequence::WindowTop => mode == 3,
+        Sequence::WindowBottom => mode == 3,
+        Sequence::CursorKind(_) => mode == 3,
+        Sequence::WindowCursor => mode == 3,
+        _ => false,
+    }
+}
+
+// The bytes of a printed copy: of the picture, or in mode 3 of the dots.
+pub fn copy_size(mode: u8) -> usize
+    ensures { λ r. ⌜ r ≡ copySizeOf mode ⌝ }
+{
+    if mode == 3 { DOTS } else { COPY }
+}
+
+// A number of two bytes, the high one first.
+pub fn two_bytes(high: u8, low: u8) -> u16
+    ensures { λ r. ⌜ (r ≡ twoBytes high low) × (r < 65536) ⌝ }
+{
+    256 * (high as u16) + (low as u16)
 }
 
 // "Lengths with ESC, by second byte": the bytes of a sequence, ESC with them, of 208 by its mode byte, the third; 0 where the list has none.

@@ -43,16 +43,16 @@ numbered t m a b c d p q r w = (λ i. firstOf (reason 1 (p i) ∷ reason 2 (q i)
     same false b c d = refl
 
 -- number 0 is the number of a call that can be served
-module _ (s : Settings) (m cells layer shown : List ℕ) where
+module _ (s : Settings) (m cells layer dots shown : List ℕ) where
   abbrev given : Terminal
-  given = terminal s cells layer shown
+  given = terminal s cells layer dots shown
 
-  pub servable : firstOf (reasons given (message m)) ≡ 0 → Servable s m cells layer shown
+  pub servable : firstOf (reasons given (message m)) ≡ 0 → Servable s m cells layer dots shown
   unfolding soundIn
   servable e = go (sized given) (short m) (soundIn given) (noneWaits s) refl refl refl refl
     where
-      go : (a b c d : Bool) → sized given ≡ a → short m ≡ b → soundIn given ≡ c → noneWaits s ≡ d → Servable s m cells layer shown
-      go true true true d p q r w = let z = sizes given p in record { good = record { sound = sound-true s r; cells-are = z .0; layer-are = z .1 }; short = leb-true (length m) 4096 q; shown-are = z .2 }
+      go : (a b c d : Bool) → sized given ≡ a → short m ≡ b → soundIn given ≡ c → noneWaits s ≡ d → Servable s m cells layer dots shown
+      go true true true d p q r w = let z = sizes given p in record { good = record { sound = sound-true s r; cells-are = z .0; layer-are = z .1; dots-are = z .2 }; short = leb-true (length m) 4096 q; shown-are = z .3 }
       go true true false d p q r w = absurd (omega (arith, e, numbered given m true true false d p q r w))
       go true false c d p q r w = absurd (omega (arith, e, numbered given m true false c d p q r w))
       go false b c d p q r w = absurd (omega (arith, e, numbered given m false b c d p q r w))
@@ -80,11 +80,11 @@ module _ (s : Settings) (m cells layer shown : List ℕ) where
       some-wait f l = sym (numbered given m true true true false p q (e ∙ l) (sym (and-true none) ∙ ap (λ (t : Bool). none && t) (sym l) ∙ f))
 
   module _ (buffer : List ℕ) where
-    pub served : (r : Outcome) (cells′ layer′ shown′ printer′ : List ℕ) → firstOf (reasons given (message m)) ≡ 0 → Serves m (state s cells layer) buffer r cells′ layer′ shown′ printer′
-        → Promised (called m given buffer (r .answer) (terminal (r .settings) cells′ layer′ shown′) printer′)
+    pub served : (r : Outcome) (cells′ layer′ dots′ shown′ printer′ : List ℕ) → firstOf (reasons given (message m)) ≡ 0 → Serves m (state s cells layer dots) buffer r cells′ layer′ dots′ shown′ printer′
+        → Promised (called m given buffer (r .answer) (terminal (r .settings) cells′ layer′ dots′ shown′) printer′)
     unfolding ends answers prints rest numberOf
-    served r cells′ layer′ shown′ printer′ e w =
-        promised-served m given buffer (r .answer) (terminal (r .settings) cells′ layer′ shown′) printer′ (accepted-number given (request (message m) (length buffer)) e) (w .state-is) (w .shown-is) (w .answer-is) (w .printer-is)
+    served r cells′ layer′ dots′ shown′ printer′ e w =
+        promised-served m given buffer (r .answer) (terminal (r .settings) cells′ layer′ dots′ shown′) printer′ (accepted-number given (request (message m) (length buffer)) e) (w .state-is) (w .shown-is) (w .answer-is) (w .printer-is)
 
     pub refused : (n : ℕ) (a : Answer) → n ≡ firstOf (reasons given (message m)) → (n ≡ 0 → ⊥) → a ≡ blankAnswer n 0 → Promised (called m given buffer a given buffer)
     unfolding numberOf

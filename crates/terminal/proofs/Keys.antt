@@ -29,7 +29,7 @@ pub record Placed (k : ℕ) (x : List ℕ) (s : Settings) : Type 0 where
 module _ (k : ℕ) (x : List ℕ) (s : Settings) where
   -- its number, which looks at no store
   abbrev numberHere : ℕ
-  numberHere = firstOf (reasons (terminal s [] [] []) (keyText k x))
+  numberHere = firstOf (reasons (terminal s [] [] [] []) (keyText k x))
 
   number-is : numberHere ≡ keyNumber k x s
   unfolding reasons soundIn keyNumber

@@ -14,13 +14,16 @@ use Rattle.model.specs.Opening.{OpeningPromised, openedBy, openingNumber, ruled
 use Rattle.model.proofs.Tests.{and-left, and-right, differ}
 
 -- the sizes that number 1 is about
-pub sizes : (t : Terminal) → sized t ≡ true → (length (t .state .cells) ≡ 3840) × (length (t .state .layer) ≡ 1280) × (length (t .shown) ≡ 640)
+pub sizes : (t : Terminal) → sized t ≡ true → (length (t .state .cells) ≡ 3840) × (length (t .state .layer) ≡ 1280) × (length (t .state .dots) ≡ 3840) × (length (t .shown) ≡ 640)
 unfolding sized
 sizes t e =
     let c : Bool = eqb (length (t .state .cells)) 3840 in
     let l : Bool = eqb (length (t .state .layer)) 1280 in
+    let d : Bool = eqb (length (t .state .dots)) 3840 in
     let s : Bool = eqb (length (t .shown)) 640 in
-    (eqb-true _ _ (and-left c (l && s) e), eqb-true _ _ (and-left l s (and-right c (l && s) e)), eqb-true _ _ (and-right l s (and-right c (l && s) e)))
+    let k : (l && (d && s)) ≡ true = and-right c (l && (d && s)) e in
+    let n : (d && s) ≡ true = and-right l (d && s) k in
+    (eqb-true _ _ (and-left c (l && (d && s)) e), eqb-true _ _ (and-left l (d && s) k), eqb-true _ _ (and-left d s n), eqb-true _ _ (and-right d s n))
 
 -- a rule's number fits a byte
 few : (rule : ℕ) → ruled rule ≡ true → rule < 256
@@ -32,9 +35,9 @@ few rule = go (eqb rule 1) (eqb rule 2) refl refl
     go false true p q h = omega (arith, eqb-true rule 2 q)
     go false false p q h = absurd (differ (sym h))
 
-module _ (rule : ℕ) (cells layer shown : List ℕ) where
+module _ (rule : ℕ) (cells layer dots shown : List ℕ) where
   abbrev given : Terminal
-  given = unopened cells layer shown
+  given = unopened cells layer dots shown
 
   -- the number by its two tests, the stores' first
   pub no-number : (sized given && ruled rule) ≡ true → 0 ≡ openingNumber rule given
@@ -81,11 +84,11 @@ module _ (rule : ℕ) (cells layer shown : List ℕ) where
   pub byte : openingNumber rule given ≡ 0 → rule < 256
   byte e = few rule (both e .1)
 
-  module _ (s : Settings) (number : ℕ) (cells′ layer′ shown′ : List ℕ) (n : number ≡ openingNumber rule given) where
-    pub filled : number ≡ 0 → s ≡ openedSettings rule → cells′ ≡ replicate (length cells) 32 → layer′ ≡ replicate (length layer) 0 → shown′ ≡ replicate (length shown) 32
-        → OpeningPromised rule cells layer shown s number cells′ layer′ shown′
+  module _ (s : Settings) (number : ℕ) (cells′ layer′ dots′ shown′ : List ℕ) (n : number ≡ openingNumber rule given) where
+    pub filled : number ≡ 0 → s ≡ openedSettings rule → cells′ ≡ replicate (length cells) 32 → layer′ ≡ replicate (length layer) 0 → dots′ ≡ replicate (length dots) 0 → shown′ ≡ replicate (length shown) 32
+        → OpeningPromised rule cells layer dots shown s number cells′ layer′ dots′ shown′
     unfolding openedBy
-    filled o e c l p =
+    filled o e c l d p =
         let t = both (sym n ∙ o) in
         let z = sizes given (t .0) in
         record {
@@ -93,11 +96,12 @@ module _ (rule : ℕ) (cells layer shown : List ℕ) where
           settings-are = rw (t .0, t .1) e;
           cells-are = rw (t .0, t .1) (c ∙ ap (λ (k : ℕ). replicate k 32) (z .0));
           layer-is = rw (t .0, t .1) (l ∙ ap (λ (k : ℕ). replicate k 0) (z .1));
-          shown-is = rw (t .0, t .1) (p ∙ ap (λ (k : ℕ). replicate k 32) (z .2));
+          dots-are = rw (t .0, t .1) (d ∙ ap (λ (k : ℕ). replicate k 0) (z .2));
+          shown-is = rw (t .0, t .1) (p ∙ ap (λ (k : ℕ). replicate k 32) (z .3));
         }
 
-    pub kept : (number ≡ 0 → ⊥) → s ≡ openedSettings 1 → cells′ ≡ cells → layer′ ≡ layer → shown′ ≡ shown → OpeningPromised rule cells layer shown s number cells′ layer′ shown′
+    pub kept : (number ≡ 0 → ⊥) → s ≡ openedSettings 1 → cells′ ≡ cells → layer′ ≡ layer → dots′ ≡ dots → shown′ ≡ shown → OpeningPromised rule cells layer dots shown s number cells′ layer′ dots′ shown′
     unfolding openedBy
-    kept o e c l p =
+    kept o e c l d p =
         let f = not-both (λ k. o (n ∙ k)) in
-        record { number-is = n; settings-are = rw f e; cells-are = rw f c; layer-is = rw f l; shown-is = rw f p }
+        record { number-is = n; settings-are = rw f e; cells-are = rw f c; layer-is = rw f l; dots-are = rw f d; shown-is = rw f p }

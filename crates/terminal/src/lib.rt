@@ -13,21 +13,34 @@ use numbers::opening_number;
 use numbers::refusal;
 use opened::opened_settings;
 
-// "It blanks (32) all cells and the shown screen, and zeroes the layer"; P9: it "takes the rule". Or it is refused by 1 or 23, and nothing is
+// "It blanks (32) all cells and the shown screen, and zeroes the layer", P11: and the dots; P9: it "takes the rule". Or it is refused by 1 or 23, and nothing is
 // altered. The rule is as wide as a length: one of 257 is none.
-pub fn opening(rule: usize, cells: &mut [u8], layer: &mut [u8], shown: &mut [u8]) -> Opened
-    ensures { λ r. ⌜ OpeningPromised rule (now (cells .entry)) (now (layer .entry)) (now (shown .entry)) (r .settings) (r .number) (now (cells .exit)) (now (layer .exit)) (now (shown .exit)) ⌝ }
+pub fn opening(
+    rule: usize,
+    cells: &mut [u8],
+    layer: &mut [u8],
+    shown: &mut [u8],
+    dots: &mut [u8],
+) -> Opened
+    ensures { λ r. ⌜ OpeningPromised rule (now (cells .entry)) (now (layer .entry)) (now (dots .entry)) (now (shown .entry)) (r .settings) (r .number) (now (cells .exit)) (now (layer .exit)) (now (dots .exit)) (now (shown .exit)) ⌝ }
 {
-    let number = opening_number(rule, cells, layer, shown);
-    if number == 0 {
+    let refused = opening_number(rule, cells, layer, shown, dots);
+    if refused == 0 {
         store::fill(cells, 32);
         store::fill(layer, 0);
         store::fill(shown, 32);
+        dots::wipe(dots);
         let settings = opened_settings(rule as u8);
-        return Opened { settings, number };
+        return Opened {
+            settings,
+            number: refused,
+        };
     }
     let settings = opened_settings(1);
-    Opened { settings, number }
+    Opened {
+        settings,
+        number: refused,
+    }
 }
 
 // The message call: every item of the message obeyed in turn, then all 640 places painted; or refused by 1, 2, 3 or 16, and nothing altered.
@@ -37,13 +50,14 @@ pub fn message(
     cells: &mut [u8],
     layer: &mut [u8],
     shown: &mut [u8],
+    dots: &mut [u8],
     printer: &mut [u8],
 ) -> Outcome
-    ensures { λ r. ⌜ Promised (called (now (message .entry)) (terminal settings (now (cells .entry)) (now (layer .entry)) (now (shown .entry))) (now (printer .entry)) (r .answer) (terminal (r .settings) (now (cells .exit)) (now (layer .exit)) (now (shown .exit))) (now (printer .exit))) ⌝ }
+    ensures { λ r. ⌜ Promised (called (now (message .entry)) (terminal settings (now (cells .entry)) (now (layer .entry)) (now (dots .entry)) (now (shown .entry))) (now (printer .entry)) (r .answer) (terminal (r .settings) (now (cells .exit)) (now (layer .exit)) (now (dots .exit)) (now (shown .exit))) (now (printer .exit))) ⌝ }
 {
-    let number = call_number(settings, message, cells, layer, shown);
+    let number = call_number(settings, message, cells, layer, shown, dots);
     if number == 0 {
-        serving::serve(settings, message, cells, layer, shown, printer)
+        serving::serve(settings, message, cells, layer, shown, dots, printer)
     } else {
         let answer = refusal(number);
         Outcome { settings, answer }

@@ -6,16 +6,18 @@ ghost use Rattle.model.specs.Items.{blankAnswer};
 ghost use Rattle.model.specs.Opening.{openingNumber, ruled, unopened};
 use model::Answer;
 use model::CELLS;
+use model::DOTS;
 use model::LAYER;
 use model::MESSAGE;
 use model::SHOWN;
 use model::Settings;
 
 // 1: "a store is not of its size"; here, that all are
-pub fn stores_sized(cells: &[u8], layer: &[u8], shown: &[u8]) -> bool
-    ensures { λ r. ⌜ r ≡ sized (unopened (now (cells .entry)) (now (layer .entry)) (now (shown .entry))) ⌝ }
+pub fn stores_sized(cells: &[u8], layer: &[u8], shown: &[u8], dots: &[u8]) -> bool
+    ensures { λ r. ⌜ r ≡ sized (unopened (now (cells .entry)) (now (layer .entry)) (now (dots .entry)) (now (shown .entry))) ⌝ }
 {
-    (cells.len() == CELLS) & ((layer.len() == LAYER) & (shown.len() == SHOWN))
+    (cells.len() == CELLS)
+        & ((layer.len() == LAYER) & ((dots.len() == DOTS) & (shown.len() == SHOWN)))
 }
 
 // P9: the rule numbers are 1 and 2
@@ -26,10 +28,16 @@ fn ruled(rule: usize) -> bool
 }
 
 // "Another rule number is 23, after 1": the number of an opening call
-pub(crate) fn opening_number(rule: usize, cells: &[u8], layer: &[u8], shown: &[u8]) -> u8
-    ensures { λ r. ⌜ r ≡ openingNumber rule (unopened (now (cells .entry)) (now (layer .entry)) (now (shown .entry))) ⌝ }
+pub(crate) fn opening_number(
+    rule: usize,
+    cells: &[u8],
+    layer: &[u8],
+    shown: &[u8],
+    dots: &[u8],
+) -> u8
+    ensures { λ r. ⌜ r ≡ openingNumber rule (unopened (now (cells .entry)) (now (layer .entry)) (now (dots .entry)) (now (shown .entry))) ⌝ }
 {
-    let sized = stores_sized(cells, layer, shown);
+    let sized = stores_sized(cells, layer, shown, dots);
     let known = ruled(rule);
     if sized & known {
         return 0;
@@ -45,10 +53,11 @@ pub(crate) fn call_number(
     cells: &[u8],
     layer: &[u8],
     shown: &[u8],
+    dots: &[u8],
 ) -> u8
-    ensures { λ r. ⌜ r ≡ firstOf (reasons (terminal settings (now (cells .entry)) (now (layer .entry)) (now (shown .entry))) (Asked.message (now (message .entry)))) ⌝ }
+    ensures { λ r. ⌜ r ≡ firstOf (reasons (terminal settings (now (cells .entry)) (now (layer .entry)) (now (dots .entry)) (now (shown .entry))) (Asked.message (now (message .entry)))) ⌝ }
 {
-    if stores_sized(cells, layer, shown) {
+    if stores_sized(cells, layer, shown, dots) {
         if message.len() <= MESSAGE {
             if soundness::shaped(settings) {
                 let placed = soundness::placed(settings);
@@ -86,7 +95,7 @@ fn keyable(number: usize, text: &[u8]) -> bool
 
 // "17, after 3": the number of a key call, whatever the stores
 pub(crate) fn key_number(settings: Settings, number: usize, text: &[u8]) -> u8
-    ensures { λ r. ⌜ r ≡ firstOf (reasons (terminal settings [] [] []) (Asked.keyText number (now (text .entry)))) ⌝ }
+    ensures { λ r. ⌜ r ≡ firstOf (reasons (terminal settings [] [] [] []) (Asked.keyText number (now (text .entry)))) ⌝ }
 {
     if soundness::sound(settings) {
         if keyable(number, text) { 0 } else { 17 }

@@ -5,6 +5,7 @@
 // Prints for each case its name, a line a message, and what stands after the last. A bad record ends the file with `bad record`.
 ghost use Prim.Native.Nat.{_<_};
 use model::CELLS;
+use model::DOTS;
 use model::LAYER;
 use model::SHOWN;
 use recording::Played;
@@ -29,9 +30,10 @@ fn main() {
     let mut cells = [0u8; CELLS];
     let mut layer = [0u8; LAYER];
     let mut shown = [0u8; SHOWN];
+    let mut dots = [0u8; DOTS];
     let mut printer = [0u8; 65536];
     let mut body = [0u8; 65536];
-    let mut case = new_case(BEFORE, &mut cells, &mut layer, &mut shown);
+    let mut case = new_case(BEFORE, &mut cells, &mut layer, &mut shown, &mut dots);
     let mut turns = u64::MAX;
     while turns > 0 && case.stage != OVER {
         let record = recording::next_record(&mut body);
@@ -43,6 +45,7 @@ fn main() {
             &mut cells,
             &mut layer,
             &mut shown,
+            &mut dots,
             &mut printer,
         );
         turns -= 1;
@@ -60,8 +63,14 @@ fn body_length(record: Record) -> usize
     }
 }
 
-fn new_case(stage: u8, cells: &mut [u8], layer: &mut [u8], shown: &mut [u8]) -> Case {
-    let played = recording::open(cells, layer, shown);
+fn new_case(
+    stage: u8,
+    cells: &mut [u8],
+    layer: &mut [u8],
+    shown: &mut [u8],
+    dots: &mut [u8],
+) -> Case {
+    let played = recording::open(cells, layer, shown, dots);
     Case {
         played,
         room: 1312,
@@ -78,23 +87,24 @@ fn step(
     cells: &mut [u8],
     layer: &mut [u8],
     shown: &mut [u8; 640],
+    dots: &mut [u8],
     printer: &mut [u8],
 ) -> Case {
     match record {
         Record::End => {
-            say_case(case, cells, layer, shown);
+            say_case(case, cells, layer, shown, dots);
             over(case)
         }
         Record::Cut => bad_record(case),
         Record::Whole { kind, length: _ } => match kind {
             0 => {
-                say_case(case, cells, layer, shown);
+                say_case(case, cells, layer, shown, dots);
                 report::say(b"case ");
                 report::say(body);
                 report::say(b"\n");
-                new_case(INSIDE, cells, layer, shown)
+                new_case(INSIDE, cells, layer, shown, dots)
             }
-            1 => message(case, body, cells, layer, shown, printer),
+            1 => message(case, body, cells, layer, shown, dots, printer),
             2 => with_room(case, body),
             _ => bad_record(case),
         },
@@ -102,11 +112,11 @@ fn step(
 }
 
 // What stands at a case's end.
-fn say_case(case: Case, cells: &[u8], layer: &[u8], shown: &[u8; 640]) {
+fn say_case(case: Case, cells: &[u8], layer: &[u8], shown: &[u8; 640], dots: &[u8]) {
     if case.stage == INSIDE {
         let played = case.played;
         let settings = played.settings;
-        report::say_standing(settings, cells, layer, shown, played.printer);
+        report::say_standing(settings, cells, layer, shown, dots, played.printer);
     }
 }
 
@@ -117,6 +127,7 @@ fn message(
     cells: &mut [u8],
     layer: &mut [u8],
     shown: &mut [u8],
+    dots: &mut [u8],
     printer: &mut [u8],
 ) -> Case {
     if case.stage != INSIDE {
@@ -134,6 +145,7 @@ fn message(
         cells,
         layer,
         shown,
+        dots,
         &mut printer[start..end],
     );
     Case {

@@ -13,6 +13,7 @@ pub enum Kind {
     Mixed,
     Lifts,
     Pieces,
+    Line,
 }
 
 /// One line of the benchmark.
@@ -31,6 +32,7 @@ impl Case {
             Kind::Mixed => format!("mixed-{size}-mode-{mode}"),
             Kind::Lifts => format!("lifts-{size}-mode-{mode}"),
             Kind::Pieces => format!("pieces-{size}-mode-{mode}"),
+            Kind::Line => format!("line-{size}-mode-{mode}"),
         }
     }
 
@@ -40,7 +42,8 @@ impl Case {
         let mode: &[u8] = match self.mode {
             0 => &[ESC, 208, 0, 24, 24],
             1 => &[ESC, 208, 1, 24],
-            _ => &[ESC, 208, 2, 24, 39, 124],
+            2 => &[ESC, 208, 2, 24, 39, 124],
+            _ => &[ESC, 208, 3],
         };
         let mut random = Random(1);
         let mut messages = vec![mode.to_vec()];
@@ -81,6 +84,7 @@ impl Case {
             Kind::Mixed => random.mixed(size),
             Kind::Lifts => vec![10; size],
             Kind::Pieces => random.pieces(size),
+            Kind::Line => random.line(size),
         };
         (0..count).map(|_| message(self.size)).collect()
     }
@@ -126,6 +130,22 @@ impl Random {
             88..=92 => [vec![ESC, 123], self.digits(6), vec![ESC, 125]].concat(),
             _ => vec![ESC, 210, 1 + self.below(8) as u8, 1 + self.below(80) as u8, b'*'],
         }
+    }
+
+    /// A line of so many dots, to the right or to the left and mostly sloping, by
+    /// any function; every dot acts.
+    fn line(&mut self, dots: usize) -> Vec<u8> {
+        let long = dots - 1;
+        let (left, top) = (self.below(480 - long), self.below(64));
+        let bottom = (top + self.below(long.min(63) + 1)).min(63);
+        let place = |horizontal: usize, vertical: usize| {
+            [(horizontal / 256) as u8, horizontal as u8, 0, vertical as u8]
+        };
+        let ends = match self.below(2) {
+            0 => [place(left, top), place(left + long, bottom)],
+            _ => [place(left + long, top), place(left, bottom)],
+        };
+        [&[ESC, 198][..], &ends.concat(), &[255, 255, 1 + self.below(3) as u8]].concat()
     }
 
     /// Short runs, each behind a carriage return, which also fills up.

@@ -8,7 +8,7 @@
 //!
 //! - Modes: 27,208,0,24,24; 27,208,1,24; 27,208,2,24,39,124. So each screen
 //!   has 24 lines and 39 columns or more. Then both screens are filled with
-//!   text, and screen 1 is selected.
+//!   text, and screen 1 is selected. Mode 3, 27,208,3, has one screen.
 //! - `paint`: the empty message, which paints and does nothing else.
 //! - `text`: letters, digits, blanks and stops, with no code. The text goes
 //!   on from message to message and so wraps and lifts as it comes.
@@ -21,9 +21,11 @@
 //!   selection (27,209); 5 six digits under secret (27,123 and 27,125); 7 a
 //!   mark (27,210). An item that does not fit any more is left out, and
 //!   digits fill the message; one of 1 byte is a single digit.
+//! - `line`: one line of so many dots in mode 3 (27,198), mostly sloping, every
+//!   dot acting.
 //! - `pieces`: a weight drawn in short runs, 1 to 7 digits at a time, each
 //!   behind a carriage return.
-//! - Messages have just the length in the name. There are 64 of them for each
+//! - Messages have just the length in the name (a line of dots 13 bytes). There are 64 of them for each
 //!   line (16 of 4,096 bytes), sent in turn.
 //!
 //! The lines of two screens side by side say their input in `screens`, those
@@ -89,6 +91,9 @@ fn all_cases() -> Vec<Case> {
         }
         cases.extend([20, 200].map(|size| Case { kind: Kind::Pieces, size, mode }));
     }
+    cases.push(Case { kind: Kind::Paint, size: 0, mode: 3 });
+    cases.push(Case { kind: Kind::Text, size: 20, mode: 3 });
+    cases.extend([1, 16, 480].map(|size| Case { kind: Kind::Line, size, mode: 3 }));
     cases
 }
 

@@ -14,7 +14,7 @@ pub trait Takes {
 pub trait Calls: Clone {
     type Settings: Copy + Debug;
 
-    fn opening(cells: &mut [u8], layer: &mut [u8], shown: &mut [u8]) -> Self::Settings;
+    fn opening(cells: &mut [u8], layer: &mut [u8], shown: &mut [u8], dots: &mut [u8]) -> Self::Settings;
 
     /// The settings afterwards, and whether the message was taken whole with
     /// no refusal.
@@ -24,6 +24,7 @@ pub trait Calls: Clone {
         cells: &mut [u8],
         layer: &mut [u8],
         shown: &mut [u8],
+        dots: &mut [u8],
     ) -> (Self::Settings, bool);
 
     /// A piece, as a message.
@@ -33,6 +34,7 @@ pub trait Calls: Clone {
         cells: &mut [u8],
         layer: &mut [u8],
         shown: &mut [u8],
+        dots: &mut [u8],
     ) -> (Self::Settings, bool);
 
     /// A closing, as an empty message.
@@ -41,6 +43,7 @@ pub trait Calls: Clone {
         cells: &mut [u8],
         layer: &mut [u8],
         shown: &mut [u8],
+        dots: &mut [u8],
     ) -> (Self::Settings, bool);
 }
 
@@ -51,8 +54,8 @@ pub struct Board;
 impl Calls for Board {
     type Settings = px8::Settings;
 
-    fn opening(cells: &mut [u8], layer: &mut [u8], shown: &mut [u8]) -> px8::Settings {
-        px8::opening(1, cells, layer, shown).0
+    fn opening(cells: &mut [u8], layer: &mut [u8], shown: &mut [u8], dots: &mut [u8]) -> px8::Settings {
+        px8::opening(1, cells, layer, shown, dots).0
     }
 
     fn message(
@@ -61,8 +64,9 @@ impl Calls for Board {
         cells: &mut [u8],
         layer: &mut [u8],
         shown: &mut [u8],
+        dots: &mut [u8],
     ) -> (px8::Settings, bool) {
-        let (after, answer) = px8::message(settings, message, cells, layer, shown, &mut []);
+        let (after, answer) = px8::message(settings, message, cells, layer, shown, dots, &mut []);
         (after, answer.number == 0 && answer.refused == 0)
     }
 
@@ -72,8 +76,9 @@ impl Calls for Board {
         cells: &mut [u8],
         layer: &mut [u8],
         shown: &mut [u8],
+        dots: &mut [u8],
     ) -> (px8::Settings, bool) {
-        let (after, answer) = px8::piece(settings, piece, cells, layer, shown, &mut []);
+        let (after, answer) = px8::piece(settings, piece, cells, layer, shown, dots, &mut []);
         (after, answer.number == 0 && answer.refused == 0)
     }
 
@@ -82,8 +87,9 @@ impl Calls for Board {
         cells: &mut [u8],
         layer: &mut [u8],
         shown: &mut [u8],
+        dots: &mut [u8],
     ) -> (px8::Settings, bool) {
-        let (after, answer) = px8::closing(settings, cells, layer, shown);
+        let (after, answer) = px8::closing(settings, cells, layer, shown, dots);
         (after, answer.number == 0 && answer.refused == 0)
     }
 }
@@ -95,8 +101,8 @@ pub struct Plain;
 impl Calls for Plain {
     type Settings = tuned::Settings;
 
-    fn opening(cells: &mut [u8], layer: &mut [u8], shown: &mut [u8]) -> tuned::Settings {
-        tuned::opening(1, cells, layer, shown).0
+    fn opening(cells: &mut [u8], layer: &mut [u8], shown: &mut [u8], dots: &mut [u8]) -> tuned::Settings {
+        tuned::opening(1, cells, layer, shown, dots).0
     }
 
     fn message(
@@ -105,8 +111,9 @@ impl Calls for Plain {
         cells: &mut [u8],
         layer: &mut [u8],
         shown: &mut [u8],
+        dots: &mut [u8],
     ) -> (tuned::Settings, bool) {
-        let (after, answer) = tuned::message(settings, message, cells, layer, shown, &mut []);
+        let (after, answer) = tuned::message(settings, message, cells, layer, shown, dots, &mut []);
         (after, answer.number == 0 && answer.refused == 0)
     }
 
@@ -116,8 +123,9 @@ impl Calls for Plain {
         cells: &mut [u8],
         layer: &mut [u8],
         shown: &mut [u8],
+        dots: &mut [u8],
     ) -> (tuned::Settings, bool) {
-        let (after, answer) = tuned::piece(settings, piece, cells, layer, shown, &mut []);
+        let (after, answer) = tuned::piece(settings, piece, cells, layer, shown, dots, &mut []);
         (after, answer.number == 0 && answer.refused == 0)
     }
 
@@ -126,8 +134,9 @@ impl Calls for Plain {
         cells: &mut [u8],
         layer: &mut [u8],
         shown: &mut [u8],
+        dots: &mut [u8],
     ) -> (tuned::Settings, bool) {
-        let (after, answer) = tuned::closing(settings, cells, layer, shown);
+        let (after, answer) = tuned::closing(settings, cells, layer, shown, dots);
         (after, answer.number == 0 && answer.refused == 0)
     }
 }
@@ -138,6 +147,7 @@ pub struct Side<C: Calls> {
     cells: [u8; 3840],
     layer: [u8; 1280],
     shown: [u8; 640],
+    dots: [u8; 3840],
     /// No message so far was refused, nor a sequence of one.
     clean: bool,
 }
@@ -145,9 +155,10 @@ pub struct Side<C: Calls> {
 impl<C: Calls> Side<C> {
     /// Opened, and brought to the start by these messages.
     pub fn start(messages: &[Vec<u8>]) -> Side<C> {
-        let (mut cells, mut layer, mut shown) = ([0; 3840], [0; 1280], [0; 640]);
-        let settings = C::opening(&mut cells, &mut layer, &mut shown);
-        let mut side = Side { settings, cells, layer, shown, clean: true };
+        let (mut cells, mut layer) = ([0; 3840], [0; 1280]);
+        let (mut shown, mut dots) = ([0; 640], [0; 3840]);
+        let settings = C::opening(&mut cells, &mut layer, &mut shown, &mut dots);
+        let mut side = Side { settings, cells, layer, shown, dots, clean: true };
         for message in messages {
             side.message(message);
         }
@@ -155,16 +166,16 @@ impl<C: Calls> Side<C> {
     }
 
     pub fn piece(&mut self, piece: &[u8]) {
-        let Side { settings, cells, layer, shown, .. } = self;
-        let (after, clean) = C::piece(*settings, piece, cells, layer, shown);
+        let Side { settings, cells, layer, shown, dots, .. } = self;
+        let (after, clean) = C::piece(*settings, piece, cells, layer, shown, dots);
         self.settings = after;
         self.clean &= clean;
     }
 
     /// Closes the stream that these settings hold.
     pub fn closing(&mut self, settings: &C::Settings) {
-        let Side { cells, layer, shown, .. } = self;
-        let (after, clean) = C::closing(*settings, cells, layer, shown);
+        let Side { cells, layer, shown, dots, .. } = self;
+        let (after, clean) = C::closing(*settings, cells, layer, shown, dots);
         self.settings = after;
         self.clean &= clean;
     }
@@ -182,13 +193,14 @@ impl<C: Calls> Side<C> {
             && self.cells == other.cells
             && self.layer == other.layer
             && self.shown == other.shown
+            && self.dots == other.dots
     }
 }
 
 impl<C: Calls> Takes for Side<C> {
     fn message(&mut self, message: &[u8]) {
-        let Side { settings, cells, layer, shown, .. } = self;
-        let (after, clean) = C::message(*settings, message, cells, layer, shown);
+        let Side { settings, cells, layer, shown, dots, .. } = self;
+        let (after, clean) = C::message(*settings, message, cells, layer, shown, dots);
         self.settings = after;
         self.clean &= clean;
     }

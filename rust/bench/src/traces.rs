@@ -44,9 +44,10 @@ pub fn bench(word: &str) {
 }
 
 fn measure(case: &Case) -> [f64; 2] {
-    let (mut cells, mut layer, mut shown) = ([0; px8::CELLS], [0; px8::LAYER], [0; px8::SHOWN]);
-    let mut given = px8::opening(1, &mut cells, &mut layer, &mut shown).0;
-    let mut plain_given = tuned::opening(1, &mut cells, &mut layer, &mut shown).0;
+    let (mut cells, mut layer) = ([0; px8::CELLS], [0; px8::LAYER]);
+    let (mut shown, mut dots) = ([0; px8::SHOWN], [0; px8::DOTS]);
+    let mut given = px8::opening(1, &mut cells, &mut layer, &mut shown, &mut dots).0;
+    let mut plain_given = tuned::opening(1, &mut cells, &mut layer, &mut shown, &mut dots).0;
     given.keys.interval = 1;
     plain_given.keys.interval = 1;
     let ours = |output: &mut [u8]| {

@@ -3,6 +3,7 @@
 //! before and after an item.
 
 mod before;
+mod dots;
 mod ends;
 mod items;
 mod keyline;
@@ -13,19 +14,21 @@ mod parameters;
 mod streams;
 
 use self::before::Before;
+use self::dots::Dots;
 use self::keyline::KeyLine;
 use self::late::Late;
 use self::lines::Lines;
 use self::list::{CLASSES, JUDGED};
 use self::parameters::Parameters;
 use self::streams::Streams;
+use crate::generate::dots::MODE_3_FAULTS;
 use crate::generate::late::RULE_FAULTS;
 use crate::generate::lines::MARK_FAULTS;
 use crate::generate::sequences::SECONDS;
 use crate::generate::streams::STREAM_FAULTS;
 use crate::generate::{Call, Kind, FIELDS, SIZES, STORE_NAMES};
 use reference::apply::Standing;
-use reference::read::{read, Item};
+use reference::read::{idle, read, Item};
 use reference::stream::{unfinished, waits};
 use reference::{sound, Answer, Settings};
 use std::collections::BTreeMap;
@@ -45,8 +48,9 @@ pub struct Coverage {
     key_line: KeyLine,
     lines: Lines,
     late: Late,
-    cells: Vec<u8>,
-    layer: Vec<u8>,
+    dots: Dots,
+    /// cells, layer and dots
+    stores: [Vec<u8>; 3],
 }
 
 impl Coverage {
@@ -56,7 +60,7 @@ impl Coverage {
         let mut coverage = Coverage {
             classes: CLASSES.iter().map(|&name| (name, 0)).collect(),
             accepted: SECONDS.iter().map(|&second| (second, 0)).collect(),
-            refused_by_11: JUDGED.iter().map(|&second| (second, 0)).collect(),
+            refused_by_11: JUDGED.iter().chain(&[198, 199]).map(|&second| (second, 0)).collect(),
             unlisted: unlisted.map(|second| (second, 0)).collect(),
             unsound: FIELDS
                 .iter()
@@ -64,6 +68,7 @@ impl Coverage {
                 .chain(STREAM_FAULTS)
                 .chain(MARK_FAULTS)
                 .chain(RULE_FAULTS)
+                .chain(MODE_3_FAULTS)
                 .map(|name| (name, 0))
                 .collect(),
             parameters: Parameters::new(),
@@ -101,7 +106,7 @@ impl Coverage {
         }
     }
 
-    pub fn opening(&mut self, rule: usize, sizes: [usize; 3], number: u8) {
+    pub fn opening(&mut self, rule: usize, sizes: [usize; 4], number: u8) {
         self.count(match (number, rule) {
             (0, 1) => "opening 0 by rule 1",
             (0, _) => "opening 0 by rule 2",
@@ -112,8 +117,8 @@ impl Coverage {
         self.count_sizes("opening", sizes);
     }
 
-    fn count_sizes(&mut self, call: &str, sizes: [usize; 3]) {
-        for store in 0..3 {
+    fn count_sizes(&mut self, call: &str, sizes: [usize; 4]) {
+        for store in 0..4 {
             let size = match sizes[store] {
                 0 => "empty",
                 size if size < SIZES[store] => "short",
@@ -130,12 +135,11 @@ impl Coverage {
         self.count_if(count == length && length > 0, "printer call of the whole buffer");
     }
 
-    /// Keeps the cells and the layer as they stand before a call.
-    pub fn remember(&mut self, cells: &[u8], layer: &[u8]) {
-        self.cells.clear();
-        self.cells.extend_from_slice(cells);
-        self.layer.clear();
-        self.layer.extend_from_slice(layer);
+    /// Keeps cells, layer and dots as they stand before a call.
+    pub fn remember(&mut self, [cells, layer, _, dots]: &[Vec<u8>; 4]) {
+        for (kept, store) in self.stores.iter_mut().zip([cells, layer, dots]) {
+            kept.clone_from(store);
+        }
     }
 
     /// Counts a call that is done.
@@ -197,6 +201,10 @@ impl Coverage {
             656 => self.count("room 656"),
             1311 => self.count("room 1311"),
             1312 => self.count("room 1312"),
+            3839 => self.count("room 3839"),
+            3840 => self.count("room 3840"),
+            7679 => self.count("room 7679"),
+            7680 => self.count("room 7680"),
             1313.. => self.count("room larger"),
             _ => {}
         }
@@ -209,23 +217,17 @@ impl Coverage {
             11 => self.count("first refusal 11"),
             12 => self.count("first refusal 12"),
             13 => self.count("first refusal 13"),
-            14 => self.count("first refusal 14"),
             _ => {}
         }
     }
 
     /// Reads what an accepted call reads, item by item.
     fn walk(&mut self, call: &Call, settings: &Settings) {
-        let mut cells = std::mem::take(&mut self.cells);
-        let mut layer = std::mem::take(&mut self.layer);
+        let mut stores = std::mem::take(&mut self.stores);
+        let [cells, layer, dots] = &mut stores;
         let mut printer = vec![0; call.room];
-        let mut standing = Standing {
-            settings: *settings,
-            cells: &mut cells,
-            layer: &mut layer,
-            printer: &mut printer,
-            printed: 0,
-        };
+        let mut standing =
+            Standing { settings: *settings, cells, layer, dots, printer: &mut printer, printed: 0 };
         // closing has no message, and a message no bytes that wait
         let bytes = [waits(settings), &call.message].concat();
         let mut offset = 0;
@@ -239,19 +241,14 @@ impl Coverage {
             let before = Before::of(&standing);
             standing.apply(&item);
             if call.kind == Kind::Piece && offset == 0 {
-                self.streams.finished(&item, settings);
+                self.finished(&item, settings);
             }
             if let Item::Refusal { number, parameter } = item {
                 self.refusal(number, rest, &before, standing.cells);
-                if number == 11 {
-                    self.parameters.refused(parameter, &rest[1..length], &before.settings);
-                }
-                self.count_if(number == 14 && !refusals.is_empty(), "refused 14 later");
+                self.named(number, parameter, &rest[1..length], call.room, &before);
                 refusals.push((number, parameter));
             } else {
-                self.item(&item, length, &before, &standing);
-                self.lines.item(&item, &before, &standing);
-                self.late.item(&item, &before, &standing);
+                self.accepted_item(&item, length, call.room, &before, &standing);
             }
             offset += length;
         }
@@ -260,8 +257,44 @@ impl Coverage {
         }
         self.key_line.painted(&standing);
         self.parameters.several(&refusals);
-        self.cells = cells;
-        self.layer = layer;
+        self.stores = stores;
+    }
+
+    /// The first item of a piece.
+    fn finished(&mut self, item: &Item, settings: &Settings) {
+        self.streams.finished(item, settings);
+        let line = matches!(item, Item::Sequence { second: 198, .. });
+        if line && settings.held > 0 && settings.mode == 3 {
+            self.dots.finished();
+        }
+    }
+
+    fn accepted_item(
+        &mut self,
+        item: &Item,
+        length: usize,
+        room: usize,
+        before: &Before,
+        standing: &Standing,
+    ) {
+        self.dots.item(item, length, room, before, standing);
+        self.item(item, length, before, standing);
+        // what is idle tells nothing of the marks and flags that it leaves
+        if !matches!(item, Item::Sequence { second, .. } if idle(*second, &before.settings)) {
+            self.lines.item(item, before, standing);
+            self.late.item(item, before, standing);
+        }
+    }
+
+    /// A refused sequence, from its second byte on: which parameter it names.
+    fn named(&mut self, number: u8, parameter: u8, sequence: &[u8], room: usize, before: &Before) {
+        if sequence.is_empty() {
+            return;
+        }
+        self.dots.refused(number, parameter, sequence, room, before);
+        if number == 11 && !matches!(sequence[0], 198 | 199) {
+            self.parameters.refused(parameter, sequence, &before.settings);
+        }
     }
 
     fn refusal(&mut self, number: u8, rest: &[u8], before: &Before, cells: &[u8]) {
@@ -306,6 +339,7 @@ impl Coverage {
         lines.extend(self.key_line.lines());
         lines.extend(self.lines.lines());
         lines.extend(self.late.lines());
+        lines.extend(self.dots.lines());
         lines.extend(self.unsound.iter().map(|(name, &count)| (format!("unsound: {name}"), count)));
         lines.extend(self.sizes.iter().map(|(name, &count)| (format!("size: {name}"), count)));
         lines

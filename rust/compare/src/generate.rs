@@ -7,7 +7,9 @@
 //! - `keyline`: key texts
 //! - `lines`: lines that run on
 //! - `late`: the late wrap
+//! - `dots`: mode 3
 
+pub mod dots;
 mod keyline;
 pub mod late;
 pub mod lines;
@@ -22,9 +24,9 @@ pub use settings::{settings, unsound, FIELDS};
 use crate::random::Random;
 use reference::Settings;
 
-/// The right sizes of cells, layer and shown screen.
-pub const SIZES: [usize; 3] = [3840, 1280, 640];
-pub const STORE_NAMES: [&str; 3] = ["cells", "layer", "shown"];
+/// The right sizes of cells, layer, shown screen and dots.
+pub const SIZES: [usize; 4] = [3840, 1280, 640, 3840];
+pub const STORE_NAMES: [&str; 4] = ["cells", "layer", "shown", "dots"];
 
 #[derive(Clone, Copy, Debug, PartialEq, Eq)]
 pub enum Kind {
@@ -42,7 +44,7 @@ pub enum Kind {
 pub struct Call {
     pub kind: Kind,
     pub settings: Option<(&'static str, Settings)>,
-    pub sizes: [usize; 3],
+    pub sizes: [usize; 4],
     pub message: Vec<u8>,
     pub room: usize,
 }
@@ -62,16 +64,16 @@ pub fn call(random: &mut Random, settings: &Settings, line: &mut Vec<u8>) -> Cal
     // a key text has no store
     let stores = !matches!(kind, Kind::KeyText(_));
     let sizes = if stores && random.one_in(often_sized) { wrong_sizes(random) } else { SIZES };
-    let room = if matches!(kind, Kind::Message | Kind::Piece) { room(random) } else { 0 };
+    let room = if matches!(kind, Kind::Message | Kind::Piece) { room(random, settings.mode) } else { 0 };
     Call { kind, settings: broken, sizes, message, room }
 }
 
-/// One store of another size, now and then all three.
-pub fn wrong_sizes(random: &mut Random) -> [usize; 3] {
+/// One store of another size, now and then all four.
+pub fn wrong_sizes(random: &mut Random) -> [usize; 4] {
     let mut sizes = SIZES;
-    let one = random.below(3);
+    let one = random.below(4);
     let all = random.one_in(8);
-    for store in 0..3 {
+    for store in 0..4 {
         if store == one || all {
             let right = SIZES[store];
             let others = [0, right - 1, right + 1, right + 1 + random.below(300), random.below(right)];
@@ -81,7 +83,10 @@ pub fn wrong_sizes(random: &mut Random) -> [usize; 3] {
     sizes
 }
 
-fn room(random: &mut Random) -> usize {
+fn room(random: &mut Random, mode: u8) -> usize {
+    if random.one_in(if mode == 3 { 2 } else { 12 }) {
+        return random.pick(&[656, 3839, 3840, 3841, 7679, 7680]);
+    }
     match random.below(8) {
         0 => 0,
         1 => 655,
@@ -93,11 +98,22 @@ fn room(random: &mut Random) -> usize {
     }
 }
 
-/// Any bytes in the stores; the layer with few, many or no marks.
-pub fn fill_stores(random: &mut Random, cells: &mut [u8], layer: &mut [u8], shown: &mut [u8]) {
+/// Any bytes in the stores; the layer with few, many or no marks, now and then no
+/// dots.
+pub fn fill_stores(
+    random: &mut Random,
+    cells: &mut [u8],
+    layer: &mut [u8],
+    shown: &mut [u8],
+    dots: &mut [u8],
+) {
     random.fill(cells);
     random.fill(layer);
     random.fill(shown);
+    random.fill(dots);
+    if random.one_in(4) {
+        dots.fill(0);
+    }
     let density = random.pick(&[0, 3, 40, 128, 256]);
     let half = layer.len() / 2;
     for mark in &mut layer[..half] {

@@ -38,6 +38,7 @@ pub trait Terminal {
         cells: &mut [u8],
         layer: &mut [u8],
         shown: &mut [u8],
+        dots: &mut [u8],
     ) -> (Settings, u8);
 
     fn message(
@@ -47,6 +48,7 @@ pub trait Terminal {
         cells: &mut [u8],
         layer: &mut [u8],
         shown: &mut [u8],
+        dots: &mut [u8],
         printer: &mut [u8],
     ) -> (Settings, Answer);
 
@@ -57,6 +59,7 @@ pub trait Terminal {
         cells: &mut [u8],
         layer: &mut [u8],
         shown: &mut [u8],
+        dots: &mut [u8],
         printer: &mut [u8],
     ) -> (Settings, Answer);
 
@@ -66,6 +69,7 @@ pub trait Terminal {
         cells: &mut [u8],
         layer: &mut [u8],
         shown: &mut [u8],
+        dots: &mut [u8],
     ) -> (Settings, Answer);
 
     fn key_text(&mut self, settings: Settings, number: usize, text: &[u8]) -> (Settings, Answer);
@@ -85,10 +89,10 @@ pub struct Functions {
     pub printed: for<'a> fn(&'a [u8], usize) -> &'a [u8],
 }
 
-pub type OpeningCall = fn(usize, &mut [u8], &mut [u8], &mut [u8]) -> (Settings, u8);
-pub type MessageCall = fn(Settings, &[u8], &mut [u8], &mut [u8], &mut [u8], &mut [u8]) -> (Settings, Answer);
-
-pub type ClosingCall = fn(Settings, &mut [u8], &mut [u8], &mut [u8]) -> (Settings, Answer);
+pub type OpeningCall = fn(usize, &mut [u8], &mut [u8], &mut [u8], &mut [u8]) -> (Settings, u8);
+pub type MessageCall =
+    fn(Settings, &[u8], &mut [u8], &mut [u8], &mut [u8], &mut [u8], &mut [u8]) -> (Settings, Answer);
+pub type ClosingCall = fn(Settings, &mut [u8], &mut [u8], &mut [u8], &mut [u8]) -> (Settings, Answer);
 pub type KeyTextCall = fn(Settings, usize, &[u8]) -> (Settings, Answer);
 
 pub const REFERENCE: Functions = Functions {
@@ -124,8 +128,9 @@ impl Terminal for Functions {
         cells: &mut [u8],
         layer: &mut [u8],
         shown: &mut [u8],
+        dots: &mut [u8],
     ) -> (Settings, u8) {
-        (self.opening)(rule, cells, layer, shown)
+        (self.opening)(rule, cells, layer, shown, dots)
     }
 
     fn message(
@@ -135,9 +140,10 @@ impl Terminal for Functions {
         cells: &mut [u8],
         layer: &mut [u8],
         shown: &mut [u8],
+        dots: &mut [u8],
         printer: &mut [u8],
     ) -> (Settings, Answer) {
-        (self.message)(settings, message, cells, layer, shown, printer)
+        (self.message)(settings, message, cells, layer, shown, dots, printer)
     }
 
     fn piece(
@@ -147,9 +153,10 @@ impl Terminal for Functions {
         cells: &mut [u8],
         layer: &mut [u8],
         shown: &mut [u8],
+        dots: &mut [u8],
         printer: &mut [u8],
     ) -> (Settings, Answer) {
-        (self.piece)(settings, piece, cells, layer, shown, printer)
+        (self.piece)(settings, piece, cells, layer, shown, dots, printer)
     }
 
     fn closing(
@@ -158,8 +165,9 @@ impl Terminal for Functions {
         cells: &mut [u8],
         layer: &mut [u8],
         shown: &mut [u8],
+        dots: &mut [u8],
     ) -> (Settings, Answer) {
-        (self.closing)(settings, cells, layer, shown)
+        (self.closing)(settings, cells, layer, shown, dots)
     }
 
     fn key_text(&mut self, settings: Settings, number: usize, text: &[u8]) -> (Settings, Answer) {

@@ -55,8 +55,9 @@ impl Terminal for Guarded {
         cells: &mut [u8],
         layer: &mut [u8],
         shown: &mut [u8],
+        dots: &mut [u8],
     ) -> (Settings, u8) {
-        self.0.opening(rule, cells, layer, shown)
+        self.0.opening(rule, cells, layer, shown, dots)
     }
 
     fn message(
@@ -66,9 +67,10 @@ impl Terminal for Guarded {
         cells: &mut [u8],
         layer: &mut [u8],
         shown: &mut [u8],
+        dots: &mut [u8],
         printer: &mut [u8],
     ) -> (Settings, Answer) {
-        guarded(settings, || self.0.message(settings, message, cells, layer, shown, printer))
+        guarded(settings, || self.0.message(settings, message, cells, layer, shown, dots, printer))
     }
 
     fn piece(
@@ -78,9 +80,10 @@ impl Terminal for Guarded {
         cells: &mut [u8],
         layer: &mut [u8],
         shown: &mut [u8],
+        dots: &mut [u8],
         printer: &mut [u8],
     ) -> (Settings, Answer) {
-        guarded(settings, || self.0.piece(settings, piece, cells, layer, shown, printer))
+        guarded(settings, || self.0.piece(settings, piece, cells, layer, shown, dots, printer))
     }
 
     fn closing(
@@ -89,8 +92,9 @@ impl Terminal for Guarded {
         cells: &mut [u8],
         layer: &mut [u8],
         shown: &mut [u8],
+        dots: &mut [u8],
     ) -> (Settings, Answer) {
-        guarded(settings, || self.0.closing(settings, cells, layer, shown))
+        guarded(settings, || self.0.closing(settings, cells, layer, shown, dots))
     }
 
     fn key_text(&mut self, settings: Settings, number: usize, text: &[u8]) -> (Settings, Answer) {

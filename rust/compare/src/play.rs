@@ -48,7 +48,7 @@ impl std::fmt::Display for Difference {
 #[derive(Clone)]
 struct Side {
     settings: Settings,
-    stores: [Vec<u8>; 3],
+    stores: [Vec<u8>; 4],
 }
 
 struct Game<'a> {
@@ -115,8 +115,8 @@ impl Game<'_> {
     /// From an opening, or from sound settings with any bytes in the stores.
     fn start(&mut self) -> Found {
         let Game { sides: [left, right], random, .. } = self;
-        let [cells, layer, shown] = &mut left.stores;
-        generate::fill_stores(random, cells, layer, shown);
+        let [cells, layer, shown, dots] = &mut left.stores;
+        generate::fill_stores(random, cells, layer, shown, dots);
         left.settings = generate::settings(random);
         right.clone_from(left);
         if random.one_in(2) {
@@ -135,7 +135,7 @@ impl Game<'_> {
         self.opening_call(rule, SIZES)
     }
 
-    fn opening_call(&mut self, rule: usize, sizes: [usize; 3]) -> Found {
+    fn opening_call(&mut self, rule: usize, sizes: [usize; 4]) -> Found {
         self.calls += 1;
         let mut given = self.sides.clone().map(|side| resized(&side.stores, sizes));
         let [left, right] = &mut given;
@@ -168,7 +168,7 @@ impl Game<'_> {
         let mut printer = vec![0; call.room];
         self.random.fill(&mut printer);
         if let Some(coverage) = &mut self.coverage {
-            coverage.remember(&self.sides[0].stores[0], &self.sides[0].stores[1]);
+            coverage.remember(&self.sides[0].stores);
         }
         let found = if call.sizes == SIZES {
             let mut given = self.sides.each_mut().map(|side| std::mem::take(&mut side.stores));
@@ -188,7 +188,7 @@ impl Game<'_> {
         &mut self,
         call: &Call,
         settings: Settings,
-        given: &mut [[Vec<u8>; 3]; 2],
+        given: &mut [[Vec<u8>; 4]; 2],
         mut printer: Vec<u8>,
     ) -> Result<(), String> {
         let mut other_printer = printer.clone();
@@ -244,32 +244,32 @@ impl Game<'_> {
     }
 }
 
-fn opening(terminal: &mut dyn Terminal, rule: usize, stores: &mut [Vec<u8>; 3]) -> (Settings, u8) {
-    let [cells, layer, shown] = stores;
-    terminal.opening(rule, cells, layer, shown)
+fn opening(terminal: &mut dyn Terminal, rule: usize, stores: &mut [Vec<u8>; 4]) -> (Settings, u8) {
+    let [cells, layer, shown, dots] = stores;
+    terminal.opening(rule, cells, layer, shown, dots)
 }
 
 fn made(
     terminal: &mut dyn Terminal,
     call: &Call,
     settings: Settings,
-    stores: &mut [Vec<u8>; 3],
+    stores: &mut [Vec<u8>; 4],
     printer: &mut [u8],
 ) -> (Settings, Answer) {
-    let [cells, layer, shown] = stores;
+    let [cells, layer, shown, dots] = stores;
     match call.kind {
-        Kind::Message => terminal.message(settings, &call.message, cells, layer, shown, printer),
-        Kind::Piece => terminal.piece(settings, &call.message, cells, layer, shown, printer),
-        Kind::Closing => terminal.closing(settings, cells, layer, shown),
+        Kind::Message => terminal.message(settings, &call.message, cells, layer, shown, dots, printer),
+        Kind::Piece => terminal.piece(settings, &call.message, cells, layer, shown, dots, printer),
+        Kind::Closing => terminal.closing(settings, cells, layer, shown, dots),
         Kind::KeyText(number) => terminal.key_text(settings, number, &call.message),
         Kind::Opening(rule) => {
-            let (settings, number) = terminal.opening(rule, cells, layer, shown);
+            let (settings, number) = terminal.opening(rule, cells, layer, shown, dots);
             (settings, Answer { number, ..Answer::default() })
         }
     }
 }
 
-fn resized(stores: &[Vec<u8>; 3], sizes: [usize; 3]) -> [Vec<u8>; 3] {
+fn resized(stores: &[Vec<u8>; 4], sizes: [usize; 4]) -> [Vec<u8>; 4] {
     let mut stores = stores.clone();
     for (store, size) in stores.iter_mut().zip(sizes) {
         store.resize(size, 99);

@@ -23,7 +23,7 @@ pub const CLASSES: &[&str] = &[
 #[derive(Clone)]
 struct Run {
     settings: Settings,
-    stores: [Vec<u8>; 3],
+    stores: [Vec<u8>; 4],
     printed: Vec<u8>,
     total: Answer,
 }
@@ -63,8 +63,8 @@ fn start(random: &mut Random) -> Run {
     let settings = Settings { waiting: [0; 12], held: 0, count: 0, ..generate::settings(random) };
     let settings = if random.one_in(3) { OPENING } else { settings };
     let mut stores = SIZES.map(|size| vec![0; size]);
-    let [cells, layer, shown] = &mut stores;
-    generate::fill_stores(random, cells, layer, shown);
+    let [cells, layer, shown, dots] = &mut stores;
+    generate::fill_stores(random, cells, layer, shown, dots);
     Run { settings, stores, printed: Vec::new(), total: Answer::default() }
 }
 
@@ -89,15 +89,16 @@ fn check(terminal: &mut dyn Terminal, random: &mut Random, classes: &mut Classes
 
 fn one_reading(line: &[u8], mut run: Run) -> Run {
     let mut printer = vec![0; room(line)];
-    let [cells, layer, shown] = &mut run.stores;
-    let (after, answer) = reference::calls::uncut(run.settings, line, cells, layer, shown, &mut printer);
+    let [cells, layer, shown, dots] = &mut run.stores;
+    let (after, answer) =
+        reference::calls::uncut(run.settings, line, cells, layer, shown, dots, &mut printer);
     run.add(after, &answer, &printer);
     run
 }
 
-/// Enough for every ESC P.
+/// Enough for every ESC P, in mode 3 too.
 fn room(line: &[u8]) -> usize {
-    656 * line.windows(2).filter(|pair| pair == &[27, 80]).count()
+    3840 * line.windows(2).filter(|pair| pair == &[27, 80]).count()
 }
 
 /// The line cut up, each piece short enough.
@@ -124,11 +125,12 @@ impl Stream<'_> {
         // seldom too little, so that 13 is met
         let scarce = random.one_in(8);
         for piece in pieces {
-            let enough = 656 + room(piece);
-            let mut printer = vec![0; if scarce { random.below(700) } else { enough }];
-            let [cells, layer, shown] = &mut self.run.stores;
+            let enough = 3840 + room(piece);
+            let little = random.pick(&[700, 4000]);
+            let mut printer = vec![0; if scarce { random.below(little) } else { enough }];
+            let [cells, layer, shown, dots] = &mut self.run.stores;
             let (after, answer) =
-                self.terminal.piece(self.run.settings, piece, cells, layer, shown, &mut printer);
+                self.terminal.piece(self.run.settings, piece, cells, layer, shown, dots, &mut printer);
             self.add(after, &answer, &printer)?;
             // which refusals these are the answer does not say
             self.maybe_13 |= scarce && answer.refused > 0;
@@ -136,8 +138,8 @@ impl Stream<'_> {
                 self.refused_call(random, classes)?;
             }
         }
-        let [cells, layer, shown] = &mut self.run.stores;
-        let (after, answer) = self.terminal.closing(self.run.settings, cells, layer, shown);
+        let [cells, layer, shown, dots] = &mut self.run.stores;
+        let (after, answer) = self.terminal.closing(self.run.settings, cells, layer, shown, dots);
         classes.count_if(answer.accepted == 1, "closed on 27, 209");
         classes.count_if(answer.first == 12, "closed by 12");
         self.add(after, &answer, &[])
@@ -154,27 +156,29 @@ impl Stream<'_> {
     /// A call that has to be refused, and so to change nothing.
     fn refused_call(&mut self, random: &mut Random, classes: &mut Classes) -> Result<(), String> {
         let before = self.run.clone();
-        let Run { settings, stores: [cells, layer, shown], .. } = &mut self.run;
+        let Run { settings, stores: [cells, layer, shown, dots], .. } = &mut self.run;
         let (terminal, unsound) = (&mut *self.terminal, Settings { step: 0, ..*settings });
         let (given, (after, answer), class) = match random.below(5) {
-            0 => {
-                (*settings, terminal.closing(*settings, &mut cells[1..], layer, shown), "refused between: 1")
-            }
+            0 => (
+                *settings,
+                terminal.closing(*settings, &mut cells[1..], layer, shown, dots),
+                "refused between: 1",
+            ),
             1 => (
                 *settings,
-                terminal.piece(*settings, &[65; 4097], cells, layer, shown, &mut []),
+                terminal.piece(*settings, &[65; 4097], cells, layer, shown, dots, &mut []),
                 "refused between: 2",
             ),
             2 => (
                 unsound,
-                terminal.message(unsound, &[65], cells, layer, shown, &mut []),
+                terminal.message(unsound, &[65], cells, layer, shown, dots, &mut []),
                 "refused between: 3",
             ),
             3 => (*settings, terminal.key_text(*settings, 0, &[65; 8]), "refused between: 17"),
             _ if settings.held == 0 => return Ok(()),
             _ => (
                 *settings,
-                terminal.message(*settings, &[65], cells, layer, shown, &mut []),
+                terminal.message(*settings, &[65], cells, layer, shown, dots, &mut []),
                 "refused between: 16",
             ),
         };

@@ -27,6 +27,7 @@
 //!   sums (Adler-32; printer: over the printer bytes of all calls of the
 //!   case) and the eight rows, as `replay` prints them.
 
+mod dots;
 mod examples;
 mod keyline;
 mod late;
@@ -107,6 +108,7 @@ pub fn cases() -> Vec<Case> {
     keyline::cases(&mut cases);
     lines::cases(&mut cases);
     late::cases(&mut cases);
+    dots::cases(&mut cases);
     cases.0
 }
 
@@ -189,12 +191,12 @@ pub fn play_on(terminal: &mut dyn Terminal, recording: &[u8]) -> Option<String> 
 
 fn open_on(terminal: &mut dyn Terminal) -> Session {
     let mut session = Session::open();
-    let Session { cells, layer, shown, .. } = &mut session;
+    let Session { cells, layer, shown, dots, .. } = &mut session;
     // the opening under test has to write every byte itself
-    for store in [&mut *cells, &mut *layer, &mut *shown] {
+    for store in [&mut *cells, &mut *layer, &mut *shown, &mut *dots] {
         store.fill(1);
     }
-    session.settings = terminal.opening(1, cells, layer, shown).0;
+    session.settings = terminal.opening(1, cells, layer, shown, dots).0;
     session
 }
 
@@ -206,14 +208,14 @@ fn call_on(
     room: usize,
 ) -> Answer {
     let mut printer = vec![0; room];
-    let Session { settings, cells, layer, shown, printed } = session;
+    let Session { settings, cells, layer, shown, dots, printed, .. } = session;
     let (after, answer) = match kind {
-        Kind::Message => terminal.message(*settings, bytes, cells, layer, shown, &mut printer),
-        Kind::Piece => terminal.piece(*settings, bytes, cells, layer, shown, &mut printer),
-        Kind::Closing => terminal.closing(*settings, cells, layer, shown),
+        Kind::Message => terminal.message(*settings, bytes, cells, layer, shown, dots, &mut printer),
+        Kind::Piece => terminal.piece(*settings, bytes, cells, layer, shown, dots, &mut printer),
+        Kind::Closing => terminal.closing(*settings, cells, layer, shown, dots),
         Kind::KeyText(number) => terminal.key_text(*settings, number, bytes),
         Kind::Opening(rule) => {
-            let (settings, number) = terminal.opening(rule, cells, layer, shown);
+            let (settings, number) = terminal.opening(rule, cells, layer, shown, dots);
             (settings, Answer { number, ..Answer::default() })
         }
     };

@@ -2,7 +2,7 @@
 //! difference can be seen again, and the named cases are in order.
 
 use compare::coverage::Coverage;
-use compare::generate::Kind;
+use compare::generate::{Kind, SIZES};
 use compare::play::{run, Plan};
 use compare::vectors::{cases, play, recording};
 use compare::{Functions, BROKEN, REFERENCE, TUNED};
@@ -70,8 +70,9 @@ fn scenes_are_built_whole() {
 fn tuned_equals_the_reference_on_the_named_cases() {
     for case in cases() {
         let mut sides = [REFERENCE, TUNED].map(|side| {
-            let mut stores = (vec![1; 3840], vec![1; 1280], vec![1; 640]);
-            let settings = (side.opening)(1, &mut stores.0, &mut stores.1, &mut stores.2).0;
+            let mut stores = SIZES.map(|size| vec![1; size]);
+            let [cells, layer, shown, dots] = &mut stores;
+            let settings = (side.opening)(1, cells, layer, shown, dots).0;
             (settings, stores)
         });
         for call in &case.calls {
@@ -83,19 +84,19 @@ fn tuned_equals_the_reference_on_the_named_cases() {
     }
 }
 
-type Side = (Settings, (Vec<u8>, Vec<u8>, Vec<u8>));
+type Side = (Settings, [Vec<u8>; 4]);
 
 fn play_one(terminal: &Functions, side: &mut Side, call: &(Kind, usize, Vec<u8>)) -> (Answer, Vec<u8>) {
     let (kind, room, bytes) = call;
-    let (settings, (cells, layer, shown)) = side;
+    let (settings, [cells, layer, shown, dots]) = side;
     let mut printer = vec![7; *room];
     let (after, answer) = match kind {
-        Kind::Message => (terminal.message)(*settings, bytes, cells, layer, shown, &mut printer),
-        Kind::Piece => (terminal.piece)(*settings, bytes, cells, layer, shown, &mut printer),
-        Kind::Closing => (terminal.closing)(*settings, cells, layer, shown),
+        Kind::Message => (terminal.message)(*settings, bytes, cells, layer, shown, dots, &mut printer),
+        Kind::Piece => (terminal.piece)(*settings, bytes, cells, layer, shown, dots, &mut printer),
+        Kind::Closing => (terminal.closing)(*settings, cells, layer, shown, dots),
         Kind::KeyText(number) => (terminal.key_text)(*settings, *number, bytes),
         Kind::Opening(rule) => {
-            let (settings, number) = (terminal.opening)(*rule, cells, layer, shown);
+            let (settings, number) = (terminal.opening)(*rule, cells, layer, shown, dots);
             (settings, Answer { number, ..Answer::default() })
         }
     };

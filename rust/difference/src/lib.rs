@@ -23,8 +23,9 @@ impl Terminal for Board {
         cells: &mut [u8],
         layer: &mut [u8],
         shown: &mut [u8],
+        dots: &mut [u8],
     ) -> (Settings, u8) {
-        let (settings, number) = px8::opening(rule, cells, layer, shown);
+        let (settings, number) = px8::opening(rule, cells, layer, shown, dots);
         (settings_from_board(&settings), number)
     }
 
@@ -35,10 +36,11 @@ impl Terminal for Board {
         cells: &mut [u8],
         layer: &mut [u8],
         shown: &mut [u8],
+        dots: &mut [u8],
         printer: &mut [u8],
     ) -> (Settings, Answer) {
         let given = settings_to_board(&settings);
-        let (after, answer) = px8::message(given, message, cells, layer, shown, printer);
+        let (after, answer) = px8::message(given, message, cells, layer, shown, dots, printer);
         (settings_from_board(&after), answer_from_board(&answer))
     }
 
@@ -49,10 +51,11 @@ impl Terminal for Board {
         cells: &mut [u8],
         layer: &mut [u8],
         shown: &mut [u8],
+        dots: &mut [u8],
         printer: &mut [u8],
     ) -> (Settings, Answer) {
         let given = settings_to_board(&settings);
-        let (after, answer) = px8::piece(given, piece, cells, layer, shown, printer);
+        let (after, answer) = px8::piece(given, piece, cells, layer, shown, dots, printer);
         (settings_from_board(&after), answer_from_board(&answer))
     }
 
@@ -62,8 +65,9 @@ impl Terminal for Board {
         cells: &mut [u8],
         layer: &mut [u8],
         shown: &mut [u8],
+        dots: &mut [u8],
     ) -> (Settings, Answer) {
-        let (after, answer) = px8::closing(settings_to_board(&settings), cells, layer, shown);
+        let (after, answer) = px8::closing(settings_to_board(&settings), cells, layer, shown, dots);
         (settings_from_board(&after), answer_from_board(&answer))
     }
 

@@ -26,8 +26,8 @@ fn symbols() -> Vec<(String, char)> {
     text.lines().filter_map(symbol).collect()
 }
 
-/// The archive has two objects with much code in common: the calls are all
-/// that is global in them, each once, so that neither uses the other's copy.
+/// The archive has three objects with much code in common: the calls are all
+/// that is global in them, each once, so that none uses another's copy.
 #[test]
 fn only_the_calls_are_exported() {
     let offered = |kind: char| kind.is_ascii_uppercase() && kind != 'U';

@@ -25,6 +25,8 @@ extern "C" {
         layer_length: usize,
         shown: *mut u8,
         shown_length: usize,
+        dots: *mut u8,
+        dots_length: usize,
     ) -> Opened;
 
     fn px8_message(
@@ -37,6 +39,8 @@ extern "C" {
         layer_length: usize,
         shown: *mut u8,
         shown_length: usize,
+        dots: *mut u8,
+        dots_length: usize,
         printer: *mut u8,
         printer_length: usize,
     ) -> Outcome;
@@ -51,6 +55,8 @@ extern "C" {
         layer_length: usize,
         shown: *mut u8,
         shown_length: usize,
+        dots: *mut u8,
+        dots_length: usize,
         printer: *mut u8,
         printer_length: usize,
     ) -> Outcome;
@@ -63,6 +69,8 @@ extern "C" {
         layer_length: usize,
         shown: *mut u8,
         shown_length: usize,
+        dots: *mut u8,
+        dots_length: usize,
     ) -> Outcome;
 
     fn px8_key_text(settings: Settings, number: usize, text: *const u8, text_length: usize) -> Outcome;
@@ -83,20 +91,27 @@ extern "C" {
 /// it then alters nothing, and returns the opening settings by rule 1.
 ///
 /// ```
-/// let (mut cells, mut layer, mut shown) = ([0; px8::CELLS], [1; px8::LAYER], [0; px8::SHOWN]);
-/// let (settings, number) = px8::opening(1, &mut cells, &mut layer, &mut shown);
+/// let (mut cells, mut layer) = ([0; px8::CELLS], [1; px8::LAYER]);
+/// let (mut shown, mut dots) = ([0; px8::SHOWN], [1; px8::DOTS]);
+/// let (settings, number) = px8::opening(1, &mut cells, &mut layer, &mut shown, &mut dots);
 /// assert_eq!((number, settings.lines1, settings.keys.charset), (0, 24, b'U'));
 /// assert!(cells.iter().chain(&shown).all(|&code| code == 32));
-/// assert_eq!(layer, [0; px8::LAYER]);
+/// assert_eq!((layer, dots), ([0; px8::LAYER], [0; px8::DOTS]));
 ///
 /// shown.fill(7);
-/// let (same, number) = px8::opening(2, &mut cells[1..], &mut layer, &mut shown);
+/// let (same, number) = px8::opening(2, &mut cells, &mut layer, &mut shown, &mut dots[1..]);
 /// assert_eq!((same, number, shown), (settings, px8::STORE_SIZE, [7; px8::SHOWN]));
-/// let (same, number) = px8::opening(3, &mut cells, &mut layer, &mut shown);
+/// let (same, number) = px8::opening(3, &mut cells, &mut layer, &mut shown, &mut dots);
 /// assert_eq!((same, number, shown), (settings, px8::BAD_RULE, [7; px8::SHOWN]));
 /// ```
 #[inline]
-pub fn opening(rule: usize, cells: &mut [u8], layer: &mut [u8], shown: &mut [u8]) -> (Settings, u8) {
+pub fn opening(
+    rule: usize,
+    cells: &mut [u8],
+    layer: &mut [u8],
+    shown: &mut [u8],
+    dots: &mut [u8],
+) -> (Settings, u8) {
     // SAFETY: each pointer goes with its own length, and exclusive borrows do
     // not overlap. The call keeps no pointer.
     let opened = unsafe {
@@ -108,6 +123,8 @@ pub fn opening(rule: usize, cells: &mut [u8], layer: &mut [u8], shown: &mut [u8]
             layer.len(),
             shown.as_mut_ptr(),
             shown.len(),
+            dots.as_mut_ptr(),
+            dots.len(),
         )
     };
     (opened.settings, opened.number)
@@ -117,10 +134,11 @@ pub fn opening(rule: usize, cells: &mut [u8], layer: &mut [u8], shown: &mut [u8]
 /// written to `printer` from its start; see [`printed`].
 ///
 /// ```
-/// let (mut cells, mut layer, mut shown) = ([0; px8::CELLS], [0; px8::LAYER], [0; px8::SHOWN]);
-/// let (settings, _) = px8::opening(1, &mut cells, &mut layer, &mut shown);
+/// let (mut cells, mut layer) = ([0; px8::CELLS], [0; px8::LAYER]);
+/// let (mut shown, mut dots) = ([0; px8::SHOWN], [0; px8::DOTS]);
+/// let (settings, _) = px8::opening(1, &mut cells, &mut layer, &mut shown, &mut dots);
 /// let (after, answer) =
-///     px8::message(settings, &[65, 27, 27, 66], &mut cells, &mut layer, &mut shown, &mut []);
+///     px8::message(settings, &[65, 27, 27, 66], &mut cells, &mut layer, &mut shown, &mut dots, &mut []);
 /// assert_eq!(answer.to_string(), "answer 0 taken 4 accepted 0 refused 1 first 10 at 1");
 /// assert_eq!((&shown[..3], after.places[0].column), (&b"AB "[..], 3));
 /// ```
@@ -131,6 +149,7 @@ pub fn message(
     cells: &mut [u8],
     layer: &mut [u8],
     shown: &mut [u8],
+    dots: &mut [u8],
     printer: &mut [u8],
 ) -> (Settings, Answer) {
     // SAFETY: each pointer goes with its own length, and exclusive borrows
@@ -147,6 +166,8 @@ pub fn message(
             layer.len(),
             shown.as_mut_ptr(),
             shown.len(),
+            dots.as_mut_ptr(),
+            dots.len(),
             printer.as_mut_ptr(),
             printer.len(),
         )
@@ -160,13 +181,14 @@ pub fn message(
 /// from the stream's start. Refused by 1, 2, 3 or 15.
 ///
 /// ```
-/// let (mut cells, mut layer, mut shown) = ([0; px8::CELLS], [0; px8::LAYER], [0; px8::SHOWN]);
-/// let (settings, _) = px8::opening(1, &mut cells, &mut layer, &mut shown);
+/// let (mut cells, mut layer) = ([0; px8::CELLS], [0; px8::LAYER]);
+/// let (mut shown, mut dots) = ([0; px8::SHOWN], [0; px8::DOTS]);
+/// let (settings, _) = px8::opening(1, &mut cells, &mut layer, &mut shown, &mut dots);
 /// let (after, answer) =
-///     px8::piece(settings, &[65, 27], &mut cells, &mut layer, &mut shown, &mut []);
+///     px8::piece(settings, &[65, 27], &mut cells, &mut layer, &mut shown, &mut dots, &mut []);
 /// assert_eq!((answer.taken, answer.refused, after.waiting()), (2, 0, &[27][..]));
 /// let (after, answer) =
-///     px8::piece(after, &[27, 66], &mut cells, &mut layer, &mut shown, &mut []);
+///     px8::piece(after, &[27, 66], &mut cells, &mut layer, &mut shown, &mut dots, &mut []);
 /// assert_eq!(answer.to_string(), "answer 0 taken 2 accepted 0 refused 1 first 10 at 1");
 /// assert_eq!((&shown[..3], after.held, after.count), (&b"AB "[..], 0, 4));
 /// ```
@@ -177,6 +199,7 @@ pub fn piece(
     cells: &mut [u8],
     layer: &mut [u8],
     shown: &mut [u8],
+    dots: &mut [u8],
     printer: &mut [u8],
 ) -> (Settings, Answer) {
     // SAFETY: as of the message call.
@@ -191,6 +214,8 @@ pub fn piece(
             layer.len(),
             shown.as_mut_ptr(),
             shown.len(),
+            dots.as_mut_ptr(),
+            dots.len(),
             printer.as_mut_ptr(),
             printer.len(),
         )
@@ -204,10 +229,12 @@ pub fn piece(
 /// buffer: no unfinished sequence is a copy. Refused by 1 or 3.
 ///
 /// ```
-/// let (mut cells, mut layer, mut shown) = ([0; px8::CELLS], [0; px8::LAYER], [0; px8::SHOWN]);
-/// let (settings, _) = px8::opening(1, &mut cells, &mut layer, &mut shown);
-/// let (after, _) = px8::piece(settings, &[65, 27, 61], &mut cells, &mut layer, &mut shown, &mut []);
-/// let (after, answer) = px8::closing(after, &mut cells, &mut layer, &mut shown);
+/// let (mut cells, mut layer) = ([0; px8::CELLS], [0; px8::LAYER]);
+/// let (mut shown, mut dots) = ([0; px8::SHOWN], [0; px8::DOTS]);
+/// let (settings, _) = px8::opening(1, &mut cells, &mut layer, &mut shown, &mut dots);
+/// let (after, _) =
+///     px8::piece(settings, &[65, 27, 61], &mut cells, &mut layer, &mut shown, &mut dots, &mut []);
+/// let (after, answer) = px8::closing(after, &mut cells, &mut layer, &mut shown, &mut dots);
 /// assert_eq!(answer.to_string(), "answer 0 taken 0 accepted 0 refused 1 first 12 at 1");
 /// assert_eq!((after.held, after.count), (0, 0));
 /// ```
@@ -217,6 +244,7 @@ pub fn closing(
     cells: &mut [u8],
     layer: &mut [u8],
     shown: &mut [u8],
+    dots: &mut [u8],
 ) -> (Settings, Answer) {
     // SAFETY: as of the opening call; any settings may be given.
     let outcome = unsafe {
@@ -228,6 +256,8 @@ pub fn closing(
             layer.len(),
             shown.as_mut_ptr(),
             shown.len(),
+            dots.as_mut_ptr(),
+            dots.len(),
         )
     };
     (outcome.settings, outcome.answer)

@@ -131,7 +131,7 @@ impl io::Write for Stream<'_> {
 /// use std::io::Write;
 /// let open = px8::Terminal::open();
 /// let settings = px8::Settings { count: px8::COUNT_MOST, ..*open.settings() };
-/// let mut full = px8::Terminal::resume(settings, *open.cells(), *open.layer(), *open.shown());
+/// let mut full = px8::Terminal::resume(settings, *open.cells(), *open.layer(), *open.shown(), *open.dots());
 /// let error = full.stream().write_all(b"38,500").unwrap_err();
 /// let refused: &px8::Refused = error.get_ref().unwrap().downcast_ref().unwrap();
 /// assert_eq!(refused.number, px8::STREAM_TOO_LONG);

@@ -3,6 +3,7 @@
 use crate::calls;
 use crate::stream::Stream;
 use crate::types::{Answer, Settings, CELLS, COPY, LAYER, MESSAGE_MOST, ROWS, SHOWN, WIDTH};
+use crate::types::{DOTS, DOT_COLUMNS, DOT_ROW, DOT_ROWS};
 
 /// A terminal with its settings and stores.
 ///
@@ -18,13 +19,14 @@ pub struct Terminal {
     cells: [u8; CELLS],
     layer: [u8; LAYER],
     shown: [u8; SHOWN],
+    dots: [u8; DOTS],
 }
 
 /// What a message or a piece gives back.
 #[derive(Clone, Debug, PartialEq, Eq)]
 pub struct Reply {
     pub answer: Answer,
-    /// The printed copies, [`COPY`] bytes each.
+    /// The printed copies, [`COPY`] bytes each, in mode 3 [`DOTS`].
     pub printed: Vec<u8>,
 }
 
@@ -52,10 +54,11 @@ impl Terminal {
     /// # Ok::<(), u8>(())
     /// ```
     pub fn open_with(rule: usize) -> Result<Terminal, u8> {
-        let (mut cells, mut layer, mut shown) = ([0; CELLS], [0; LAYER], [0; SHOWN]);
-        let (settings, number) = calls::opening(rule, &mut cells, &mut layer, &mut shown);
+        let (mut cells, mut layer) = ([0; CELLS], [0; LAYER]);
+        let (mut shown, mut dots) = ([0; SHOWN], [0; DOTS]);
+        let (settings, number) = calls::opening(rule, &mut cells, &mut layer, &mut shown, &mut dots);
         match number {
-            crate::SERVED => Ok(Terminal { settings, cells, layer, shown }),
+            crate::SERVED => Ok(Terminal { settings, cells, layer, shown, dots }),
             refused => Err(refused),
         }
     }
@@ -68,8 +71,9 @@ impl Terminal {
     /// ```
     /// let mut terminal = px8::Terminal::open();
     /// terminal.message(b"tare");
-    /// let (cells, layer, shown) = (*terminal.cells(), *terminal.layer(), *terminal.shown());
-    /// let again = px8::Terminal::resume(*terminal.settings(), cells, layer, shown);
+    /// let (cells, layer) = (*terminal.cells(), *terminal.layer());
+    /// let (shown, dots) = (*terminal.shown(), *terminal.dots());
+    /// let again = px8::Terminal::resume(*terminal.settings(), cells, layer, shown, dots);
     /// assert_eq!(again, terminal);
     /// ```
     pub fn resume(
@@ -77,8 +81,9 @@ impl Terminal {
         cells: [u8; CELLS],
         layer: [u8; LAYER],
         shown: [u8; SHOWN],
+        dots: [u8; DOTS],
     ) -> Terminal {
-        Terminal { settings, cells, layer, shown }
+        Terminal { settings, cells, layer, shown, dots }
     }
 
     /// Reads a message, with printer room for every copy that it asks for. A
@@ -93,7 +98,7 @@ impl Terminal {
     /// assert!(reply.printed[px8::COPY..].starts_with(b"tare "));
     /// ```
     pub fn message(&mut self, message: &[u8]) -> Reply {
-        self.message_with_room(message, COPY * copies_at_most(message))
+        self.message_with_room(message, self.room_for(message))
     }
 
     /// Reads a message with just so much printer room.
@@ -113,8 +118,8 @@ impl Terminal {
     /// Reads a message with a lent printer buffer, and hands back the answer
     /// and the part of the buffer that holds copies. Nothing is allocated.
     pub fn message_into<'a>(&mut self, message: &[u8], printer: &'a mut [u8]) -> (Answer, &'a [u8]) {
-        let Terminal { settings, cells, layer, shown } = self;
-        let (after, answer) = calls::message(*settings, message, cells, layer, shown, printer);
+        let Terminal { settings, cells, layer, shown, dots } = self;
+        let (after, answer) = calls::message(*settings, message, cells, layer, shown, dots, printer);
         self.settings = after;
         (answer, calls::printed(printer, answer.printed))
     }
@@ -133,9 +138,7 @@ impl Terminal {
     /// assert_eq!(terminal.to_string(), "1 38\n2\n3\n4     ,500\n5\n6\n7\n8\n");
     /// ```
     pub fn piece(&mut self, piece: &[u8]) -> Reply {
-        // an ESC that waits and an 80 that comes are a copy too
-        let joined = self.settings.waiting().last() == Some(&27) && piece.first() == Some(&80);
-        self.piece_with_room(piece, COPY * (copies_at_most(piece) + usize::from(joined)))
+        self.piece_with_room(piece, self.room_for(piece))
     }
 
     /// Reads a piece with just so much printer room.
@@ -165,8 +168,8 @@ impl Terminal {
     /// assert!(copy.starts_with(b"net "));
     /// ```
     pub fn piece_into<'a>(&mut self, piece: &[u8], printer: &'a mut [u8]) -> (Answer, &'a [u8]) {
-        let Terminal { settings, cells, layer, shown } = self;
-        let (after, answer) = calls::piece(*settings, piece, cells, layer, shown, printer);
+        let Terminal { settings, cells, layer, shown, dots } = self;
+        let (after, answer) = calls::piece(*settings, piece, cells, layer, shown, dots, printer);
         self.settings = after;
         (answer, calls::printed(printer, answer.printed))
     }
@@ -184,8 +187,8 @@ impl Terminal {
     /// assert_eq!((terminal.settings().selected, terminal.settings().count), (0, 0));
     /// ```
     pub fn closing(&mut self) -> Answer {
-        let Terminal { settings, cells, layer, shown } = self;
-        let (after, answer) = calls::closing(*settings, cells, layer, shown);
+        let Terminal { settings, cells, layer, shown, dots } = self;
+        let (after, answer) = calls::closing(*settings, cells, layer, shown, dots);
         self.settings = after;
         answer
     }
@@ -264,6 +267,68 @@ impl Terminal {
         &self.shown
     }
 
+    /// The dots of mode 3: 64 rows of 60 bytes, the leftmost dot in the highest
+    /// bit.
+    pub fn dots(&self) -> &[u8; DOTS] {
+        &self.dots
+    }
+
+    /// The 64 rows of dots, as bits.
+    ///
+    /// ```
+    /// let mut terminal = px8::Terminal::open();
+    /// // mode 3, and a line from dot 12 of row 5 to dot 19
+    /// terminal.message(&[27, 208, 3, 27, 198, 0, 12, 0, 5, 0, 19, 0, 5, 255, 255, 2]);
+    /// let rows: Vec<_> = terminal.dot_rows().collect();
+    /// assert_eq!((rows.len(), &rows[5][..4]), (64, &[0, 0b0000_1111, 0b1111_0000, 0][..]));
+    /// ```
+    pub fn dot_rows(&self) -> impl ExactSizeIterator<Item = &[u8; DOT_ROW]> {
+        self.dots.as_chunks().0.iter()
+    }
+
+    /// Whether a dot is on; none where there is no such dot.
+    ///
+    /// ```
+    /// let mut terminal = px8::Terminal::open();
+    /// terminal.message(&[27, 208, 3, 27, 199, 1, 63, 1, 223]);
+    /// assert_eq!((terminal.dot(63, 479), terminal.dot(63, 478)), (Some(true), Some(false)));
+    /// assert_eq!((terminal.dot(64, 0), terminal.dot(0, 480)), (None, None));
+    /// ```
+    pub fn dot(&self, vertical: usize, horizontal: usize) -> Option<bool> {
+        if vertical >= DOT_ROWS || horizontal >= DOT_COLUMNS {
+            return None;
+        }
+        Some(self.dots[DOT_ROW * vertical + horizontal / 8] & (128 >> (horizontal % 8)) != 0)
+    }
+
+    /// The dots as an image that any viewer opens: a portable bitmap (`P4`).
+    ///
+    /// ```
+    /// let mut terminal = px8::Terminal::open();
+    /// terminal.message(&[27, 208, 3, 27, 199, 1, 0, 0, 7]);
+    /// let bitmap = terminal.bitmap();
+    /// assert_eq!((&bitmap[..12], bitmap.len()), (&b"P4\n480 64\n\x01\x00"[..], 10 + px8::DOTS));
+    /// ```
+    pub fn bitmap(&self) -> Vec<u8> {
+        let mut bytes = format!("P4\n{DOT_COLUMNS} {DOT_ROWS}\n").into_bytes();
+        bytes.extend(self.dots);
+        bytes
+    }
+
+    /// Room for every copy that these bytes can ask for behind those that wait: an
+    /// ESC 80 takes two bytes of its own, so there are no more copies than places
+    /// where these two stand together. A message or piece that is too long prints
+    /// nothing.
+    fn room_for(&self, bytes: &[u8]) -> usize {
+        if bytes.len() > MESSAGE_MOST {
+            return 0;
+        }
+        let line = [self.settings.waiting(), bytes].concat();
+        let copies = line.windows(2).filter(|pair| *pair == [27, 80]).count();
+        let dots = self.settings.mode == 3 || line.windows(3).any(|three| three == [27, 208, 3]);
+        copies * if dots { DOTS } else { COPY }
+    }
+
     /// The eight rows of the shown screen.
     ///
     /// ```
@@ -275,16 +340,6 @@ impl Terminal {
     pub fn rows(&self) -> impl ExactSizeIterator<Item = &[u8; WIDTH]> {
         self.shown.as_chunks().0.iter()
     }
-}
-
-/// An ESC 80 takes two bytes of its own, so there are no more copies than
-/// places where these two stand together; a message that is too long prints
-/// nothing.
-fn copies_at_most(message: &[u8]) -> usize {
-    if message.len() > MESSAGE_MOST {
-        return 0;
-    }
-    message.windows(2).filter(|pair| *pair == [27, 80]).count()
 }
 
 impl std::fmt::Display for Terminal {

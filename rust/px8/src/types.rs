@@ -11,9 +11,18 @@ pub const CELLS: usize = 3840;
 pub const LAYER: usize = 1280;
 /// Bytes of the shown screen.
 pub const SHOWN: usize = ROWS * WIDTH;
+/// Bytes of the dots of mode 3.
+pub const DOTS: usize = DOT_ROWS * DOT_ROW;
+/// Bytes of a row of dots.
+pub const DOT_ROW: usize = DOT_COLUMNS / 8;
+/// Rows of dots.
+pub const DOT_ROWS: usize = 64;
+/// Dots in a row.
+pub const DOT_COLUMNS: usize = 480;
 /// The longest message that is taken, and the longest piece of a stream.
 pub const MESSAGE_MOST: usize = 4096;
-/// Bytes of a printed copy: 8 rows of 80, each followed by 13 and 10.
+/// Bytes of a printed copy: 8 rows of 80, each followed by 13 and 10. In mode 3 it
+/// has [`DOTS`]; see [`Settings::copy_size`].
 pub const COPY: usize = ROWS * (WIDTH + 2);
 /// Bytes of the patterns: 31 codes of 8 rows.
 pub const PATTERNS: usize = 248;
@@ -61,10 +70,9 @@ pub const OUT_OF_RANGE: u8 = 11;
 /// First refusal: the message ends inside a sequence, or the stream is closed
 /// inside one.
 pub const CUT: u8 = 12;
-/// First refusal: ESC 80 with less than [`COPY`] of printer room left.
+/// First refusal: ESC 80 with less than [`COPY`] of printer room left, in mode 3
+/// with less than [`DOTS`].
 pub const NO_ROOM: u8 = 13;
-/// First refusal: ESC 208 with mode 3.
-pub const MODE_3: u8 = 14;
 
 /// The trace is longer than 60,000 bytes; the call is refused.
 pub const TRACE_TOO_LONG: u8 = 19;
@@ -123,23 +131,24 @@ pub struct Keys {
 #[repr(C)]
 #[derive(Clone, Copy, Debug, PartialEq, Eq)]
 pub struct Settings {
-    /// 0, 1 or 2 (208).
+    /// 0 to 3 (208).
     pub mode: u8,
     /// Lines of screen 1. Mode 0: each screen at least 8, together at most
-    /// 48. Mode 1: equal, 16 to 48. Mode 2: equal, 8 to 48.
+    /// 48. Mode 1: equal, 16 to 48. Mode 2: equal, 8 to 48. Mode 3: 8 and 0.
     pub lines1: u8,
     /// Lines of screen 2.
     pub lines2: u8,
     /// Columns of screen 1. Mode 0: 80 and 80. Mode 1: 39 and 39. Mode 2: m
-    /// and 79 − m, with m 1 to 78.
+    /// and 79 − m, with m 1 to 78. Mode 3: 80 and 0.
     pub columns1: u8,
     /// Columns of screen 2.
     pub columns2: u8,
     /// Any byte: mode 2 shows it in column m + 1.
     pub boundary: u8,
-    /// 0 is screen 1, 1 is screen 2 (209).
+    /// 0 is screen 1, 1 is screen 2 (209). Mode 3 has screen 1 alone.
     pub selected: u8,
-    /// Of screen 1 and of screen 2.
+    /// Of screen 1 and of screen 2; in mode 3 the second is 1, 1, 1 without a
+    /// flag.
     pub places: [Place; 2],
     /// 1 where the window follows the cursor (149, sent the other way round).
     pub tracking: u8,
@@ -150,9 +159,9 @@ pub struct Settings {
     /// 1 is on (51, 50).
     pub cursor: u8,
     /// Key display as sent (211): 0 row 8 is the key line, 1 it shows the
-    /// screens as the other rows do.
+    /// screens as the other rows do. 1 in mode 3.
     pub display: u8,
-    /// The cursor's type, 0 to 3 (214).
+    /// The cursor's type, 0 to 3 (214); 3 in mode 3.
     pub kind: u8,
     pub keys: Keys,
     /// 31 patterns of 8 rows, for the codes 224 to 254 (224).
@@ -180,6 +189,22 @@ pub struct Settings {
 }
 
 impl Settings {
+    /// The printer room that a copy takes now.
+    ///
+    /// ```
+    /// let mut terminal = px8::Terminal::open();
+    /// assert_eq!(terminal.settings().copy_size(), px8::COPY);
+    /// terminal.message(&[27, 208, 3]);
+    /// assert_eq!(terminal.settings().copy_size(), px8::DOTS);
+    /// ```
+    pub fn copy_size(&self) -> usize {
+        if self.mode == 3 {
+            DOTS
+        } else {
+            COPY
+        }
+    }
+
     /// The bytes that wait for the rest of their sequence; of settings that
     /// are not sound, no more than there is room for.
     ///
@@ -237,7 +262,7 @@ pub struct Answer {
     pub accepted: u32,
     /// Sequences refused.
     pub refused: u32,
-    /// Number of the first refusal, 10 to 14; 0 if there is none.
+    /// Number of the first refusal, 10 to 13; 0 if there is none.
     pub first: u8,
     /// The first bad parameter of the first refusal, if that is
     /// [`OUT_OF_RANGE`]: the byte after the sequence's second one is 1, and
@@ -246,7 +271,7 @@ pub struct Answer {
     /// Where its ESC stands, from 0: in the message, or for a piece and a
     /// closing in the stream. 0 if there is none.
     pub offset: u32,
-    /// Bytes of printed copies, a multiple of [`COPY`].
+    /// Bytes of printed copies, [`COPY`] each, in mode 3 [`DOTS`].
     pub printed: usize,
 }
 
@@ -288,7 +313,7 @@ impl Answer {
 /// an error that `?` can hand on.
 #[derive(Clone, Copy, Debug, PartialEq, Eq)]
 pub struct Refusal {
-    /// [`NOT_LISTED`], [`OUT_OF_RANGE`], [`CUT`], [`NO_ROOM`] or [`MODE_3`].
+    /// [`NOT_LISTED`], [`OUT_OF_RANGE`], [`CUT`] or [`NO_ROOM`].
     pub number: u8,
     /// The first bad parameter, from 1, of [`OUT_OF_RANGE`]; else 0.
     pub parameter: u8,
@@ -310,8 +335,9 @@ impl std::fmt::Display for Refusal {
                 }
             }
             CUT => write!(f, "the message or stream ends inside the sequence"),
-            NO_ROOM => write!(f, "a copy needs {COPY} bytes of printer room, and fewer are left"),
-            MODE_3 => write!(f, "mode 3 is not served"),
+            NO_ROOM => {
+                write!(f, "a copy needs {COPY} bytes of printer room, in mode 3 {DOTS}, and fewer are left")
+            }
             // no answer has another number
             _ => write!(f, "of an unknown number"),
         }

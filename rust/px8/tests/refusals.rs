@@ -1,7 +1,7 @@
 //! Refused calls and sequences, and what stays as it was: settings, stores,
 //! the printer buffer, and the bytes around all of them.
 
-use px8::{Answer, Settings, Terminal, CELLS, COPY, COUNT_MOST, LAYER, MESSAGE_MOST, SHOWN};
+use px8::{Answer, Settings, Terminal, CELLS, COPY, COUNT_MOST, DOTS, LAYER, MESSAGE_MOST, SHOWN};
 
 const GUARD: usize = 64;
 
@@ -17,21 +17,23 @@ fn inner(store: &mut [u8]) -> &mut [u8] {
 
 /// A call on settings and bytes; a closing looks at the bytes no more than at
 /// the printer buffer.
-type Call = fn(Settings, &[u8], &mut [u8], &mut [u8], &mut [u8], &mut [u8]) -> (Settings, Answer);
+type Call = fn(Settings, &[u8], &mut [u8], &mut [u8], &mut [u8], &mut [u8], &mut [u8]) -> (Settings, Answer);
 
-const CLOSING: Call = |settings, _, cells, layer, shown, _| px8::closing(settings, cells, layer, shown);
+const CLOSING: Call =
+    |settings, _, cells, layer, shown, dots, _| px8::closing(settings, cells, layer, shown, dots);
 
 /// Makes the call on guarded stores of these sizes, and returns its results
 /// and whether every byte of every buffer stayed.
-fn call(made: Call, settings: Settings, bytes: &[u8], sizes: [usize; 4]) -> (Settings, Answer, bool) {
+fn call(made: Call, settings: Settings, bytes: &[u8], sizes: [usize; 5]) -> (Settings, Answer, bool) {
     let mut stores = sizes.map(guarded);
     let before = stores.clone();
-    let [cells, layer, shown, printer] = &mut stores;
-    let (after, answer) = made(settings, bytes, inner(cells), inner(layer), inner(shown), inner(printer));
+    let [cells, layer, shown, dots, printer] = &mut stores;
+    let (cells, layer, shown) = (inner(cells), inner(layer), inner(shown));
+    let (after, answer) = made(settings, bytes, cells, layer, shown, inner(dots), inner(printer));
     (after, answer, stores == before)
 }
 
-fn refused(made: Call, settings: Settings, bytes: &[u8], sizes: [usize; 4], number: u8) {
+fn refused(made: Call, settings: Settings, bytes: &[u8], sizes: [usize; 5], number: u8) {
     let (after, answer, unaltered) = call(made, settings, bytes, sizes);
     let expected =
         Answer { number, taken: 0, accepted: 0, refused: 0, first: 0, parameter: 0, offset: 0, printed: 0 };
@@ -44,12 +46,12 @@ fn opening_settings() -> Settings {
     *Terminal::open().settings()
 }
 
-const SIZES: [usize; 4] = [CELLS, LAYER, SHOWN, COPY];
+const SIZES: [usize; 5] = [CELLS, LAYER, SHOWN, DOTS, COPY];
 
 #[test]
 fn stores_of_a_wrong_size() {
     let settings = opening_settings();
-    for store in 0..3 {
+    for store in 0..4 {
         for size in [0, 1, SIZES[store] - 1, SIZES[store] + 1] {
             let mut sizes = SIZES;
             sizes[store] = size;
@@ -58,9 +60,9 @@ fn stores_of_a_wrong_size() {
             }
             let mut stores = sizes.map(guarded);
             let before = stores.clone();
-            let [cells, layer, shown, _] = &mut stores;
+            let [cells, layer, shown, dots, _] = &mut stores;
             for rule in [1, 2, 3] {
-                let opened = px8::opening(rule, inner(cells), inner(layer), inner(shown));
+                let opened = px8::opening(rule, inner(cells), inner(layer), inner(shown), inner(dots));
                 assert_eq!(opened, (settings, px8::STORE_SIZE));
             }
             assert_eq!(stores, before);
@@ -73,8 +75,8 @@ fn rules_that_are_none() {
     let mut stores = SIZES.map(guarded);
     let before = stores.clone();
     for rule in [0, 3, 255, 256, 257, 258, usize::MAX] {
-        let [cells, layer, shown, _] = &mut stores;
-        let opened = px8::opening(rule, inner(cells), inner(layer), inner(shown));
+        let [cells, layer, shown, dots, _] = &mut stores;
+        let opened = px8::opening(rule, inner(cells), inner(layer), inner(shown), inner(dots));
         assert_eq!(opened, (opening_settings(), px8::BAD_RULE));
         assert_eq!(Terminal::open_with(rule), Err(px8::BAD_RULE));
     }
@@ -186,7 +188,7 @@ fn lines_not_sound() {
 fn order_of_the_numbers() {
     let waits = with_line(&[27], 1, COUNT_MOST);
     let unsound = Settings { step: 0, ..waits };
-    let short = [CELLS, LAYER, SHOWN + 1, 0];
+    let short = [CELLS, LAYER, SHOWN, DOTS + 1, 0];
     for (made, last) in [(px8::message as Call, px8::BYTES_WAIT), (px8::piece, px8::STREAM_TOO_LONG)] {
         refused(made, unsound, &[65; 5000], short, px8::STORE_SIZE);
         refused(made, unsound, &[65; 5000], SIZES, px8::TOO_LONG);
@@ -221,7 +223,7 @@ fn refused_sequences() {
         (&[27, 51, 27], 0, px8::CUT, 2),
         (&[27, 80], 655, px8::NO_ROOM, 0),
         (&[27, 80, 27, 80], 1311, px8::NO_ROOM, 2),
-        (&[27, 208, 3, 67], 0, px8::MODE_3, 0),
+        (&[27, 208, 3, 27, 80], 3839, px8::NO_ROOM, 3),
         (&[27, 209, 65], 0, px8::OUT_OF_RANGE, 0),
     ];
     for (bytes, room, first, offset) in rows {
@@ -247,8 +249,12 @@ fn refusals_in_words() {
         (&[27, 208, 0, 255, 8], 3, "refusal 11 at offset 0: parameter 3 is outside its range"),
         (&[65, 66, 27, 210, 8, 81, 0, 27, 27], 2, "refusal 11 at offset 2: parameter 2 is outside its range"),
         (&[27, 208, 2, 99], 0, "refusal 12 at offset 0: the message or stream ends inside the sequence"),
-        (&[27, 80], 0, "refusal 13 at offset 0: a copy needs 656 bytes of printer room, and fewer are left"),
-        (&[27, 208, 3], 0, "refusal 14 at offset 0: mode 3 is not served"),
+        (
+            &[27, 80],
+            0,
+            "refusal 13 at offset 0: a copy needs 656 bytes of printer room, in mode 3 3840, and fewer are left",
+        ),
+        (&[27, 208, 3, 27, 199, 1, 9, 2, 0], 4, "refusal 11 at offset 3: parameter 4 is outside its range"),
     ];
     for (bytes, parameter, words) in rows {
         let answer = Terminal::open().message_with_room(bytes, 655).answer;
@@ -264,24 +270,24 @@ fn refusals_in_words() {
     assert_eq!(Terminal::open().message(&[27, 61, 55, 111]).answer.refusal(), None);
 }
 
-/// A served call writes the three stores and the copies, and nothing else.
+/// A served call writes the four stores and the copies, and nothing else.
 #[test]
 fn served_calls_stay_inside() {
-    let mut stores = [CELLS, LAYER, SHOWN, COPY + 10].map(guarded);
+    let mut stores = [CELLS, LAYER, SHOWN, DOTS, COPY + 10].map(guarded);
     let before = stores.clone();
-    let [cells, layer, shown, printer] = &mut stores;
-    let (settings, _) = px8::opening(1, inner(cells), inner(layer), inner(shown));
+    let [cells, layer, shown, dots, printer] = &mut stores;
+    let (cells, layer, shown, dots) = (inner(cells), inner(layer), inner(shown), inner(dots));
+    let (settings, _) = px8::opening(1, cells, layer, shown, dots);
     let bytes = [&[10; 60][..], &[27, 210, 8, 80, 42, 27, 80]].concat();
-    let (_, answer) =
-        px8::message(settings, &bytes, inner(cells), inner(layer), inner(shown), inner(printer));
+    let (_, answer) = px8::message(settings, &bytes, cells, layer, shown, dots, inner(printer));
     assert_eq!((answer.number, answer.accepted, answer.printed), (0, 2, COPY));
     for (store, was) in stores.iter().zip(&before) {
         let end = was.len() - GUARD;
         assert_eq!((&store[..GUARD], &store[end..]), (&was[..GUARD], &was[end..]));
     }
     // past the copy the printer buffer stays
-    assert_eq!(stores[3][GUARD + COPY..], before[3][GUARD + COPY..]);
-    assert_eq!(&stores[3][GUARD + COPY - 3..GUARD + COPY], &[42, 13, 10]);
+    assert_eq!(stores[4][GUARD + COPY..], before[4][GUARD + COPY..]);
+    assert_eq!(&stores[4][GUARD + COPY - 3..GUARD + COPY], &[42, 13, 10]);
 }
 
 #[test]

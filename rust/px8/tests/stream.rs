@@ -153,7 +153,8 @@ fn refused_pieces_are_errors() {
             "15: the stream would be longer than 1000000000 bytes",
         ),
     ] {
-        let mut terminal = Terminal::resume(settings, *open.cells(), *open.layer(), *open.shown());
+        let mut terminal =
+            Terminal::resume(settings, *open.cells(), *open.layer(), *open.shown(), *open.dots());
         let before = terminal.clone();
         let mut stream = terminal.stream();
         let error = stream.write_all(b"ab").unwrap_err();

@@ -51,8 +51,8 @@ fn a_lent_printer_buffer() {
 fn resumed_terminals_go_on() {
     let mut terminal = Terminal::open();
     terminal.message(b"\x1b\xd0\x01\x14gross\n\x1b\xd2\x02\x02*");
-    let mut again =
-        Terminal::resume(*terminal.settings(), *terminal.cells(), *terminal.layer(), [0; px8::SHOWN]);
+    let (cells, layer) = (*terminal.cells(), *terminal.layer());
+    let mut again = Terminal::resume(*terminal.settings(), cells, layer, [0; px8::SHOWN], *terminal.dots());
     assert_eq!(again.message(b"net"), terminal.message(b"net"));
     assert_eq!(again, terminal);
 }

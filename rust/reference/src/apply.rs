@@ -1,15 +1,17 @@
 //! What each item does: "each in turn changes what stands as its rule says,
 //! with tracking, and a refusal changes nothing".
 
-use super::picture::{copy, cursor_place, place};
-use super::read::Item;
-use super::settings::{mark_of, Place, Settings, BLANK, COPY, HOME, MARKS, MOST_LINES};
+use super::dots;
+use super::picture::{copy, copy_size, cursor_place, place};
+use super::read::{idle, Item};
+use super::settings::{mark_of, Place, Settings, BLANK, HOME, MARKS, MOST_LINES};
 
 /// What stands, and the printer buffer of the call.
 pub struct Standing<'a> {
     pub settings: Settings,
     pub cells: &'a mut [u8],
     pub layer: &'a mut [u8],
+    pub dots: &'a mut [u8],
     pub printer: &'a mut [u8],
     pub printed: usize,
 }
@@ -66,6 +68,9 @@ impl Standing<'_> {
 
     /// The sequences, one group of rules after the other.
     fn sequence(&mut self, second: u8, p: &[u8]) {
+        if idle(second, &self.settings) {
+            return;
+        }
         match second {
             37 => {
                 self.print(p[0]);
@@ -89,6 +94,8 @@ impl Standing<'_> {
             }
             210 => self.mark(usize::from(p[0]), usize::from(p[1]), p[2]),
             211 => self.set_display(p[0]),
+            198 if self.settings.mode == 3 => dots::draw(self.dots, p),
+            199 if self.settings.mode == 3 => dots::set(self.dots, p),
             // "198, 199: no operation ... 246: no effect."
             198 | 199 | 246 => {}
             _ => self.store(second, p),
@@ -311,14 +318,17 @@ impl Standing<'_> {
 
     // ---- blanking and scrolling ----
 
-    /// "42: blanks the screen, cursor home, top 1, layer empty", and "42 clears
-    /// the screen's" marks.
+    /// "42: blanks the screen, cursor home, top 1, layer empty", "42 clears the
+    /// screen's" marks, and "42 in mode 3 .. the dots".
     fn clear_screen(&mut self) {
         for line in 1..=self.lines() {
             self.blank_line(line);
         }
         *self.here_mut() = HOME;
         self.empty_layer();
+        if self.settings.mode == 3 {
+            self.dots.fill(0);
+        }
     }
 
     /// "84 blanks through the first unmarked line at or after the cursor's and
@@ -390,26 +400,33 @@ impl Standing<'_> {
 
     fn append_copy(&mut self) {
         let room = &mut self.printer[self.printed..];
-        copy(&self.settings, self.cells, self.layer, room);
-        self.printed += COPY;
+        copy(&self.settings, self.cells, self.layer, self.dots, room);
+        self.printed += copy_size(&self.settings);
     }
 
     /// "An accepted 208 blanks all cells, empties the layer, puts cursors and
     /// tops at 1, selects screen 1, sets step 1 and tracking on. Other
-    /// settings stay, save the boundary in mode 2", and the marks: "208 all".
+    /// settings stay, save the boundary in mode 2", and the marks: "208 all". "each
+    /// accepted 208 .. clear the dots", and "208,3 sets type 3 and key display 1".
     fn set_mode(&mut self, p: &[u8]) {
         self.cells.fill(BLANK);
         self.empty_layer();
+        self.dots.fill(0);
         let settings = &mut self.settings;
         settings.mode = p[0];
-        settings.lines1 = p[1];
-        (settings.lines2, settings.columns1, settings.columns2) = match p[0] {
-            0 => (p[2], 80, 80),
-            1 => (p[1], 39, 39),
-            _ => (p[1], p[2], 79 - p[2]),
+        let (lines, columns) = match *p {
+            [0, first, second] => ((first, second), (80, 80)),
+            [1, both] => ((both, both), (39, 39)),
+            [2, both, m, _] => ((both, both), (m, 79 - m)),
+            // "one text screen of 8 lines by 80"
+            _ => ((8, 0), (80, 0)),
         };
-        if p[0] == 2 {
-            settings.boundary = p[3];
+        (settings.lines1, settings.lines2) = lines;
+        (settings.columns1, settings.columns2) = columns;
+        match p[0] {
+            2 => settings.boundary = p[3],
+            3 => (settings.kind, settings.display) = (3, 1),
+            _ => {}
         }
         settings.places = [HOME, HOME];
         settings.marks = [0; 2 * MOST_LINES];

@@ -5,16 +5,23 @@ use super::apply::Standing;
 use super::picture::paint;
 use super::read::{read, Item};
 use super::settings::{Answer, Settings};
-use super::settings::{BLANK, CELLS, KEYS, KEY_TEXT, LAYER, LONGEST_MESSAGE, LONGEST_STREAM, OPENING, SHOWN};
+use super::settings::{BLANK, CELLS, DOTS, KEYS, KEY_TEXT, LAYER, OPENING, SHOWN};
+use super::settings::{LONGEST_MESSAGE, LONGEST_STREAM};
 use super::sound::sound;
 use super::stream::Line;
 
-/// "It blanks (32) all cells and the shown screen, and zeroes the layer", and
-/// "takes the rule". A refused opening alters no store and returns the opening
-/// settings: "another rule number is 23, after 1; a refused opening returns rule
-/// 1".
-pub fn opening(rule: usize, cells: &mut [u8], layer: &mut [u8], shown: &mut [u8]) -> (Settings, u8) {
-    if !sizes_right(cells, layer, shown) {
+/// "It blanks (32) all cells and the shown screen, and zeroes the layer", clears
+/// the dots, and "takes the rule". A refused opening alters no store and returns
+/// the opening settings: "another rule number is 23, after 1; a refused opening
+/// returns rule 1".
+pub fn opening(
+    rule: usize,
+    cells: &mut [u8],
+    layer: &mut [u8],
+    shown: &mut [u8],
+    dots: &mut [u8],
+) -> (Settings, u8) {
+    if !sizes_right(cells, layer, shown, dots) {
         return (OPENING, 1);
     }
     if rule != 1 && rule != 2 {
@@ -23,6 +30,7 @@ pub fn opening(rule: usize, cells: &mut [u8], layer: &mut [u8], shown: &mut [u8]
     cells.fill(BLANK);
     layer.fill(0);
     shown.fill(BLANK);
+    dots.fill(0);
     (Settings { rule: rule as u8, ..OPENING }, 0)
 }
 
@@ -35,15 +43,16 @@ pub fn message(
     cells: &mut [u8],
     layer: &mut [u8],
     shown: &mut [u8],
+    dots: &mut [u8],
     printer: &mut [u8],
 ) -> (Settings, Answer) {
-    if let Some(number) = refused(&settings, message, cells, layer, shown) {
+    if let Some(number) = refused(&settings, message, cells, layer, shown, dots) {
         return (settings, Answer { number, ..Answer::default() });
     }
     if settings.held > 0 {
         return (settings, Answer { number: 16, ..Answer::default() });
     }
-    uncut(settings, message, cells, layer, shown, printer)
+    uncut(settings, message, cells, layer, shown, dots, printer)
 }
 
 /// One reading of bytes that nothing follows, however many they are; the
@@ -54,9 +63,10 @@ pub fn uncut(
     cells: &mut [u8],
     layer: &mut [u8],
     shown: &mut [u8],
+    dots: &mut [u8],
     printer: &mut [u8],
 ) -> (Settings, Answer) {
-    let mut standing = Standing { settings, cells, layer, printer, printed: 0 };
+    let mut standing = Standing { settings, cells, layer, dots, printer, printed: 0 };
     let mut answer = serve(&mut standing, bytes);
     answer.taken = bytes.len() as u32;
     paint(&standing.settings, standing.cells, standing.layer, shown);
@@ -71,16 +81,17 @@ pub fn piece(
     cells: &mut [u8],
     layer: &mut [u8],
     shown: &mut [u8],
+    dots: &mut [u8],
     printer: &mut [u8],
 ) -> (Settings, Answer) {
-    if let Some(number) = refused(&settings, piece, cells, layer, shown) {
+    if let Some(number) = refused(&settings, piece, cells, layer, shown, dots) {
         return (settings, Answer { number, ..Answer::default() });
     }
     // "15, the piece would take the count past its limit"
     if settings.count as usize + piece.len() > LONGEST_STREAM {
         return (settings, Answer { number: 15, ..Answer::default() });
     }
-    let mut standing = Standing { settings, cells, layer, printer, printed: 0 };
+    let mut standing = Standing { settings, cells, layer, dots, printer, printed: 0 };
     let mut answer = Answer { taken: piece.len() as u32, ..Answer::default() };
     let mut line = Line::of(&settings);
     for &byte in piece {
@@ -102,11 +113,12 @@ pub fn closing(
     cells: &mut [u8],
     layer: &mut [u8],
     shown: &mut [u8],
+    dots: &mut [u8],
 ) -> (Settings, Answer) {
-    if let Some(number) = refused(&settings, &[], cells, layer, shown) {
+    if let Some(number) = refused(&settings, &[], cells, layer, shown, dots) {
         return (settings, Answer { number, ..Answer::default() });
     }
-    let mut standing = Standing { settings, cells, layer, printer: &mut [], printed: 0 };
+    let mut standing = Standing { settings, cells, layer, dots, printer: &mut [], printed: 0 };
     let mut answer = Answer::default();
     if let Some((item, offset)) = Line::of(&settings).close() {
         obey(&mut standing, &mut answer, &item, offset);
@@ -134,8 +146,15 @@ pub fn key_text(settings: Settings, number: usize, text: &[u8]) -> (Settings, An
 }
 
 /// The numbers that all these calls have in common, in the order 1, 2, 3.
-fn refused(settings: &Settings, message: &[u8], cells: &[u8], layer: &[u8], shown: &[u8]) -> Option<u8> {
-    if !sizes_right(cells, layer, shown) {
+fn refused(
+    settings: &Settings,
+    message: &[u8],
+    cells: &[u8],
+    layer: &[u8],
+    shown: &[u8],
+    dots: &[u8],
+) -> Option<u8> {
+    if !sizes_right(cells, layer, shown, dots) {
         return Some(1);
     }
     if message.len() > LONGEST_MESSAGE {
@@ -156,8 +175,9 @@ pub fn printed(buffer: &[u8], count: usize) -> &[u8] {
     &buffer[..count]
 }
 
-fn sizes_right(cells: &[u8], layer: &[u8], shown: &[u8]) -> bool {
-    cells.len() == CELLS && layer.len() == LAYER && shown.len() == SHOWN
+/// "1 covers the dot store".
+fn sizes_right(cells: &[u8], layer: &[u8], shown: &[u8], dots: &[u8]) -> bool {
+    cells.len() == CELLS && layer.len() == LAYER && shown.len() == SHOWN && dots.len() == DOTS
 }
 
 /// Reads the bytes item by item; each item is read with the settings that

@@ -6,17 +6,24 @@
 //! and their first refusal, and is written anew each time. Then the terminal's
 //! cursor goes where the cursor is, if it is on and on the glass. At the very
 //! end it goes to row 10.
+//!
+//! In mode 3 the dots stand below, in rows 11 to 18, as Braille letters, and are
+//! written anew after each call, before the text; a letter has two columns of four
+//! points, and a point stands for 3 columns of 2 rows of dots and is raised where
+//! one of them is on. When the mode is left, what is below row 9 is cleared; at the
+//! end of a stream that stays in it the cursor goes to row 19.
 
+use super::dots::{is_on, Dot, LAST_HORIZONTAL, LAST_VERTICAL};
 use super::picture::cursor_place;
-use super::settings::{Answer, COPY, ROWS, WIDTH};
+use super::settings::{Answer, DOTS, ROWS, WIDTH};
 use super::text::{answer_text, letter, Session};
 
 /// A read gives at most so many bytes.
 pub const PART: usize = 256;
 
-/// Room for every copy that a part can ask for, at two bytes each. An ESC that
-/// waits is one byte more and makes for none.
-const ROOM: usize = PART / 2 * COPY;
+/// Room for every copy that a part can ask for, at two bytes each, in mode 3 too.
+/// An ESC that waits is one byte more and makes for none.
+const ROOM: usize = PART / 2 * DOTS;
 
 pub struct Glass {
     session: Session,
@@ -39,18 +46,23 @@ impl Glass {
 
     /// A part of the stream; whether the stream goes on.
     pub fn part(&mut self, bytes: &[u8]) -> bool {
+        let mode = self.session.settings.mode;
         let answer = self.session.piece(bytes, ROOM);
         self.add(answer);
+        self.draw_dots(mode);
         self.draw();
         answer.number == 0
     }
 
     /// The stream's end, and all that was written.
     pub fn close(mut self) -> String {
+        let mode = self.session.settings.mode;
         let answer = self.session.closing();
         self.add(answer);
+        self.draw_dots(mode);
         self.draw();
-        self.text + &address(10, 1)
+        let last = if self.session.settings.mode == 3 { 19 } else { 10 };
+        self.text + &address(last, 1)
     }
 
     /// What was written so far, and what stands.
@@ -73,6 +85,19 @@ impl Glass {
         total.refused += answer.refused;
     }
 
+    /// The dots, after a call that found this mode.
+    fn draw_dots(&mut self, before: u8) {
+        if self.session.settings.mode == 3 {
+            for (row, letters) in braille(&self.session.dots).iter().enumerate() {
+                self.text += &address(11 + row, 1);
+                self.text.extend(letters);
+            }
+        } else if before == 3 {
+            self.text += &address(10, 1);
+            self.text += "\x1b[J";
+        }
+    }
+
     fn draw(&mut self) {
         let new: Vec<char> = self.session.shown.iter().map(|&code| letter(code)).collect();
         for row in 0..ROWS {
@@ -89,6 +114,23 @@ impl Glass {
             }
         }
     }
+}
+
+/// The dots as rows of Braille letters. Unicode: point 1 is the lowest bit of a
+/// letter's number above U+2800, and so on to point 8.
+fn braille(dots: &[u8]) -> [[char; WIDTH]; ROWS] {
+    // by the point's row and column
+    const POINTS: [[u32; 2]; 4] = [[1, 4], [2, 5], [3, 6], [7, 8]];
+    let mut numbers = [[0x2800; WIDTH]; ROWS];
+    for vertical in 0..=LAST_VERTICAL {
+        for horizontal in 0..=LAST_HORIZONTAL {
+            if is_on(dots, Dot { horizontal, vertical }) {
+                let point = POINTS[vertical % 8 / 2][horizontal % 6 / 3];
+                numbers[vertical / 8][horizontal / 6] |= 1 << (point - 1);
+            }
+        }
+    }
+    numbers.map(|row| row.map(|number| char::from_u32(number).unwrap()))
 }
 
 /// Each run of letters of a row that are no longer those that stand there.

@@ -3,13 +3,14 @@
 //! with.
 //!
 //! - `settings`: the plain types and the screens' measures
+//! - `dots`: the dot store of mode 3
 //! - `sound`: which settings are sound
 //! - `read`: a message into items
 //! - `stream`: what waits from piece to piece
 //! - `apply`: what each item does to what stands
 //! - `picture`: the picture, the shown screen, the printed copy
 //! - `calls`: the calls
-//! - `text`: the words of the programs `show` and `replay`
+//! - `text`: the words of the programs `show`, `replay` and `picture`
 //! - `glass`: the words of the program `glass`
 //! - `lengths`: the words of the program `lengths`
 //! - `differences`: two screens compared, and the words of `compare`
@@ -20,6 +21,7 @@
 pub mod apply;
 pub mod calls;
 pub mod differences;
+pub mod dots;
 pub mod glass;
 pub mod lengths;
 pub mod picture;

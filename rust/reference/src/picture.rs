@@ -1,6 +1,6 @@
 //! The picture, the shown screen and the printed copy.
 
-use super::settings::{Settings, BLANK, COPY, MARKS, ROWS, WIDTH};
+use super::settings::{Settings, BLANK, COPY, DOTS, MARKS, ROWS, WIDTH};
 
 /// Row r, column c is byte 80(r−1)+c−1 of the shown screen, and of the marks.
 pub fn place(row: usize, column: usize) -> usize {
@@ -49,7 +49,8 @@ pub fn source(settings: &Settings, row: usize, column: usize) -> Source {
         return Source::KeyLine { at: column - 1 };
     }
     match settings.mode {
-        0 => Source::Cell { screen: selected, line: top(selected) + row - 1, column },
+        // mode 3: "The picture is screen 1 under the layer"
+        0 | 3 => Source::Cell { screen: selected, line: top(selected) + row - 1, column },
         1 if column <= 39 => Source::Cell { screen: selected, line: top(selected) + row - 1, column },
         1 if column <= 41 => Source::Blank,
         // "42 to 80 from line top+7+r"; with the key line this half "starts
@@ -90,9 +91,22 @@ pub fn paint(settings: &Settings, cells: &[u8], layer: &[u8], shown: &mut [u8]) 
     }
 }
 
+/// What a copy needs of room.
+pub fn copy_size(settings: &Settings) -> usize {
+    if settings.mode == 3 {
+        DOTS
+    } else {
+        COPY
+    }
+}
+
 /// "the picture at that moment, 8 rows of 80 with codes below 32 as 32, each
-/// followed by 13, 10", into the first 656 bytes of `room`.
-pub fn copy(settings: &Settings, cells: &[u8], layer: &[u8], room: &mut [u8]) {
+/// followed by 13, 10", into the first 656 bytes of `room`; "In mode 3, 80 appends
+/// the 3,840 bytes", and secret does not hide them.
+pub fn copy(settings: &Settings, cells: &[u8], layer: &[u8], dots: &[u8], room: &mut [u8]) {
+    if settings.mode == 3 {
+        return room[..DOTS].copy_from_slice(dots);
+    }
     let mut at = 0;
     for row in 1..=ROWS {
         for column in 1..=WIDTH {

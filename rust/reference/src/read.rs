@@ -1,7 +1,9 @@
 //! Reading a message: "An item is a printed byte, a control code, a sequence
 //! or a refusal, and every byte of the message belongs to exactly one item."
 
-use super::settings::{Settings, CHARSETS, COPY, SHIFTS};
+use super::dots::{self, LAST_HORIZONTAL, LAST_VERTICAL};
+use super::picture::copy_size;
+use super::settings::{Settings, CHARSETS, SHIFTS};
 
 pub const ESC: u8 = 27;
 
@@ -14,7 +16,7 @@ pub enum Item<'a> {
         second: u8,
         parameters: &'a [u8],
     },
-    /// A refused sequence: its number, 10 to 14, and its first bad parameter,
+    /// A refused sequence: its number, 10 to 13, and its first bad parameter,
     /// counted from 1 after the second byte; "for all other numbers it is 0".
     Refusal {
         number: u8,
@@ -44,7 +46,7 @@ pub fn alone<'a>(byte: u8) -> Item<'a> {
     }
 }
 
-/// "Sequences are checked 10, 12, 14, 11, 13."
+/// "Sequences are checked 10, 12, 14, 11, 13", and "14 ends".
 fn read_sequence<'a>(rest: &'a [u8], settings: &Settings, room: usize) -> (Item<'a>, usize) {
     if rest.len() == 1 {
         return (refusal(12), 1);
@@ -68,13 +70,10 @@ pub fn judged<'a>(second: u8, parameters: &'a [u8], settings: &Settings, room: u
     if length(second, None).is_none() {
         return refusal(10);
     }
-    if second == 208 && parameters[0] == 3 {
-        return refusal(14);
-    }
     if let Some(parameter) = first_bad(second, parameters, settings) {
         return Item::Refusal { number: 11, parameter };
     }
-    if second == 80 && room < COPY {
+    if second == 80 && room < copy_size(settings) {
         return refusal(13);
     }
     Item::Sequence { second, parameters }
@@ -102,9 +101,18 @@ pub fn length(second: u8, mode: Option<u8>) -> Option<usize> {
     }
 }
 
+/// "In mode 3, .. 148 to 151, 209 and 211 to 215 do nothing, parameters carried
+/// but not judged".
+pub fn idle(second: u8, settings: &Settings) -> bool {
+    settings.mode == 3 && matches!(second, 148..=151 | 209 | 211..=215)
+}
+
 /// The first parameter that is out of its range on the selected screen,
 /// counted from 1 after the second byte; none if all are good.
 fn first_bad(second: u8, parameters: &[u8], settings: &Settings) -> Option<u8> {
+    if idle(second, settings) {
+        return None;
+    }
     let screen = usize::from(settings.selected);
     let lines = settings.lines(screen);
     let number = |at: usize| usize::from(parameters[at]);
@@ -122,6 +130,11 @@ fn first_bad(second: u8, parameters: &[u8], settings: &Settings) -> Option<u8> {
         }
         148 => named(&[(1..=settings.height()).contains(&number(0))]),
         149 | 209 | 211 | 240 => named(&[number(0) <= 1]),
+        198 if settings.mode == 3 => first_bad_of_line(parameters),
+        199 if settings.mode == 3 => {
+            let horizontal = dots::number(parameters, 2) <= LAST_HORIZONTAL;
+            named(&[number(0) <= 1, number(1) <= LAST_VERTICAL, true, horizontal])
+        }
         208 => first_bad_of_mode(parameters),
         210 => named(&[(1..=8).contains(&number(0)), (1..=80).contains(&number(1))]),
         214 => named(&[number(0) <= 3]),
@@ -131,6 +144,16 @@ fn first_bad(second: u8, parameters: &[u8], settings: &Settings) -> Option<u8> {
         // no parameters, or "not judged", or 0 to 255
         _ => None,
     }
+}
+
+/// 198: "same ranges, function 1 to 3", and "a two-byte number named by its low
+/// byte".
+fn first_bad_of_line(parameters: &[u8]) -> Option<u8> {
+    let horizontal = |at: usize| dots::number(parameters, at) <= LAST_HORIZONTAL;
+    let vertical = |at: usize| dots::number(parameters, at) <= LAST_VERTICAL;
+    let function = (1..=3).contains(&parameters[10]);
+    let (start, end) = ((horizontal(0), vertical(2)), (horizontal(4), vertical(6)));
+    named(&[true, start.0, true, start.1, true, end.0, true, end.1, true, true, function])
 }
 
 /// The table of modes, for the bytes after 27, 208: the mode byte is the
@@ -144,6 +167,7 @@ fn first_bad_of_mode(parameters: &[u8]) -> Option<u8> {
         }
         1 => named(&[true, (16..=48).contains(&number(1))]),
         2 => named(&[true, (8..=48).contains(&number(1)), (1..=78).contains(&number(2))]),
+        3 => None,
         _ => named(&[false]),
     }
 }

@@ -5,6 +5,8 @@ pub const CELLS: usize = 3840;
 pub const MARKS: usize = 640;
 pub const LAYER: usize = 1280;
 pub const SHOWN: usize = 640;
+/// of mode 3, a bit a dot
+pub const DOTS: usize = 3840;
 pub const ROWS: usize = 8;
 pub const WIDTH: usize = 80;
 /// of a message, and of a piece
@@ -182,6 +184,15 @@ impl Settings {
             2 * self.screen_rows()
         } else {
             self.screen_rows()
+        }
+    }
+
+    /// "one text screen" in mode 3, else two.
+    pub fn screens(&self) -> usize {
+        if self.mode == 3 {
+            1
+        } else {
+            2
         }
     }
 

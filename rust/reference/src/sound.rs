@@ -1,6 +1,6 @@
 //! Which settings are sound.
 
-use super::settings::{mark_of, Keys, Settings, CHARSETS, MOST_LINES, SHIFTS};
+use super::settings::{mark_of, Keys, Settings, CHARSETS, HOME, MOST_LINES, SHIFTS};
 use super::stream::stream_sound;
 
 /// "Settings are sound exactly when each lies in the range that the rules
@@ -9,8 +9,8 @@ use super::stream::stream_sound;
 pub fn sound(settings: &Settings) -> bool {
     // The measures come first: the others are worked out from them.
     measures_sound(settings)
-        && place_sound(settings, 0)
-        && place_sound(settings, 1)
+        && (0..settings.screens()).all(|screen| place_sound(settings, screen))
+        && (settings.mode != 3 || alone_sound(settings))
         && switches_sound(settings)
         && keys_sound(&settings.keys)
         && stream_sound(settings)
@@ -31,8 +31,16 @@ fn measures_sound(s: &Settings) -> bool {
                 && (1..=78).contains(&s.columns1)
                 && s.columns2 == 79 - s.columns1
         }
+        // "one text screen of 8 lines by 80"; "Screen 2 has no cells there"
+        3 => (lines1, lines2) == (8, 0) && columns == (80, 0),
         _ => false,
     }
+}
+
+/// "Mode 3 is sound with type 3, key display 1, screen 1 selected, screen 2's
+/// cursor and top at 1, its flag off."
+fn alone_sound(s: &Settings) -> bool {
+    s.kind == 3 && s.display == 1 && s.selected == 0 && s.places[1] == HOME
 }
 
 /// "Inside means: cursor line 1 to lines, cursor column 1 to columns, top 1

@@ -1,25 +1,29 @@
-//! The words of the programs `show` and `replay`.
+//! The words of the programs `show` and `replay`, and the image of `picture`.
 
 use super::calls::{closing, key_text, message, opening, piece};
 use super::picture::place;
 use super::settings::{mark_of, Answer, Settings};
-use super::settings::{CELLS, COPY, LAYER, MOST_LINES, OPENING, ROWS, SHOWN, WIDTH};
+use super::settings::{CELLS, COPY, DOTS, LAYER, MOST_LINES, OPENING, ROWS, SHOWN, WIDTH};
 use super::stream::waits;
 use std::fmt::Write;
 
 /// A recording holds at most this many bytes in all.
 pub const LONGEST_RECORDING: usize = 1_000_000;
-/// The printer room of each call of a recording: two copies.
+/// The printer room of each call of a recording at first: two copies.
 pub const REPLAY_ROOM: usize = 2 * COPY;
+/// What a recording can make it at most.
+pub const MOST_ROOM: usize = 8192;
 /// The kinds of records.
 pub const MESSAGE: u16 = 1;
 pub const PIECE: u16 = 2;
 pub const CLOSING: u16 = 3;
 pub const KEY_TEXT: u16 = 4;
 pub const OPENING_CALL: u16 = 7;
+pub const ROOM: u16 = 8;
 
 /// The message call and the piece call.
-type MessageCall = fn(Settings, &[u8], &mut [u8], &mut [u8], &mut [u8], &mut [u8]) -> (Settings, Answer);
+type MessageCall =
+    fn(Settings, &[u8], &mut [u8], &mut [u8], &mut [u8], &mut [u8], &mut [u8]) -> (Settings, Answer);
 
 /// The stores with what stands, and the printer bytes of all calls so far.
 pub struct Session {
@@ -27,7 +31,10 @@ pub struct Session {
     pub cells: Vec<u8>,
     pub layer: Vec<u8>,
     pub shown: Vec<u8>,
+    pub dots: Vec<u8>,
     pub printed: Vec<u8>,
+    /// the printer room of a recording's calls from here on
+    pub room: usize,
 }
 
 impl Session {
@@ -37,7 +44,9 @@ impl Session {
             cells: vec![0; CELLS],
             layer: vec![0; LAYER],
             shown: vec![0; SHOWN],
+            dots: vec![0; DOTS],
             printed: Vec::new(),
+            room: REPLAY_ROOM,
         };
         session.opening(1);
         session
@@ -46,8 +55,8 @@ impl Session {
     /// Opens anew by a rule: the settings that this returns are used from then
     /// on, refused or not.
     pub fn opening(&mut self, rule: usize) -> u8 {
-        let stores = (&mut self.cells, &mut self.layer, &mut self.shown);
-        let (settings, number) = opening(rule, stores.0, stores.1, stores.2);
+        let Session { cells, layer, shown, dots, .. } = self;
+        let (settings, number) = opening(rule, cells, layer, shown, dots);
         self.settings = settings;
         number
     }
@@ -61,8 +70,8 @@ impl Session {
     }
 
     pub fn closing(&mut self) -> Answer {
-        let stores = (&mut self.cells, &mut self.layer, &mut self.shown);
-        let (settings, answer) = closing(self.settings, stores.0, stores.1, stores.2);
+        let Session { settings, cells, layer, shown, dots, .. } = self;
+        let (settings, answer) = closing(*settings, cells, layer, shown, dots);
         self.settings = settings;
         answer
     }
@@ -75,8 +84,8 @@ impl Session {
 
     fn with_printer(&mut self, call: MessageCall, bytes: &[u8], room: usize) -> Answer {
         let mut printer = vec![0; room];
-        let stores = (&mut self.cells, &mut self.layer, &mut self.shown);
-        let (settings, answer) = call(self.settings, bytes, stores.0, stores.1, stores.2, &mut printer);
+        let Session { settings, cells, layer, shown, dots, .. } = self;
+        let (settings, answer) = call(*settings, bytes, cells, layer, shown, dots, &mut printer);
         self.settings = settings;
         self.printed.extend_from_slice(&printer[..answer.printed]);
         answer
@@ -86,8 +95,8 @@ impl Session {
     /// known.
     fn record(&mut self, number: usize, kind: u16, body: &[u8]) -> Option<String> {
         let answer = match (kind, body) {
-            (MESSAGE, _) => self.play(body, REPLAY_ROOM),
-            (PIECE, _) => self.piece(body, REPLAY_ROOM),
+            (MESSAGE, _) => self.play(body, self.room),
+            (PIECE, _) => self.piece(body, self.room),
             (CLOSING, []) => self.closing(),
             (KEY_TEXT, [key, text @ ..]) => {
                 let answer = self.key_text(usize::from(*key), text);
@@ -97,9 +106,16 @@ impl Session {
                 let answer = self.opening((*rule).into());
                 return Some(short_answer(number, answer));
             }
+            (ROOM, &[low, high]) => return self.set_room(number, u16::from_le_bytes([low, high])),
             _ => return None,
         };
         Some(numbered_answer(number, &answer))
+    }
+
+    /// A record of kind 8; none if the room is larger than it may be.
+    fn set_room(&mut self, number: usize, room: u16) -> Option<String> {
+        self.room = Some(room.into()).filter(|&room| room <= MOST_ROOM)?;
+        Some(format!("{number} room {room}\n"))
     }
 
     /// What stands, in the words of `replay`: settings, sums and rows.
@@ -109,13 +125,24 @@ impl Session {
 
     fn sums(&self) -> String {
         format!(
-            "sums cells {} layer {} patterns {} printer {} texts {}\n",
+            "sums cells {} layer {} patterns {} printer {} texts {} dots {}\n",
             adler32(&self.cells),
             adler32(&self.layer),
             adler32(&self.settings.patterns),
             adler32(&self.printed),
-            adler32(&self.settings.texts)
+            adler32(&self.settings.texts),
+            adler32(&self.dots)
         )
+    }
+
+    /// What the glass shows as a picture: in mode 3 the dots, a portable bitmap
+    /// of 480 by 64; else the shown screen, a portable graymap of 80 by 8 in which
+    /// a place is a point and its code the grey.
+    pub fn image(&self) -> Vec<u8> {
+        if self.settings.mode == 3 {
+            return [&b"P4\n480 64\n"[..], &self.dots].concat();
+        }
+        [&b"P5\n80 8\n255\n"[..], &self.shown].concat()
     }
 }
 
@@ -128,6 +155,18 @@ pub fn show(bytes: &[u8]) -> String {
 
 /// Program "replay": a line a record, then what stands.
 pub fn replay(recording: &[u8]) -> String {
+    let (session, text) = played(recording);
+    text + &session.text()
+}
+
+/// Program "picture": a recording played as by "replay", and then the image of what
+/// stands, which is all that it writes. A bad record ends the recording there too.
+pub fn image(recording: &[u8]) -> Vec<u8> {
+    played(recording).0.image()
+}
+
+/// A recording played from an opening: what stands, and a line a record.
+fn played(recording: &[u8]) -> (Session, String) {
     let mut session = Session::open();
     let mut text = String::new();
     let mut offset = 0;
@@ -143,7 +182,7 @@ pub fn replay(recording: &[u8]) -> String {
         text += &line;
         offset += 4 + read.map_or(0, |(_, body)| body.len());
     }
-    text + &session.text()
+    (session, text)
 }
 
 /// The record at `offset`: "body length and kind, two bytes each,

@@ -13,7 +13,7 @@ struct Screen {
 
 impl Screen {
     fn reading(text: &str) -> Screen {
-        let mut screen = Screen { rows: vec![vec!['?'; 90]; 12], row: 5, column: 5 };
+        let mut screen = Screen { rows: vec![vec!['?'; 90]; 20], row: 5, column: 5 };
         screen.read(text);
         screen
     }
@@ -39,6 +39,7 @@ impl Screen {
             ("H", []) => (self.row, self.column) = (0, 0),
             ("H", &[row, column]) => (self.row, self.column) = (row - 1, column - 1),
             ("J", [2]) => self.rows.iter_mut().for_each(|row| row.fill(' ')),
+            ("J", []) if self.column == 0 => self.rows[self.row..].iter_mut().for_each(|row| row.fill(' ')),
             ("K", []) => self.rows[self.row][self.column..].fill(' '),
             other => panic!("{other:?} is not asked of the terminal"),
         }
@@ -140,6 +141,56 @@ fn only_what_changed() {
 /// A part has room for all the copies that it asks for.
 #[test]
 fn copies_have_room() {
-    let text = glass([&[27][..], &b"P\x1b".repeat(PART / 2), b"P"]);
+    let parts = [&[27][..], &b"P\x1b".repeat(PART / 2), b"P"];
+    let text = glass(parts);
     assert!(text.contains("accepted 129 refused 0"), "{text:?}");
+    let text = glass([&b"\x1b\xd0\x03"[..]].into_iter().chain(parts));
+    assert!(text.contains("accepted 130 refused 0"), "{text:?}");
+}
+
+/// In mode 3 the dots stand below, and are put away when it is left.
+#[test]
+fn dots_below() {
+    let mut run = Glass::open();
+    // the first dot, the last, and all of the row of dots 9 by a line
+    assert!(run.part(b"\x1b\xd0\x03curve\x1b\xc7\x01\x00\x00\x00\x1b\xc7\x01\x3f\x01\xdf"));
+    assert!(run.part(b"\x1b\xc6\x00\x00\x00\x09\x01\xdf\x00\x09\xff\xff\x02"));
+    let screen = Screen::reading(run.text());
+    holds(&screen, run.session());
+    assert_eq!(screen.rows[10][..3], ['\u{2801}', '\u{2800}', '\u{2800}']);
+    assert!(screen.rows[11][..80].iter().all(|&letter| letter == '\u{2809}'), "points 1 and 4");
+    assert_eq!(screen.rows[17][78..81], ['\u{2800}', '\u{2880}', ' ']);
+    assert_eq!((screen.row, screen.column), (0, 5));
+    assert_eq!(Screen::reading(&run.close()).row, 18);
+
+    let mut run = Glass::open();
+    assert!(run.part(b"\x1b\xd0\x03\x1b\xc7\x01\x00\x00\x00"));
+    assert!(run.part(b"\x1b\xd0\x00\x18\x18text"));
+    let screen = Screen::reading(run.text());
+    holds(&screen, run.session());
+    assert!((9..20).all(|row| screen.line(row).is_empty()), "nothing is left of the dots");
+    assert_eq!(Screen::reading(&run.close()).row, 9);
+}
+
+/// Each dot raises the one point that stands for it, and no other dot does.
+#[test]
+fn each_dot_raises_its_point() {
+    let dots = (0..64u8).step_by(5).flat_map(|v| (0..480u16).step_by(7).map(move |h| (v, h)));
+    for (v, h) in dots {
+        let mut run = Glass::open();
+        let [high, low] = h.to_be_bytes();
+        assert!(run.part(&[27, 208, 3, 27, 199, 1, v, high, low]));
+        let screen = Screen::reading(run.text());
+        let raised: Vec<_> = (0..640)
+            .map(|place| (place / 80, place % 80))
+            .map(|(row, column)| (row, column, screen.rows[10 + row][column]))
+            .filter(|&(_, _, letter)| letter != '\u{2800}')
+            .collect();
+        let (row, column) = (usize::from(v / 8), usize::from(h / 6));
+        let left = [0x2801, 0x2802, 0x2804, 0x2840];
+        let right = [0x2808, 0x2810, 0x2820, 0x2880];
+        let side = if h % 6 < 3 { left } else { right };
+        let letter = char::from_u32(side[usize::from(v % 8 / 2)]).unwrap();
+        assert_eq!(raised, [(row, column, letter)], "dot {v}, {h}");
+    }
 }

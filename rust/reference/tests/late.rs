@@ -87,17 +87,20 @@ fn one_column() {
 
 #[test]
 fn the_openings_rule() {
-    let mut stores = (vec![1; 3840], vec![1; 1280], vec![1; 640]);
+    let mut stores = (vec![1; 3840], vec![1; 1280], vec![1; 640], vec![1; 3840]);
     for rule in [0, 3, 255, 256, 257, 258, usize::MAX] {
         let before = stores.clone();
-        assert_eq!(opening(rule, &mut stores.0, &mut stores.1, &mut stores.2), (OPENING, 23));
-        assert_eq!(opening(rule, &mut stores.0[1..], &mut stores.1, &mut stores.2), (OPENING, 1));
-        assert_eq!(opening(2, &mut stores.0, &mut stores.1[1..], &mut stores.2), (OPENING, 1));
+        assert_eq!(opening(rule, &mut stores.0, &mut stores.1, &mut stores.2, &mut stores.3), (OPENING, 23));
+        assert_eq!(
+            opening(rule, &mut stores.0[1..], &mut stores.1, &mut stores.2, &mut stores.3),
+            (OPENING, 1)
+        );
+        assert_eq!(opening(2, &mut stores.0, &mut stores.1[1..], &mut stores.2, &mut stores.3), (OPENING, 1));
         assert_eq!(stores, before);
     }
     let late = Settings { rule: 2, ..OPENING };
-    assert_eq!(opening(2, &mut stores.0, &mut stores.1, &mut stores.2), (late, 0));
-    assert_eq!(opening(1, &mut stores.0, &mut stores.1, &mut stores.2), (OPENING, 0));
+    assert_eq!(opening(2, &mut stores.0, &mut stores.1, &mut stores.2, &mut stores.3), (late, 0));
+    assert_eq!(opening(1, &mut stores.0, &mut stores.1, &mut stores.2, &mut stores.3), (OPENING, 0));
 }
 
 #[test]

@@ -117,9 +117,10 @@ fn marks_that_are_not_sound() {
     // each screen by its own lines
     let uneven = |screen, line| Settings { lines1: 8, lines2: 40, ..marked(screen, line, 1) };
     assert!(sound(&uneven(0, 7)) && !sound(&uneven(0, 8)) && sound(&uneven(1, 39)) && !sound(&uneven(1, 40)));
-    let (unsound, mut stores) = (marked(1, 24, 1), (vec![1; 3840], vec![1; 1280], vec![1; 640]));
-    let answer = message(unsound, b"A", &mut stores.0, &mut stores.1, &mut stores.2, &mut []);
-    assert_eq!((answer.0, answer.1.number, stores.0[0]), (unsound, 3, 1));
+    let (unsound, mut stores) = (marked(1, 24, 1), [3840, 1280, 640, 3840].map(|size| vec![1; size]));
+    let [cells, layer, shown, dots] = &mut stores;
+    let answer = message(unsound, b"A", cells, layer, shown, dots, &mut []);
+    assert_eq!((answer.0, answer.1.number, stores[0][0]), (unsound, 3, 1));
 }
 
 // ---- the rules ----

@@ -59,7 +59,6 @@ fn other_numbers_name_none() {
     assert_eq!(named(&[27, 27]), (10, 0));
     assert_eq!(named(&[27, 208, 2, 99]), (12, 0));
     assert_eq!(named(&[27, 80]), (13, 0));
-    assert_eq!(named(&[27, 208, 3]), (14, 0));
     assert_eq!(named(b"text"), (0, 0));
 }
 

@@ -2,7 +2,7 @@
 //! manual's own examples.
 
 use reference::picture::{cursor_place, place, source, Source};
-use reference::settings::{CELLS, LAYER, MARKS, OPENING, SHOWN};
+use reference::settings::{CELLS, DOTS, LAYER, MARKS, OPENING, SHOWN};
 use reference::text::{replay, show, Session};
 use reference::{message, opening, picture, printed, sound, Answer, Settings};
 
@@ -187,7 +187,7 @@ fn secret_hides_the_layer() {
 #[test]
 fn refused_208_blanks_nothing() {
     for bad in
-        [&[27, 208, 3][..], &[27, 208, 9], &[27, 208, 1, 15], &[27, 208, 2, 8, 79, 1], &[27, 208, 0, 8]]
+        [&[27, 208, 4][..], &[27, 208, 9], &[27, 208, 1, 15], &[27, 208, 2, 8, 79, 1], &[27, 208, 0, 8]]
     {
         let mut message = vec![65];
         message.extend(bad);
@@ -199,12 +199,12 @@ fn refused_208_blanks_nothing() {
 // ---- refusals ----
 
 /// Calls `message` on stores of the given sizes; nothing may be altered.
-fn refused_call(settings: Settings, bytes: &[u8], sizes: [usize; 3]) -> u8 {
+fn refused_call(settings: Settings, bytes: &[u8], sizes: [usize; 4]) -> u8 {
     let mut stores = sizes.map(|size| (0..size).map(|at| at as u8).collect::<Vec<u8>>());
     let before = stores.clone();
     let mut printer = [7; 1312];
-    let [cells, layer, shown] = &mut stores;
-    let (after, answer) = message(settings, bytes, cells, layer, shown, &mut printer);
+    let [cells, layer, shown, dots] = &mut stores;
+    let (after, answer) = message(settings, bytes, cells, layer, shown, dots, &mut printer);
     if answer.number != 0 {
         assert_eq!(after, settings);
         assert_eq!(stores, before);
@@ -214,13 +214,13 @@ fn refused_call(settings: Settings, bytes: &[u8], sizes: [usize; 3]) -> u8 {
     answer.number
 }
 
-const SIZES: [usize; 3] = [CELLS, LAYER, SHOWN];
+const SIZES: [usize; 4] = [CELLS, LAYER, SHOWN, DOTS];
 
 #[test]
 fn calls_are_checked_in_order() {
     let unsound = Settings { mode: 3, ..OPENING };
     let copy = [27, 80];
-    for store in 0..3 {
+    for store in 0..4 {
         for size in [0, SIZES[store] - 1, SIZES[store] + 1] {
             let mut sizes = SIZES;
             sizes[store] = size;
@@ -236,20 +236,22 @@ fn calls_are_checked_in_order() {
 
 #[test]
 fn refused_opening() {
-    for (cells, layer, shown) in [(3839, 1280, 640), (3840, 1281, 640), (3840, 1280, 0)] {
-        let mut stores = (vec![9; cells], vec![9; layer], vec![9; shown]);
-        let (settings, number) = opening(1, &mut stores.0, &mut stores.1, &mut stores.2);
-        assert_eq!((settings, number), (OPENING, 1));
-        assert!(stores.0.iter().chain(&stores.1).chain(&stores.2).all(|&byte| byte == 9));
+    let wrong =
+        [[3839, 1280, 640, 3840], [3840, 1281, 640, 3840], [3840, 1280, 0, 3840], [3840, 1280, 640, 3839]];
+    for sizes in wrong {
+        let mut stores = sizes.map(|size| vec![9; size]);
+        let [cells, layer, shown, dots] = &mut stores;
+        assert_eq!(opening(1, cells, layer, shown, dots), (OPENING, 1));
+        assert!(stores.iter().flatten().all(|&byte| byte == 9));
     }
 }
 
 #[test]
 fn accepted_opening() {
-    let mut stores = (vec![9; CELLS], vec![9; LAYER], vec![9; SHOWN]);
-    assert_eq!(opening(1, &mut stores.0, &mut stores.1, &mut stores.2), (OPENING, 0));
-    assert!(stores.0.iter().chain(&stores.2).all(|&byte| byte == 32));
-    assert!(stores.1.iter().all(|&byte| byte == 0));
+    let [mut cells, mut layer, mut shown, mut dots] = SIZES.map(|size| vec![9; size]);
+    assert_eq!(opening(1, &mut cells, &mut layer, &mut shown, &mut dots), (OPENING, 0));
+    assert!(cells.iter().chain(&shown).all(|&byte| byte == 32));
+    assert!(layer.iter().chain(&dots).all(|&byte| byte == 0));
 }
 
 #[test]
@@ -261,11 +263,10 @@ fn refused_sequences() {
     for cut in [&[27, 208][..], &[27, 208, 2, 99], &[27, 61, 0], &[27, 224, 1, 0], &[27, 198, 1]] {
         assert_eq!(first(cut), refused_by(12));
     }
-    assert_eq!(first(&[27, 208, 3]), refused_by(14));
     assert_eq!(first(&[27, 208, 9]), refused_by(11));
     // the rest after a refusal is read on
-    let (session, answer) = play(&[27, 208, 3, 65, 27, 67, 90, 66, 27, 1]);
-    assert_eq!((answer.first, answer.offset, answer.refused), (14, 0, 3));
+    let (session, answer) = play(&[27, 208, 9, 65, 27, 67, 90, 66, 27, 1]);
+    assert_eq!((answer.first, answer.offset, answer.refused), (11, 0, 3));
     assert_eq!(&session.cells[..3], b"AB ");
 }
 
@@ -282,8 +283,8 @@ fn third_copy_has_no_room() {
 fn printer_bytes_beyond_the_copy() {
     let mut session = Session::open();
     let mut printer = [7; 700];
-    let stores = (&mut session.cells, &mut session.layer, &mut session.shown);
-    message(OPENING, &[27, 37, 5, 27, 80], stores.0, stores.1, stores.2, &mut printer);
+    let Session { cells, layer, shown, dots, .. } = &mut session;
+    message(OPENING, &[27, 37, 5, 27, 80], cells, layer, shown, dots, &mut printer);
     assert_eq!(printer[0], 32);
     assert!(printer[656..].iter().all(|&byte| byte == 7));
 }
@@ -402,12 +403,18 @@ fn search_cursor_places(mut settings: Settings, screen: usize) {
 
 #[test]
 fn cursor_place_is_the_pictures() {
-    let modes: [&[u8]; 4] =
-        [&[27, 208, 0, 8, 40], &[27, 208, 1, 20], &[27, 208, 2, 12, 30, 35], &[27, 208, 2, 48, 1, 35]];
+    let modes: [&[u8]; 5] = [
+        &[27, 208, 0, 8, 40],
+        &[27, 208, 1, 20],
+        &[27, 208, 2, 12, 30, 35],
+        &[27, 208, 2, 48, 1, 35],
+        &[27, 208, 3],
+    ];
     for mode in modes {
         let settings = play(mode).0.settings;
-        search_cursor_places(settings, 0);
-        search_cursor_places(settings, 1);
+        for screen in 0..settings.screens() {
+            search_cursor_places(settings, screen);
+        }
     }
 }
 

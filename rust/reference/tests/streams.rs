@@ -1,6 +1,6 @@
 //! Document 02, P1: its examples and its refusals, from the opening.
 
-use reference::settings::{CELLS, LAYER, OPENING, SHOWN};
+use reference::settings::{CELLS, DOTS, LAYER, OPENING, SHOWN};
 use reference::stream::{unfinished, waits};
 use reference::text::{replay, rows, Session};
 use reference::{closing, piece, sound, Answer, Settings};
@@ -158,12 +158,12 @@ fn refusals_in_their_order() {
     let unsound = Settings { step: 0, count: BILLION, ..OPENING };
     let full = Settings { count: BILLION, ..OPENING };
     let play = |settings: Settings, bytes: &[u8], cells: usize| {
-        let mut stores = (vec![9; cells], vec![9; LAYER], vec![9; SHOWN]);
+        let mut stores = [cells, LAYER, SHOWN, DOTS].map(|size| vec![9; size]);
+        let [cells, layer, shown, dots] = &mut stores;
         let mut printer = [7; ROOM];
-        let (after, answer) =
-            piece(settings, bytes, &mut stores.0, &mut stores.1, &mut stores.2, &mut printer);
+        let (after, answer) = piece(settings, bytes, cells, layer, shown, dots, &mut printer);
         assert_eq!((after, answer), (settings, Answer { number: answer.number, ..Answer::default() }));
-        assert!(stores.0.iter().chain(&stores.1).chain(&stores.2).all(|&byte| byte == 9));
+        assert!(stores.iter().flatten().all(|&byte| byte == 9));
         assert_eq!(printer, [7; ROOM]);
         answer.number
     };
@@ -171,9 +171,11 @@ fn refusals_in_their_order() {
     assert_eq!(play(unsound, &[65; 4097], CELLS), 2);
     assert_eq!(play(unsound, &[65], CELLS), 3);
     assert_eq!(play(full, &[65], CELLS), 15);
-    let mut stores = (vec![9; CELLS], vec![9; LAYER - 1], vec![9; SHOWN]);
-    let (after, answer) = closing(unsound, &mut stores.0, &mut stores.1, &mut stores.2);
-    assert_eq!((after, answer.number), (unsound, 1));
+    for wrong in [[CELLS, LAYER - 1, SHOWN, DOTS], [CELLS, LAYER, SHOWN, DOTS + 1]] {
+        let [mut cells, mut layer, mut shown, mut dots] = wrong.map(|size| vec![9; size]);
+        let (after, answer) = closing(unsound, &mut cells, &mut layer, &mut shown, &mut dots);
+        assert_eq!((after, answer.number), (unsound, 1));
+    }
     assert_eq!(session(unsound).closing().number, 3);
     // 3 before 16
     assert_eq!(session(Settings { step: 0, ..waiting(&[27], 1) }).play(&[65], ROOM).number, 3);

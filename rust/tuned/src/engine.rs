@@ -1,5 +1,6 @@
 //! The stores, the selected screen's measures, text, windows and painting.
 
+use crate::dots::Dots;
 use crate::rows;
 use crate::sequences::unfinished;
 use reference::{Answer, Place, Settings};
@@ -8,16 +9,18 @@ pub struct Stores<'a> {
     pub cells: &'a mut [u8; 3840],
     pub marks: &'a mut [u8; 640],
     pub codes: &'a mut [u8; 640],
+    pub dots: &'a mut Dots,
 }
 
 impl<'a> Stores<'a> {
-    pub fn new(cells: &'a mut [u8], layer: &'a mut [u8]) -> Option<Stores<'a>> {
+    pub fn new(cells: &'a mut [u8], layer: &'a mut [u8], dots: &'a mut [u8]) -> Option<Stores<'a>> {
         let layer: &mut [u8; 1280] = layer.try_into().ok()?;
         let (marks, codes) = layer.split_at_mut(640);
         Some(Stores {
             cells: cells.try_into().ok()?,
             marks: marks.try_into().ok()?,
             codes: codes.try_into().ok()?,
+            dots: dots.try_into().ok()?,
         })
     }
 }
@@ -263,6 +266,9 @@ impl<'a> Engine<'a> {
         self.waiting = false;
         self.runs().fill(0);
         self.wipe();
+        if self.settings.mode == 3 {
+            self.stores.dots.fill(0);
+        }
     }
 
     pub fn paint(&self, picture: &mut [u8; 640]) {
@@ -271,7 +277,7 @@ impl<'a> Engine<'a> {
             return;
         }
         match self.settings.mode {
-            0 if self.rows == 8 => {
+            0 | 3 if self.rows == 8 => {
                 picture.copy_from_slice(&self.stores.cells[self.block(self.top - 1, self.top + 7)]);
             }
             0 => picture[..560].copy_from_slice(&self.stores.cells[self.block(self.top - 1, self.top + 6)]),
@@ -317,8 +323,22 @@ impl<'a> Engine<'a> {
         }
     }
 
-    /// Appends a copy of the picture; there is room.
+    /// The room that a copy takes.
+    pub fn copy_size(&self) -> usize {
+        if self.settings.mode == 3 {
+            3840
+        } else {
+            656
+        }
+    }
+
+    /// Appends a copy of the picture, or the dots; there is room.
     pub fn copy_out(&mut self) {
+        if self.settings.mode == 3 {
+            self.printer[self.printed..self.printed + 3840].copy_from_slice(self.stores.dots);
+            self.printed += 3840;
+            return;
+        }
         let mut picture = [0; 640];
         self.paint(&mut picture);
         let room = &mut self.printer[self.printed..self.printed + 656];

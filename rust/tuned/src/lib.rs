@@ -6,6 +6,7 @@
 
 #![forbid(unsafe_code)]
 
+mod dots;
 mod engine;
 pub mod repeats;
 pub mod screens;
@@ -50,8 +51,14 @@ const START: Settings = Settings {
     rule: 1,
 };
 
-pub fn opening(rule: usize, cells: &mut [u8], layer: &mut [u8], shown: &mut [u8]) -> (Settings, u8) {
-    if (cells.len(), layer.len(), shown.len()) != (3840, 1280, 640) {
+pub fn opening(
+    rule: usize,
+    cells: &mut [u8],
+    layer: &mut [u8],
+    shown: &mut [u8],
+    dots: &mut [u8],
+) -> (Settings, u8) {
+    if (cells.len(), layer.len(), shown.len(), dots.len()) != (3840, 1280, 640, 3840) {
         return (START, 1);
     }
     let rule = match rule {
@@ -62,6 +69,7 @@ pub fn opening(rule: usize, cells: &mut [u8], layer: &mut [u8], shown: &mut [u8]
     cells.fill(b' ');
     layer.fill(0);
     shown.fill(b' ');
+    dots.fill(0);
     (Settings { rule, ..START }, 0)
 }
 
@@ -71,9 +79,10 @@ pub fn message(
     cells: &mut [u8],
     layer: &mut [u8],
     shown: &mut [u8],
+    dots: &mut [u8],
     printer: &mut [u8],
 ) -> (Settings, Answer) {
-    let (stores, picture) = match judged(&settings, message, cells, layer, shown) {
+    let (stores, picture) = match judged(&settings, message, cells, layer, shown, dots) {
         Ok(good) => good,
         Err(number) => return refused(settings, number),
     };
@@ -100,8 +109,9 @@ fn judged<'a>(
     cells: &'a mut [u8],
     layer: &'a mut [u8],
     shown: &'a mut [u8],
+    dots: &'a mut [u8],
 ) -> Result<(Stores<'a>, &'a mut [u8; 640]), u8> {
-    let stores = Stores::new(cells, layer).ok_or(1)?;
+    let stores = Stores::new(cells, layer, dots).ok_or(1)?;
     let picture = shown.try_into().map_err(|_| 1)?;
     if message.len() > 4096 {
         return Err(2);
@@ -146,6 +156,7 @@ fn sound(s: &Settings) -> bool {
             let m = s.columns1;
             a == b && (8..=48).contains(&a) && (1..=78).contains(&m) && s.columns2 == 79 - m
         }
+        3 => (a, b, s.columns1, s.columns2) == (8, 0, 80, 0) && alone(s),
         _ => false,
     };
     if !shape {
@@ -170,7 +181,7 @@ fn sound(s: &Settings) -> bool {
         | k.strings
         | k.repeat;
     inside(&s.places[0], a, s.columns1)
-        && inside(&s.places[1], b, s.columns2)
+        && (s.mode == 3 || inside(&s.places[1], b, s.columns2))
         && flags <= 1
         && s.step.wrapping_sub(1) < height
         && s.kind < 4
@@ -184,9 +195,15 @@ fn sound(s: &Settings) -> bool {
         && marks_sound(&s.marks[48..], b)
 }
 
+/// Mode 3's one screen, one cursor type and one display.
+fn alone(s: &Settings) -> bool {
+    let home = Place { line: 1, column: 1, top: 1, waiting: 0 };
+    s.kind == 3 && s.display == 1 && s.selected == 0 && s.places[1] == home
+}
+
 /// Nothing but 0 and 1, and from the last line on nothing but 0.
 fn marks_sound(marks: &[u8], lines: u8) -> bool {
     let together = |marks: &[u8]| marks.iter().fold(0, |all, mark| all | mark);
-    let (before, from) = marks.split_at(usize::from(lines) - 1);
+    let (before, from) = marks.split_at(usize::from(lines.saturating_sub(1)));
     together(before) <= 1 && together(from) == 0
 }

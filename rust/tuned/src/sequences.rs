@@ -1,5 +1,6 @@
 //! The sequences: one table of lengths, one judgement, one dispatch.
 
+use crate::dots;
 use crate::engine::Engine;
 use reference::{Answer, Place};
 
@@ -72,6 +73,7 @@ fn misfit_of_mode(p: &[u8]) -> u8 {
         0 => earlier(p[1] >= 8, p[2] >= 8 && u32::from(p[1]) + u32::from(p[2]) <= 48),
         1 => earlier(within(p[1], 16, 48), true),
         2 => earlier(within(p[1], 8, 48), within(p[2], 1, 78)),
+        3 => 0,
         _ => return 1,
     };
     if after == 0 {
@@ -118,8 +120,7 @@ impl Engine<'_> {
             return (12, 0, rest.len());
         }
         let (number, parameter) = match second {
-            208 if rest[2] == 3 => (14, 0),
-            80 if self.printer.len() - self.printed < 656 => (13, 0),
+            80 if self.printer.len() - self.printed < self.copy_size() => (13, 0),
             _ => match self.misfit(second, &rest[2..length]) {
                 0 => (0, 0),
                 parameter => (11, parameter),
@@ -131,6 +132,9 @@ impl Engine<'_> {
     /// The first parameter that does not fit, 0 if all do.
     fn misfit(&self, second: u8, p: &[u8]) -> u8 {
         match second {
+            _ if self.idle(second) => 0,
+            198 if self.settings.mode == 3 => dots::misfit_of_line(p),
+            199 if self.settings.mode == 3 => dots::misfit_of_dot(p),
             61 => earlier(within(p[0], 32, self.lines + 31), within(p[1], 32, self.columns + 31)),
             144 | 145 => {
                 let (a, m) = (usize::from(p[0]), usize::from(p[1]));
@@ -156,7 +160,15 @@ impl Engine<'_> {
         }
     }
 
+    /// What does nothing in mode 3: there is no other screen and no other window.
+    fn idle(&self, second: u8) -> bool {
+        self.settings.mode == 3 && matches!(second, 148..=151 | 209 | 211..=215)
+    }
+
     fn obey(&mut self, second: u8, p: &[u8]) {
+        if self.idle(second) {
+            return;
+        }
         match second {
             37 => self.text(p),
             42 => self.clear(),
@@ -179,11 +191,14 @@ impl Engine<'_> {
             }
             210 => self.mark(usize::from(p[0]) * 80 + usize::from(p[1]) - 81, p[2]),
             211 => self.display(p[0]),
+            198 | 199 if self.settings.mode != 3 => {}
+            198 => dots::draw(self.stores.dots, p),
+            199 => dots::set(self.stores.dots, p),
             _ => self.keep(second, p),
         }
     }
 
-    /// The sequences that keep a number for later; 198, 199, 246 keep none.
+    /// The sequences that keep a number for later; 246 keeps none.
     fn keep(&mut self, second: u8, p: &[u8]) {
         let s = &mut self.settings;
         match second {
@@ -295,20 +310,22 @@ impl Engine<'_> {
     fn set_mode(&mut self, p: &[u8]) {
         let s = &mut self.settings;
         s.mode = p[0];
-        s.lines1 = p[1];
-        s.lines2 = if p[0] == 0 { p[2] } else { p[1] };
-        (s.columns1, s.columns2) = match p[0] {
-            0 => (80, 80),
-            1 => (39, 39),
-            _ => (p[2], 79 - p[2]),
+        (s.lines1, s.lines2, s.columns1, s.columns2) = match *p {
+            [0, first, second] => (first, second, 80, 80),
+            [1, lines] => (lines, lines, 39, 39),
+            [2, lines, m, _] => (lines, lines, m, 79 - m),
+            _ => (8, 0, 80, 0),
         };
-        if let [2, _, _, boundary] = *p {
-            s.boundary = boundary;
+        match *p {
+            [2, _, _, boundary] => s.boundary = boundary,
+            [3] => (s.kind, s.display) = (3, 1),
+            _ => {}
         }
         s.places = [Place { line: 1, column: 1, top: 1, waiting: 0 }; 2];
         (s.selected, s.step, s.tracking) = (0, 1, 1);
         s.marks = [0; 96];
         self.stores.cells.fill(b' ');
+        self.stores.dots.fill(0);
         self.wipe();
         self.load();
     }

@@ -29,9 +29,10 @@ pub fn piece(
     cells: &mut [u8],
     layer: &mut [u8],
     shown: &mut [u8],
+    dots: &mut [u8],
     printer: &mut [u8],
 ) -> (Settings, Answer) {
-    let (stores, picture) = match judged(&settings, piece, cells, layer, shown) {
+    let (stores, picture) = match judged(&settings, piece, cells, layer, shown, dots) {
         Ok(good) => good,
         Err(number) => return refused(settings, number),
     };
@@ -83,8 +84,9 @@ pub fn closing(
     cells: &mut [u8],
     layer: &mut [u8],
     shown: &mut [u8],
+    dots: &mut [u8],
 ) -> (Settings, Answer) {
-    let (stores, picture) = match judged(&settings, &[], cells, layer, shown) {
+    let (stores, picture) = match judged(&settings, &[], cells, layer, shown, dots) {
         Ok(good) => good,
         Err(number) => return refused(settings, number),
     };

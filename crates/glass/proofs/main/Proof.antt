@@ -9,14 +9,14 @@ use Rattle.glass.proofs.main.Statement.{statement}
 use Rattle.glass.proofs.main.Tie as tie
 
 abbrev Inv-loop : tie.InvT-loop
-Inv-loop cells₀ layer₀ shown₀ printer₀ part₀ stream₀ n₀ turns₀ cells layer shown printer part stream n turns =
-    (length cells ≡ 3840) × (length layer ≡ 1280) × (length printer ≡ 83968) × (length part ≡ 256) × (n ≤ 256)
+Inv-loop cells₀ layer₀ shown₀ dots₀ printer₀ part₀ stream₀ n₀ turns₀ cells layer shown dots printer part stream n turns =
+    (length cells ≡ 3840) × (length layer ≡ 1280) × (length dots ≡ 3840) × (length printer ≡ 491520) × (length part ≡ 256) × (n ≤ 256)
 
 abbrev μ-loop : tie.MeasureT-loop
-μ-loop cells₀ layer₀ shown₀ printer₀ part₀ stream₀ n₀ turns₀ cells layer shown printer part stream n turns = turns
+μ-loop cells₀ layer₀ shown₀ dots₀ printer₀ part₀ stream₀ n₀ turns₀ cells layer shown dots printer part stream n turns = turns
 
 loop-holds : tie.Need-loop-holds Inv-loop μ-loop
-loop-holds c = (search needs, search needs, length-replicate {A = ℕ} 83968 0, search needs, search needs)
+loop-holds c = (search needs, search needs, search needs, length-replicate {A = ℕ} 491520 0, search needs, search needs)
 
 slice-aggregate-take : tie.Need-slice-aggregate-take Inv-loop μ-loop
 slice-aggregate-take c =
@@ -31,6 +31,7 @@ main-spec =
     μ-loop
     (λ c. search needs)
     (λ c. search needs)
+    (λ c. search needs)
     (λ c κs. search needs)
     (λ c. search needs)
     (λ c κs. search needs)
@@ -40,9 +41,11 @@ main-spec =
     (λ c. search needs)
     (λ c. search needs)
     (λ c. search needs)
+    (λ c. search needs)
     (λ c κs. search needs)
     (λ c. search needs)
     (λ c κs. search needs)
+    (λ c. search needs)
     (λ c. search needs)
     (λ c. search needs)
     (λ c. search needs)

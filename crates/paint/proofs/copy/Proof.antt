@@ -1,82 +1,41 @@
--- `copy`: after `row` turns the rows before it are in the buffer.
-use mathlib.Core.Path.{_∙_, _≡_, ap, refl, sym}
-use Prim.Native.Nat.{_-_, _≤_, ℕ}
+-- `copy`: in mode 3 the dots, else the picture.
+use mathlib.Core.Path.{_∙_, ap}
+use Prim.Native.Nat.{ℕ}
 use native.Mathlib.Omega.{arith}
 use mathlib.Core.List.{List}
-use lib.ListN.{getD, length, length-replicate}
 use borrow.Author.Needs.{needs}
 use Rattle.model.specs.Bytes.{put}
 use Rattle.model.specs.State.{state}
-use Rattle.model.specs.Picture.{copiedRows}
-use Rattle.model.proofs.Tests.{differ}
-use Rattle.store.proofs.Laws.{put-none}
-use Rattle.paint.proofs.Pictures.{texts-size, whole-picture}
-use Rattle.paint.proofs.Copies.{copied-all, copied-more}
+use Rattle.paint.proofs.Copies.{copied-else, copied-there, size-else, size-there}
 use Rattle.paint.proofs.copy.Statement.{statement}
 use Rattle.paint.proofs.copy.Tie as tie
 
-abbrev Inv-loop : tie.InvT-loop
-Inv-loop cells layer printer₀ from picture row₀ printer row =
-    (row ≤ 8) × ((length printer ≡ length printer₀) × (printer ≡ put from (copiedRows (λ (p : ℕ). getD picture p 0) 0 row) printer₀))
+copy-many-requires : tie.Need-copy-many-requires
+copy-many-requires c κs =
+    let entry = c .before .before .before .before .before .before .before in
+    let n = size-there (entry .args .settings .mode) (c .before .if1 .taken) in
+    (omega (arith, entry .pre .1, n), (omega (arith, entry .pre .0 .dots-are), omega arith))
 
-abbrev μ-loop : tie.MeasureT-loop
-μ-loop cells layer printer₀ from picture row₀ printer row = 8 - row
-
-paint-under-requires : tie.Need-paint-under-requires Inv-loop μ-loop
-paint-under-requires c κs = let v = c .before in (v .view-of .ensures .framed, (v .before .before .before .before .pre .0 .cells-are, length-replicate {A = ℕ} 640 0))
-
-paint-keys-requires : tie.Need-paint-keys-requires Inv-loop μ-loop
-paint-keys-requires c κs = (texts-size (c .before .before .before .before .before .before .before .before .pre .0 .sound), search needs)
-
-lay-over-requires : tie.Need-lay-over-requires Inv-loop μ-loop
-lay-over-requires c κs = ((c .before .before .before .before .before .before .before .before .before .before .before .pre .0 .layer-are, search needs), λ e. absurd (differ (sym e)))
-
-loop-holds : tie.Need-loop-holds Inv-loop μ-loop
-unfolding copiedRows
-loop-holds c = (search needs, (search needs, sym (put-none _ _)))
-
-loop-again : tie.Need-loop-again Inv-loop μ-loop
-loop-again c =
-    let at = c .before .before in
-    let head = at .before .before .before .before in
-    let entry = head .before .before .before .before .before .before .before .before .before .before .before .before .before .before in
-    let a = entry .args in
-    (search needs, (search needs, copied-more (a .from) (head .loop .row) _ (a .printer .now) (head .loop .inv .1 .1) (at .copy-row .ensures) refl (omega (arith, entry .pre .1))))
-
-returns : tie.Need-returns Inv-loop μ-loop
+returns : tie.Need-returns
 returns c =
-    let loop = c .before .loop in
-    let lay = c .before .before .before in
-    let keys = lay .before .before .before in
-    let under = keys .before .before .before in
-    let v = under .before .before in
-    let entry = v .before .before .before .before in
+    let at = c .before .before in
+    let entry = at .before .before .before .before .before .before .before .before in
     let a = entry .args in
-    let picture = whole-picture (a .settings) (a .cells .now) (a .layer .now) (v .view-of .result) (v .view-of .ensures) _ (texts-size (entry .pre .0 .sound)) (length-replicate {A = ℕ} 640 0)
-    (under .paint-under .ensures) (keys .paint-keys .ensures) (lay .lay-over .ensures) in
-    loop .inv .1 .1 ∙ ap (λ (ys : List ℕ). put (a .from) ys (a .printer .now)) (copied-all (state (a .settings) (a .cells .now) (a .layer .now)) _ (loop .row) picture (omega arith))
+    let st = state (a .settings) (a .cells .now) (a .layer .now) (a .dots .now) in
+    at .copy-many .ensures ∙ ap (λ (ys : List ℕ). put (a .from) ys (a .printer .now)) (copied-there st (at .before .before .if1 .taken) (entry .pre .0 .dots-are))
+
+copy-picture-requires : tie.Need-copy-picture-requires
+copy-picture-requires c κs =
+    let entry = c .before .before .before .before .before .before .before in
+    let g = entry .pre .0 in
+    (record { sound = g .sound; cells-are = g .cells-are; layer-are = g .layer-are }, omega (arith, entry .pre .1, size-else (entry .args .settings .mode) (c .before .if1 .left)))
+
+returns-2 : tie.Need-returns-2
+returns-2 c =
+    let at = c .before .before in
+    let a = at .before .before .before .before .before .before .before .before .args in
+    let st = state (a .settings) (a .cells .now) (a .layer .now) (a .dots .now) in
+    at .copy-picture .ensures (a .dots .now) ∙ ap (λ (ys : List ℕ). put (a .from) ys (a .printer .now)) (copied-else st (at .before .before .if1 .left))
 
 pub copy-spec : {M : Type 1} → statement M
-copy-spec =
-    tie.close
-    (tie.spec
-    Inv-loop
-    μ-loop
-    (λ c κs. search needs)
-    (λ c. search needs)
-    paint-under-requires
-    (λ c. search needs)
-    paint-keys-requires
-    (λ c. search needs)
-    lay-over-requires
-    loop-holds
-    (λ c. search needs)
-    (λ c. search needs)
-    (λ c. search needs)
-    (λ c. search needs)
-    (λ c κs. search needs)
-    (λ c. search needs)
-    (λ c. search needs)
-    loop-again
-    (λ c. search needs)
-    returns)
+copy-spec = tie.close (tie.spec copy-many-requires (λ c. search needs) returns copy-picture-requires (λ c. search needs) returns-2)

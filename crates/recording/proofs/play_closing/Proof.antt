@@ -6,7 +6,7 @@ use Rattle.recording.proofs.play_closing.Tie as tie
 
 returns : tie.Need-returns
 returns c =
-    let done = c .before .before .before .before .before .before .before .before in
+    let done = c .before .before .before .before .before .before .before .before .before .before in
     plays-of (done .px8-closing .ensures) (c .told .ensures)
 
 pub play-closing-spec : {M : Type 1} → statement M
@@ -16,6 +16,7 @@ play-closing-spec =
     (λ c κs. search needs)
     (λ c. search needs)
     (λ c κs. search needs)
+    (λ c. search needs)
     (λ c. search needs)
     (λ c. search needs)
     (λ c. search needs)

@@ -13,8 +13,9 @@ returns c =
     let a = key .before .before .before .args in
     let out = key .key in
     record {
-      plays = subst (λ (x : Answer). KeyPromised (a .key) (a .text .now) (a .played .settings) x (out .result .settings)) (out .ensures [] [] [] .answer-is) (out .ensures);
+      plays = subst (λ (x : Answer). KeyPromised (a .key) (a .text .now) (a .played .settings) x (out .result .settings)) (out .ensures [] [] [] [] .answer-is) (out .ensures);
       sum-is = refl;
+      room-is = refl;
     }
 
 pub play-key-spec : {M : Type 1} → statement M

@@ -6,7 +6,7 @@ use Rattle.recording.proofs.play_message.Tie as tie
 
 returns : tie.Need-returns
 returns c =
-    let done = c .before .before .before .before .before .before .before .before .before .before in
+    let done = c .before .before .before .before .before .before .before .before .before .before .before .before in
     plays-of (done .message .ensures) (c .told .ensures)
 
 pub play-message-spec : {M : Type 1} → statement M
@@ -15,6 +15,7 @@ play-message-spec =
     (tie.spec
     (λ c κs. search needs)
     (λ c κs. search needs)
+    (λ c. search needs)
     (λ c. search needs)
     (λ c. search needs)
     (λ c. search needs)

@@ -6,7 +6,7 @@ use Rattle.recording.proofs.play_piece.Tie as tie
 
 returns : tie.Need-returns
 returns c =
-    let done = c .before .before .before .before .before .before .before .before .before .before in
+    let done = c .before .before .before .before .before .before .before .before .before .before .before .before in
     plays-of (done .px8-piece .ensures) (c .told .ensures)
 
 pub play-piece-spec : {M : Type 1} → statement M
@@ -15,6 +15,7 @@ play-piece-spec =
     (tie.spec
     (λ c κs. search needs)
     (λ c κs. search needs)
+    (λ c. search needs)
     (λ c. search needs)
     (λ c. search needs)
     (λ c. search needs)

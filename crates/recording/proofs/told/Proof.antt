@@ -6,7 +6,7 @@ use Rattle.recording.proofs.told.Statement.{statement}
 use Rattle.recording.proofs.told.Tie as tie
 
 returns : tie.Need-returns
-returns c = record { settings-are = refl; sum-is = c .adler32 .ensures ∙ ap (adlerFrom _) (c .before .printed .ensures .part-is) }
+returns c = record { settings-are = refl; sum-is = c .adler32 .ensures ∙ ap (adlerFrom _) (c .before .printed .ensures .part-is); room-is = refl }
 
 pub told-spec : {M : Type 1} → statement M
 told-spec =

@@ -3,7 +3,7 @@ use native.Mathlib.Omega.{arith}
 use borrow.Author.Needs.{needs}
 use Rattle.model.specs.Rules.{control}
 use Rattle.screen.proofs.Acting.{then-above}
-use Rattle.screen.proofs.Carried.{then-above-with, unmarked-acts}
+use Rattle.screen.proofs.Carried.{dots-aside, then-above-with, unmarked-acts}
 use Rattle.screen.proofs.Moves.{back-acts, column-acts, no-code}
 use Rattle.screen.proofs.control.Statement.{statement}
 use Rattle.screen.proofs.control.Tie as tie
@@ -22,15 +22,15 @@ control-spec =
     (λ c κs. let entry = c .before .before .before .before .before .before in let a = column-acts (entry .pre .0) 1 (omega arith) (omega arith) (c .before .put-at2 .ensures) in (a .ready .stands, a .ready .layer-are))
     (λ c κs. search needs)
     (λ c. search needs)
-    (λ c. let entry = c .before .before .before .before .before .before .before .before .before .before in rw (c .before .before .before .before .before .before .match .keys1) (unmarked-acts (entry .pre .1) (then-above (back-acts (entry .pre .0) (c .before .before .before .before .before .before2 .ensures) (c .before .before .before .before .put-at .ensures)) (c .before .before .track .ensures))))
+    (λ c. let entry = c .before .before .before .before .before .before .before .before .before .before in rw (c .before .before .before .before .before .before .match .keys1) (dots-aside (unmarked-acts (entry .pre .1) (then-above (back-acts (entry .pre .0) (c .before .before .before .before .before .before2 .ensures) (c .before .before .before .before .put-at .ensures)) (c .before .before .track .ensures)))))
     (λ c. search needs)
     (λ c. search needs)
     (λ c. search needs)
-    (λ c. rw (c .before .before .before .before .before .before .before .before .before .before .before .before .before .before .match .keys2) (then-above-with (c .before .before .before .before .before .before .before .before .before .before .down .ensures .0) (c .before .before .track2 .ensures)))
+    (λ c. rw (c .before .before .before .before .before .before .before .before .before .before .before .before .before .before .match .keys2) (dots-aside (then-above-with (c .before .before .before .before .before .before .before .before .before .before .down .ensures .0) (c .before .before .track2 .ensures))))
     (λ c. search needs)
-    (λ c. let entry = c .before .before .before .before .before .before .before .before .before in rw (c .before .before .before .before .before .match .keys3) (unmarked-acts (entry .pre .1) (then-above (column-acts (entry .pre .0) 1 (omega arith) (omega arith) (c .before .before .before .before .put-at2 .ensures)) (c .before .before .track3 .ensures))))
+    (λ c. let entry = c .before .before .before .before .before .before .before .before .before in rw (c .before .before .before .before .before .match .keys3) (dots-aside (unmarked-acts (entry .pre .1) (then-above (column-acts (entry .pre .0) 1 (omega arith) (omega arith) (c .before .before .before .before .put-at2 .ensures)) (c .before .before .track3 .ensures)))))
     (λ c. search needs)
     (λ c. search needs)
     (λ c. search needs)
     (λ c. rw (c .before .before .before .before .before .before .before .before .before .before .match .keys4) (c .before .before .before .before .before .before .clear .ensures))
-    (λ c. let n = c .match .rest in let entry = c .before .before .before .before in unmarked-acts (entry .pre .1) (no-code (entry .args .code) (entry .pre .0) (n .0 .0 .0 .1) (n .0 .0 .1) (n .0 .1) (n .1))))
+    (λ c. let n = c .match .rest in let entry = c .before .before .before .before in dots-aside (unmarked-acts (entry .pre .1) (no-code (entry .args .code) (entry .pre .0) (n .0 .0 .0 .1) (n .0 .0 .1) (n .0 .1) (n .1)))))

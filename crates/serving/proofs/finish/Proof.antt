@@ -1,25 +1,34 @@
--- `finish` meets its contract: the settings with their place back are painted.
-use mathlib.Core.Path.{_∙_, ap, refl, subst, sym}
+-- `finish` meets its contract: the settings with their place back are painted, by its top.
+use mathlib.Core.Path.{_≡_, _∙_, ap, refl, subst, sym}
 use mathlib.Core.List.{List}
+use native.Mathlib.Omega.{arith}
+use lib.ListN.{length-set}
+use lib.Seq.{getD-set-same}
 use borrow.Author.Needs.{needs}
 use Rattle.model.specs.declared.Place.{Place}
-use Rattle.model.specs.State.{state, withPlaces}
-use Rattle.model.specs.Sound.{Good}
+use Rattle.model.specs.Screens.{placeOf}
+use Rattle.model.specs.Sound.{arrayRanges}
+use Rattle.model.specs.State.{nowhere, state, withPlaces}
 use Rattle.model.specs.Picture.{painting}
+use Rattle.model.proofs.Keep.{chosen}
+use Rattle.paint.specs.Painted.{Visible}
 use Rattle.serving.proofs.finish.Statement.{statement}
 use Rattle.serving.proofs.finish.Tie as tie
 
 paint-requires : tie.Need-paint-requires
+unfolding placeOf arrayRanges
 paint-requires c κs =
     let entry = c .before .before .before .before .before in
     let a = entry .args in
-    (subst (λ (ps : List Place). Good (state (withPlaces (a .settings) ps) (a .cells .now) (a .layer .now))) (sym (c .before .placed .ensures)) (entry .pre .0), entry .pre .1)
+    let s = a .settings in
+    let there = getD-set-same (s .places) (s .selected) (a .place) nowhere (omega (arith, length-set (s .places) (s .selected) (a .place), entry .pre .0 .sound .arrays .0, chosen _ (entry .pre .0 .sound))) in
+    (subst (λ (ps : List Place). (Visible (withPlaces s ps) (a .cells .now) (a .layer .now)) × (a .place .top ≡ placeOf (withPlaces s ps) (s .selected) .top)) (sym (c .before .placed .ensures)) (entry .pre .0, ap (λ (p : Place). p .top) (sym there)), entry .pre .1)
 
 returns : tie.Need-returns
 returns c =
     let e = c .before .before .before .before .placed .ensures in
     let a = c .before .before .before .before .before .before .before .before .args in
-    (ap (withPlaces (a .settings)) e, (refl, c .before .before .paint .ensures ∙ ap (λ (ps : List Place). painting (state (withPlaces (a .settings) ps) (a .cells .now) (a .layer .now))) e))
+    (ap (withPlaces (a .settings)) e, (refl, λ dots. c .before .before .paint .ensures dots ∙ ap (λ (ps : List Place). painting (state (withPlaces (a .settings) ps) (a .cells .now) (a .layer .now) dots)) e))
 
 pub finish-spec : {M : Type 1} → statement M
-finish-spec = tie.close (tie.spec (λ c κs. c .before .before .before .pre .0 .sound .selected) paint-requires (λ c. search needs) returns)
+finish-spec = tie.close (tie.spec (λ c κs. chosen _ (c .before .before .before .pre .0 .sound)) paint-requires (λ c. search needs) returns)

@@ -13,7 +13,7 @@ use Rattle.model.specs.Rules.{obeyed, withSettings, withKindPatterns}
 use Rattle.model.proofs.Tests.{differ}
 use Rattle.model.proofs.Cases.{ranged}
 use Rattle.settings.specs.Obey.{settled}
-use Rattle.settings.proofs.Idle.{no-pattern}
+use Rattle.settings.proofs.Idle.{awake-as, no-pattern}
 use Rattle.settings.proofs.Rows.{taken-listed}
 use Rattle.settings.proofs.store_pattern.Statement.{statement}
 use Rattle.settings.proofs.store_pattern.Tie as tie
@@ -25,10 +25,10 @@ store-pattern-spec =
     (tie.spec
     (λ c. search needs)
     (λ c. record { does = λ e. absurd (differ (sym e ∙ no-pattern (c .before .before .args .q) (c .match .keys2))); rest = refl; others = λ e. refl })
-    (λ c κs. let is = c .before .q .given .1 in let pre = c .before .before .before .before .pre in omega (arith, ranged _ (pre .legal) is, pre .sound .arrays, pre .rows _ _ is))
+    (λ c κs. let is = c .before .q .given .1 in let pre = c .before .before .before .before .pre in omega (arith, ranged _ (pre .legal) is (awake-as _ is (pre .awake)), pre .sound .arrays, pre .rows _ _ is))
     (λ c. let is = c .before .before .q .given .1 in
     record {
-      does = λ e cells layer. rw (is, c .keep .ensures, taken-listed _ _ 8 (c .before .before .before .before .before .pre .rows _ _ is));
+      does = λ e cells layer dots. rw (is, c .keep .ensures, taken-listed _ _ 8 (c .before .before .before .before .before .pre .rows _ _ is));
       rest = rw (c .keep .ensures);
       others = λ e. absurd (differ (sym (ap (λ (j : Seq). eqb (codeOf j) 224) is) ∙ e));
     }))

@@ -23,7 +23,11 @@ returns-2 c = rw (ne-eqb _ _ (c .before .if1 .left), eq-eqb _ _ (c .if2 .taken))
 
 returns-3 : tie.Need-returns-3
 unfolding shapeRanges
-returns-3 c = rw (ne-eqb _ _ (c .before .if1 .left), ne-eqb _ _ (c .if2 .left), c .before .before .minus2 .ensures) (let a = c .before .before .before .before .args in mode-2 (a .lines1) (a .lines2) (a .columns1) (a .columns2) (a .mode) (79 - a .columns1))
+returns-3 c = let i = c .before in rw (ne-eqb _ _ (i .before .if1 .left), ne-eqb _ _ (i .if2 .left), eq-eqb _ _ (c .if3 .taken), i .before .before .minus2 .ensures) (let a = i .before .before .before .before .args in mode-2 (a .lines1) (a .lines2) (a .columns1) (a .columns2) (79 - a .columns1))
+
+returns-4 : tie.Need-returns-4
+unfolding shapeRanges
+returns-4 c = let i = c .before .before in rw (ne-eqb _ _ (i .before .if1 .left), ne-eqb _ _ (i .if2 .left), ne-eqb _ _ (c .before .if3 .left)) (c .curve .ensures)
 
 pub shape-spec : {M : Type 1} → statement M
-shape-spec = tie.close (tie.spec minus-requires minus-requires-2 returns returns-2 returns-3)
+shape-spec = tie.close (tie.spec minus-requires minus-requires-2 returns returns-2 returns-3 (λ c κs. tt) returns-4)

@@ -10,8 +10,8 @@ use Rattle.stream.proofs.behind.Tie as tie
 returns : tie.Need-returns
 returns c =
     let told = c .before .before in
-    let a = told .before .before .before .before .before .before .before .before .before .args in
-    let t = terminal (a .settings) (a .cells .now) (a .layer .now) (a .shown .now) in
+    let a = told .before .before .before .before .before .before .before .before .before .before .before .args in
+    let t = terminal (a .settings) (a .cells .now) (a .layer .now) (a .dots .now) (a .shown .now) in
     let e = told .line-number .ensures in
     let z = c .before .if1 .taken in
     promised-not (piece (a .piece .now)) t (a .printer .now) _ _ (e ∙ line-refused t (a .piece .now) (λ k. z (e ∙ k))) z (c .refusal .ensures)
@@ -25,6 +25,7 @@ behind-spec =
     (λ c. search needs)
     (λ c. search needs)
     (λ c. search needs)
+    (λ c. search needs)
     returns
     (λ c κs. search needs)
     (λ c. search needs)
@@ -32,7 +33,9 @@ behind-spec =
     (λ c. search needs)
     (λ c. search needs)
     (λ c. search needs)
+    (λ c. search needs)
     (λ c κs. search needs)
+    (λ c. search needs)
     (λ c. search needs)
     (λ c. search needs)
     (λ c. search needs)

@@ -19,23 +19,23 @@ size c = let g = c .good .0 .1 .1 .1 .1 .1 .1 .1 .1 .1 in search (unmapped, g .1
 
 -- number 0: the line is sound
 abbrev first : tie.Else1 → tie.Start
-first c = c .before .before .before .before .before .before .before .before
+first c = c .before .before .before .before .before .before .before .before .before .before
 
 module _ (c : tie.Else1) where
-  zero : let a = first c .args in closingNumber (terminal (a .settings) (a .cells .now) (a .layer .now) (a .shown .now)) ≡ 0
+  zero : let a = first c .args in closingNumber (terminal (a .settings) (a .cells .now) (a .layer .now) (a .dots .now) (a .shown .now)) ≡ 0
   zero = sym (c .before .closing-number .ensures) ∙ c .if1 .left
 
   line : let s = first c .args .settings in LineSound (s .waiting) (s .held) (s .count)
-  line = let a = first c .args in closing-sound (a .settings) (a .cells .now) (a .layer .now) (a .shown .now) (size (first c)) zero
+  line = let a = first c .args in closing-sound (a .settings) (a .cells .now) (a .layer .now) (a .dots .now) (a .shown .now) (size (first c)) zero
 
 -- where the message call stands: the place of number 0 before it
 abbrev told : tie.After-message → tie.Else1
-told c = c .before .before .before .before .before .before .before .before .before
+told c = c .before .before .before .before .before .before .before .before .before .before
 
 returns : tie.Need-returns
 returns c =
-    let a = c .before .before .before .before .before .before .before .before .before .args in
-    closing-not (terminal (a .settings) (a .cells .now) (a .layer .now) (a .shown .now)) _ _ (c .before .before .closing-number .ensures) (c .before .if1 .taken) (c .refusal .ensures)
+    let a = c .before .before .before .before .before .before .before .before .before .before .before .args in
+    closing-not (terminal (a .settings) (a .cells .now) (a .layer .now) (a .dots .now) (a .shown .now)) _ _ (c .before .before .closing-number .ensures) (c .before .if1 .taken) (c .refusal .ensures)
 
 array-share-prefix-waiting : tie.Need-array-share-prefix-waiting
 array-share-prefix-waiting c = let there = c .before .before .before in omega (arith, line there .fits, size (first there))
@@ -45,33 +45,36 @@ slice-aggregate-message c = let there = c .before .before .before .before in sym
 
 returns-2 : tie.Need-returns-2
 returns-2 c =
-    let asked = c .before .before .before .before .before .before .before .before .before .before in
+    let asked = c .before .before .before .before .before .before .before .before .before .before .before .before in
     let start = first (told asked) in
     let a = start .args in
-    closing-by (a .settings) (a .cells .now) (a .layer .now) (a .shown .now) (size start) (zero (told asked)) _ _ _ _ _ _ (by-quiet (a .settings) (asked .before .before .before .before .before .before .quieted .ensures) (asked .message .ensures)) (c .before .if2 .taken)
+    closing-by (a .settings) (a .cells .now) (a .layer .now) (a .dots .now) (a .shown .now) (size start) (zero (told asked)) _ _ _ _ _ _ _ (by-quiet (a .settings) (asked .before .before .before .before .before .before .before .quieted .ensures) (asked .message .ensures)) (c .before .if2 .taken)
 
 cast-start : tie.Need-cast-start
-cast-start c = let asked = c .before .before .before .before .before .before .before .before .before .before in omega (arith, line (told asked) .fits)
+cast-start c = let asked = c .before .before .before .before .before .before .before .before .before .before .before .before in omega (arith, line (told asked) .fits)
 
 sub-start : tie.Need-sub-start
-sub-start c = let asked = c .before .before .before .before .before .before .before .before .before .before .before in line (told asked) .no-longer
+sub-start c = let asked = c .before .before .before .before .before .before .before .before .before .before .before .before .before in line (told asked) .no-longer
 
 counted-from-requires : tie.Need-counted-from-requires
 counted-from-requires c κs =
-    let asked = c .before .before .before .before .before .before .before .before .before .before .before .before .before in
+    let asked = c .before .before .before .before .before .before .before .before .before .before .before .before .before .before .before in
     let start = first (told asked) in
     let a = start .args in
-    closing-near (a .settings) (a .cells .now) (a .layer .now) (a .shown .now) (size start) (zero (told asked)) _ _ _ _ _ _ (by-quiet (a .settings) (asked .before .before .before .before .before .before .quieted .ensures) (asked .message .ensures))
+    closing-near (a .settings) (a .cells .now) (a .layer .now) (a .dots .now) (a .shown .now) (size start) (zero (told asked)) _ _ _ _ _ _ _ (by-quiet (a .settings) (asked .before .before .before .before .before .before .before .quieted .ensures) (asked .message .ensures))
 
-same-length-7 : tie.Need-same-length-7
-same-length-7 c = let asked = c .before .before .before .before .before .before .before .before .before .before .before .before .before .before in search (needs, asked .message)
+same-length-9 : tie.Need-same-length-9
+same-length-9 c = let asked = c .before .before .before .before .before .before .before .before .before .before .before .before .before .before .before .before in search (needs, asked .message)
+
+same-length-10 : tie.Need-same-length-10
+same-length-10 c = let asked = c .before .before .before .before .before .before .before .before .before .before .before .before .before .before .before .before in omega (arith, asked .message .kept)
 
 returns-3 : tie.Need-returns-3
 returns-3 c =
-    let asked = c .before .before .before .before .before .before .before .before .before .before .before .before .before .before in
+    let asked = c .before .before .before .before .before .before .before .before .before .before .before .before .before .before .before .before in
     let start = first (told asked) in
     let a = start .args in
-    closing-served (a .settings) (a .cells .now) (a .layer .now) (a .shown .now) (size start) (zero (told asked)) _ _ _ _ _ _ (by-quiet (a .settings) (asked .before .before .before .before .before .before .quieted .ensures) (asked .message .ensures)) (c .before .before .before .before .before .if2 .left) _ _ (c .counted-from .ensures) (c .before .lined .ensures)
+    closing-served (a .settings) (a .cells .now) (a .layer .now) (a .dots .now) (a .shown .now) (size start) (zero (told asked)) _ _ _ _ _ _ _ (by-quiet (a .settings) (asked .before .before .before .before .before .before .before .quieted .ensures) (asked .message .ensures)) (c .before .before .before .before .before .if2 .left) _ _ (c .counted-from .ensures) (c .before .lined .ensures)
 
 pub px8-closing-spec : {M : Type 1} → statement M
 px8-closing-spec =
@@ -79,6 +82,7 @@ px8-closing-spec =
     (tie.spec
     (λ c κs. tt)
     (λ c κs. search needs)
+    (λ c. search needs)
     (λ c. search needs)
     (λ c. search needs)
     (λ c. search needs)
@@ -92,6 +96,7 @@ px8-closing-spec =
     (λ c. search needs)
     (λ c. search needs)
     (λ c. search needs)
+    (λ c. search needs)
     returns-2
     cast-start
     sub-start
@@ -99,7 +104,8 @@ px8-closing-spec =
     (λ c. refl)
     (λ c κs. omega arith)
     counted-from-requires
-    same-length-7
+    same-length-9
+    same-length-10
     (λ c. search needs)
     (λ c. search needs)
     returns-3)

@@ -7,19 +7,22 @@ use Rattle.terminal.proofs.message.Tie as tie
 
 serve-requires : tie.Need-serve-requires
 serve-requires c κs =
-    let a = c .before .before .before .before .before .before .before .before .before .before .before .before .before .before .args in
-    servable (a .settings) (a .message .now) (a .cells .now) (a .layer .now) (a .shown .now) (sym (c .before .before .before .before .before .call-number .ensures) ∙ c .before .before .before .before .if1 .taken)
+    let test = c .before .before .before .before .before in
+    let a = test .before .before .before .before .before .before .before .before .before .before .before .before .args in
+    servable (a .settings) (a .message .now) (a .cells .now) (a .layer .now) (a .dots .now) (a .shown .now) (sym (test .before .call-number .ensures) ∙ test .if1 .taken)
 
 returns : tie.Need-returns
 returns c =
-    let a = c .before .before .before .before .before .before .before .before .before .before .before .before .before .before .before .before .before .before .before .before .before .before .before .args in
-    let w = c .before .before .before .before .before .before .before .before .serve in
-    served (a .settings) (a .message .now) (a .cells .now) (a .layer .now) (a .shown .now) (a .printer .now) (w .result) _ _ _ _ (sym (c .before .before .before .before .before .before .before .before .before .before .before .before .before .before .call-number .ensures) ∙ c .before .before .before .before .before .before .before .before .before .before .before .before .before .if1 .taken) (w .ensures)
+    let done = c .before .before .before .before .before .before .before .before .before .before in
+    let test = done .before .before .before .before .before .before in
+    let a = test .before .before .before .before .before .before .before .before .before .before .before .before .args in
+    served (a .settings) (a .message .now) (a .cells .now) (a .layer .now) (a .dots .now) (a .shown .now) (a .printer .now) (done .serve .result) _ _ _ _ _ (sym (test .before .call-number .ensures) ∙ test .if1 .taken) (done .serve .ensures)
 
 returns-2 : tie.Need-returns-2
 returns-2 c =
-    let a = c .before .before .before .before .before .before .before .before .before .before .before .args in
-    refused (a .settings) (a .message .now) (a .cells .now) (a .layer .now) (a .shown .now) (a .printer .now) (c .before .before .call-number .result) _ (c .before .before .call-number .ensures) (c .before .if1 .left) (c .refusal .ensures)
+    let test = c .before in
+    let a = test .before .before .before .before .before .before .before .before .before .before .before .before .args in
+    refused (a .settings) (a .message .now) (a .cells .now) (a .layer .now) (a .dots .now) (a .shown .now) (a .printer .now) (test .before .call-number .result) _ (test .before .call-number .ensures) (test .if1 .left) (c .refusal .ensures)
 
 pub message-spec : {M : Type 1} → statement M
 message-spec =
@@ -32,7 +35,9 @@ message-spec =
     (λ c. search needs)
     (λ c. search needs)
     (λ c. search needs)
+    (λ c. search needs)
     returns
+    (λ c. search needs)
     (λ c. search needs)
     (λ c. search needs)
     (λ c. search needs)

@@ -9,14 +9,14 @@ use Rattle.vectors.proofs.main.Statement.{statement}
 use Rattle.vectors.proofs.main.Tie as tie
 
 abbrev Inv-loop : tie.InvT-loop
-Inv-loop cells₀ layer₀ shown₀ printer₀ body₀ case₀ turns₀ cells layer shown printer body case turns =
-    (length cells ≡ 3840) × (length layer ≡ 1280) × (length printer ≡ 65536) × (length body ≡ 65536)
+Inv-loop cells₀ layer₀ shown₀ dots₀ printer₀ body₀ case₀ turns₀ cells layer shown dots printer body case turns =
+    (length cells ≡ 3840) × (length layer ≡ 1280) × (length dots ≡ 3840) × (length printer ≡ 65536) × (length body ≡ 65536)
 
 abbrev μ-loop : tie.MeasureT-loop
-μ-loop cells₀ layer₀ shown₀ printer₀ body₀ case₀ turns₀ cells layer shown printer body case turns = turns
+μ-loop cells₀ layer₀ shown₀ dots₀ printer₀ body₀ case₀ turns₀ cells layer shown dots printer body case turns = turns
 
 loop-holds : tie.Need-loop-holds Inv-loop μ-loop
-loop-holds c = (search needs, search needs, length-replicate {A = ℕ} 65536 0, length-replicate {A = ℕ} 65536 0)
+loop-holds c = (search needs, search needs, search needs, length-replicate {A = ℕ} 65536 0, length-replicate {A = ℕ} 65536 0)
 
 slice-aggregate-step : tie.Need-slice-aggregate-step Inv-loop μ-loop
 slice-aggregate-step c =
@@ -25,8 +25,27 @@ slice-aggregate-step c =
 pub main-spec : {M : Type 1} → statement M
 main-spec =
     tie.close
-    (tie.spec Inv-loop μ-loop
-    (λ c. search needs) (λ c. search needs) (λ c. search needs) (λ c κs. search needs) loop-holds (λ c. search needs)
-    (λ c κs. search needs) (λ c κs. search needs) (λ c. search needs) slice-aggregate-step (λ c. search needs) (λ c. search needs)
-    (λ c. search needs) (λ c κs. search needs) (λ c. search needs) (λ c. search needs) (λ c. search needs) (λ c. search needs)
+    (tie.spec
+    Inv-loop
+    μ-loop
+    (λ c. search needs)
+    (λ c. search needs)
+    (λ c. search needs)
+    (λ c. search needs)
+    (λ c κs. search needs)
+    loop-holds
+    (λ c. search needs)
+    (λ c κs. search needs)
+    (λ c κs. search needs)
+    (λ c. search needs)
+    slice-aggregate-step
+    (λ c. search needs)
+    (λ c. search needs)
+    (λ c. search needs)
+    (λ c. search needs)
+    (λ c κs. search needs)
+    (λ c. search needs)
+    (λ c. search needs)
+    (λ c. search needs)
+    (λ c. search needs)
     (λ c. search needs))

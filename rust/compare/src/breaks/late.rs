@@ -186,8 +186,8 @@ pub const BREAKS: &[Break] = &[
         "self.settings.display = display;
         self.here_mut().waiting = 0;"),
     entry("a-copy-clears-the-flag", "apply.rs",
-        "self.printed += COPY;",
-        "self.printed += COPY;
+        "self.printed += copy_size(&self.settings);",
+        "self.printed += copy_size(&self.settings);
         self.here_mut().waiting = 0;"),
     entry("a-refused-sequence-clears-the-flag", "apply.rs",
         "Item::Refusal { .. } => {}",

@@ -8,9 +8,11 @@
 //! - `keyline`: the key line and its texts
 //! - `lines`: lines that run on
 //! - `late`: the late wrap
+//! - `dots`: mode 3
 //! - `screens`: the comparison of two screens
 //! - `traces`: key repeats
 
+mod dots;
 mod keyline;
 mod late;
 mod lines;
@@ -33,8 +35,15 @@ const fn entry(name: &'static str, file: &'static str, old: &'static str, new: &
 }
 
 /// The broken copies of the terminal.
-pub const BREAKS: &[&[Break]] =
-    &[scope::BREAKS, parameters::BREAKS, streams::BREAKS, keyline::BREAKS, lines::BREAKS, late::BREAKS];
+pub const BREAKS: &[&[Break]] = &[
+    scope::BREAKS,
+    parameters::BREAKS,
+    streams::BREAKS,
+    keyline::BREAKS,
+    lines::BREAKS,
+    late::BREAKS,
+    dots::BREAKS,
+];
 
 /// The broken copies of the comparison of two screens.
 pub const SCREENS: &[&[Break]] = &[screens::BREAKS];

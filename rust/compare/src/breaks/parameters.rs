@@ -26,9 +26,6 @@ pub const BREAKS: &[Break] = &[
     entry("mode-byte-not-counted", "read.rs",
         "1 => named(&[true, (16..=48).contains(&number(1))]),",
         "1 => named(&[(16..=48).contains(&number(1))]),"),
-    entry("14-names-the-mode-byte", "read.rs",
-        "return refusal(14);",
-        "return Item::Refusal { number: 14, parameter: 1 };"),
     entry("parameter-of-the-last-refusal", "calls.rs",
         "answer.refused += 1;",
         "answer.refused += 1;

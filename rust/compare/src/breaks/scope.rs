@@ -49,7 +49,7 @@ pub const BREAKS: &[Break] = &[
         }"),
     entry("13-judged-before-11", "read.rs",
         "return Item::Refusal { number: 11, parameter };",
-        "return if room < COPY { refusal(13) } else { Item::Refusal { number: 11, parameter } };"),
+        "return if room < copy_size(settings) { refusal(13) } else { Item::Refusal { number: 11, parameter } };"),
     entry("offset-of-the-last-refusal", "calls.rs",
         "if answer.first == 0 {",
         "answer.offset = offset as u32;
@@ -79,10 +79,9 @@ pub const BREAKS: &[Break] = &[
         "settings.step = 1;",
         ""),
     entry("208-in-mode-0-resets-the-boundary", "apply.rs",
-        "if p[0] == 2 {
-            settings.boundary = p[3];
-        }",
-        "settings.boundary = if p[0] == 2 { p[3] } else { BLANK };"),
+        "2 => settings.boundary = p[3],",
+        "2 => settings.boundary = p[3],
+            0 => settings.boundary = BLANK,"),
     entry("11-judged-before-12", "read.rs",
         "return (refusal(12), rest.len());",
         "let bad = second == 61 && rest.get(2).is_some_and(|&byte| byte < 32);

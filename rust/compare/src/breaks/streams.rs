@@ -115,24 +115,24 @@ pub const BREAKS: &[Break] = &[
     // refusals and soundness
     entry("15-at-the-limit", "calls.rs", "piece.len() > LONGEST_STREAM", "piece.len() >= LONGEST_STREAM"),
     entry("15-judged-before-3", "calls.rs",
-        "if let Some(number) = refused(&settings, piece, cells, layer, shown) {",
-        "if let Some(mut number) = refused(&settings, piece, cells, layer, shown) {
+        "if let Some(number) = refused(&settings, piece, cells, layer, shown, dots) {",
+        "if let Some(mut number) = refused(&settings, piece, cells, layer, shown, dots) {
         if number == 3 && settings.count as usize + piece.len() > LONGEST_STREAM {
             number = 15;
         }"),
     entry("16-judged-before-3", "calls.rs",
-        "if let Some(number) = refused(&settings, message, cells, layer, shown) {",
-        "if let Some(mut number) = refused(&settings, message, cells, layer, shown) {
+        "if let Some(number) = refused(&settings, message, cells, layer, shown, dots) {",
+        "if let Some(mut number) = refused(&settings, message, cells, layer, shown, dots) {
         if number == 3 && settings.held > 0 {
             number = 16;
         }"),
     entry("message-served-while-bytes-wait", "calls.rs", "if settings.held > 0 {", "if false {"),
     entry("long-piece-served", "calls.rs",
-        "if let Some(number) = refused(&settings, piece, cells, layer, shown) {",
-        "if let Some(number) = refused(&settings, &[], cells, layer, shown) {"),
+        "if let Some(number) = refused(&settings, piece, cells, layer, shown, dots) {",
+        "if let Some(number) = refused(&settings, &[], cells, layer, shown, dots) {"),
     entry("closing-served-unsound", "calls.rs",
-        "if let Some(number) = refused(&settings, &[], cells, layer, shown) {",
-        "if let Some(number) = refused(&settings, &[], cells, layer, shown).filter(|&number| number == 1 || settings.held == 0) {"),
+        "if let Some(number) = refused(&settings, &[], cells, layer, shown, dots) {",
+        "if let Some(number) = refused(&settings, &[], cells, layer, shown, dots).filter(|&number| number == 1 || settings.held == 0) {"),
     entry("dirty-tail-taken", "stream.rs", "&& behind.iter().all(|&byte| byte == 0)", ""),
     entry("waiting-past-the-count-taken", "stream.rs", "|| held > count", ""),
     entry("count-past-its-limit-taken", "stream.rs", "|| count > LONGEST_STREAM", ""),

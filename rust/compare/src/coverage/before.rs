@@ -1,6 +1,7 @@
 //! What stands, taken down before an item is applied.
 
 use reference::apply::Standing;
+use reference::dots::{self, Dot};
 use reference::settings::MARKS;
 use reference::{Place, Settings};
 
@@ -11,6 +12,9 @@ pub struct Before {
     pub marks: usize,
     pub codes: usize,
     pub printed: usize,
+    pub any_dots: bool,
+    /// in mode 3 alone
+    dots: Vec<u8>,
 }
 
 impl Before {
@@ -21,7 +25,14 @@ impl Before {
             marks: filled(&standing.layer[..MARKS]),
             codes: filled(&standing.layer[MARKS..]),
             printed: standing.printed,
+            any_dots: standing.dots.iter().any(|&byte| byte != 0),
+            dots: if standing.settings.mode == 3 { standing.dots.to_vec() } else { Vec::new() },
         }
+    }
+
+    /// Of a dot, in mode 3.
+    pub fn is_on(&self, dot: Dot) -> bool {
+        dots::is_on(&self.dots, dot)
     }
 
     pub fn mode(&self) -> usize {

@@ -3,16 +3,17 @@
 use super::before::{filled, Before};
 use super::Coverage;
 use reference::apply::Standing;
-use reference::read::Item;
+use reference::read::{idle, Item};
 use reference::settings::MARKS;
 use reference::Place;
 
 impl Coverage {
     pub(super) fn item(&mut self, item: &Item, length: usize, before: &Before, after: &Standing) {
-        const SCREENS: [[&str; 2]; 3] = [
+        const SCREENS: [[&str; 2]; 4] = [
             ["mode 0 screen 1", "mode 0 screen 2"],
             ["mode 1 screen 1", "mode 1 screen 2"],
             ["mode 2 screen 1", "mode 2 screen 2"],
+            ["mode 3", "mode 3"],
         ];
         self.count(SCREENS[before.mode()][before.screen()]);
         match *item {
@@ -20,6 +21,9 @@ impl Coverage {
             Item::Code(code) => self.code(code, before, after),
             Item::Sequence { second, parameters } => {
                 *self.accepted.get_mut(&second).unwrap() += 1;
+                if idle(second, &before.settings) {
+                    return;
+                }
                 self.count_ends(second, parameters, before);
                 self.count_if(parameters.contains(&27), "ESC as an accepted parameter");
                 self.count_if(second == 209 && length == 2, "209 at the very end");
@@ -55,7 +59,8 @@ impl Coverage {
     fn printing(&mut self, by_37: bool, before: &Before, after: &Standing) {
         let wrap = before.leaves_its_line();
         if wrap {
-            self.count(["wrap in mode 0", "wrap in mode 1", "wrap in mode 2"][before.mode()]);
+            const WRAPS: [&str; 4] = ["wrap in mode 0", "wrap in mode 1", "wrap in mode 2", "wrap in mode 3"];
+            self.count(WRAPS[before.mode()]);
             self.count_if(before.settings.columns(before.screen()) == 1, "wrap on one column");
         }
         let lift = wrap && before.in_last_line();
@@ -74,8 +79,12 @@ impl Coverage {
     }
 
     fn lift(&mut self, by_37: bool, before: &Before) {
-        const PRINTING: [&str; 3] =
-            ["lift by printing in mode 0", "lift by printing in mode 1", "lift by printing in mode 2"];
+        const PRINTING: [&str; 4] = [
+            "lift by printing in mode 0",
+            "lift by printing in mode 1",
+            "lift by printing in mode 2",
+            "lift by printing in mode 3",
+        ];
         self.count(if by_37 { "lift by 37" } else { PRINTING[before.mode()] });
         self.count_if(before.screen() == 1, "lift on screen 2");
         self.count_if(before.marks > 0, "layer emptied by a lift in printing");
@@ -155,6 +164,10 @@ impl Coverage {
     }
 
     fn copy(&mut self, before: &Before, after: &Standing) {
+        if before.mode() == 3 {
+            // told of by the dots' own classes
+            return;
+        }
         self.count(["copy in mode 0", "copy in mode 1", "copy in mode 2"][before.mode()]);
         let secret = before.settings.secret == 1;
         self.count_if(secret, "copy under secret");
@@ -207,10 +220,11 @@ impl Coverage {
     }
 
     fn mode_setting(&mut self, mode: u8, before: &Before) {
-        const CHANGES: [[&str; 3]; 3] = [
-            ["mode 0 to 0", "mode 0 to 1", "mode 0 to 2"],
-            ["mode 1 to 0", "mode 1 to 1", "mode 1 to 2"],
-            ["mode 2 to 0", "mode 2 to 1", "mode 2 to 2"],
+        const CHANGES: [[&str; 4]; 4] = [
+            ["mode 0 to 0", "mode 0 to 1", "mode 0 to 2", "mode 0 to 3"],
+            ["mode 1 to 0", "mode 1 to 1", "mode 1 to 2", "mode 1 to 3"],
+            ["mode 2 to 0", "mode 2 to 1", "mode 2 to 2", "mode 2 to 3"],
+            ["mode 3 to 0", "mode 3 to 1", "mode 3 to 2", "mode 3 to 3"],
         ];
         self.count(CHANGES[before.mode()][usize::from(mode)]);
         self.count_if(before.marks > 0, "layer emptied by 208");

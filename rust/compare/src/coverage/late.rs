@@ -8,7 +8,7 @@ use reference::settings::MARKS;
 
 #[rustfmt::skip]
 const CLASSES: &[&str] = &[
-    "rule 1 in the last column", "flag set in mode 0", "flag set in mode 1", "flag set in mode 2",
+    "rule 1 in the last column", "flag set in mode 0", "flag set in mode 1", "flag set in mode 2", "flag set in mode 3",
     "flag set on screen 2", "flag set by 37", "flag set in the last line", "flag set on a screen of one column",
     "late step by printing", "late step by 37", "late step with a lift", "late step in mode 1",
     "late step in mode 2", "late step on screen 2", "late step that sets the flag again",
@@ -61,7 +61,8 @@ impl Late {
         }
         let classes = &mut self.0;
         if place.waiting == 1 {
-            const MODES: [&str; 3] = ["flag set in mode 0", "flag set in mode 1", "flag set in mode 2"];
+            const MODES: [&str; 4] =
+                ["flag set in mode 0", "flag set in mode 1", "flag set in mode 2", "flag set in mode 3"];
             classes.count(MODES[before.mode()]);
             classes.count_if(screen == 1, "flag set on screen 2");
             classes.count_if(by_37, "flag set by 37");

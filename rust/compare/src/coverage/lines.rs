@@ -9,7 +9,7 @@ use reference::Settings;
 
 #[rustfmt::skip]
 const CLASSES: &[&str] = &[
-    "mark set in mode 0", "mark set in mode 1", "mark set in mode 2", "mark set on screen 2", "mark set by 37",
+    "mark set in mode 0", "mark set in mode 1", "mark set in mode 2", "mark set in mode 3", "mark set on screen 2", "mark set by 37",
     "mark set on a screen of one column", "mark set on a line that has it",
     "mark kept by printing before the last column", "mark kept by code 8", "mark kept by code 10",
     "mark kept by code 13", "mark kept by 61", "mark kept by 209",
@@ -73,7 +73,9 @@ impl Lines {
         if !before.leaves_its_line() {
             return classes.count_if(marked, "mark kept by printing before the last column");
         }
-        classes.count(["mark set in mode 0", "mark set in mode 1", "mark set in mode 2"][before.mode()]);
+        const MODES: [&str; 4] =
+            ["mark set in mode 0", "mark set in mode 1", "mark set in mode 2", "mark set in mode 3"];
+        classes.count(MODES[before.mode()]);
         classes.count_if(before.screen() == 1, "mark set on screen 2");
         classes.count_if(by_37, "mark set by 37");
         classes.count_if(marked, "mark set on a line that has it");

@@ -17,7 +17,7 @@ const CLASSES: &[&str] = &[
     "order: message 1 with 16", "order: message 2 with 16", "order: message 3 with 16",
     "piece empty", "piece empty while bytes wait", "piece empty at the limit", "piece of 4096", "piece of 4097",
     "piece to the limit", "piece one past the limit", "message while the count stands",
-    "finished: accepted", "finished: 10", "finished: 11", "finished: 13", "finished: 14", "finished: a copy",
+    "finished: accepted", "finished: 10", "finished: 11", "finished: 13", "finished: a copy",
     "finished: a mode setting", "still unfinished", "finished, and others wait", "nothing waited, and some wait",
     "first refusal in what waited", "first refusal further on",
     "closing on nothing at all", "closing on nothing that waits", "closing on ESC alone", "closing on 27, 209",
@@ -143,8 +143,7 @@ impl Streams {
         self.classes().count(match item {
             Item::Refusal { number: 10, .. } => "finished: 10",
             Item::Refusal { number: 11, .. } => "finished: 11",
-            Item::Refusal { number: 13, .. } => "finished: 13",
-            Item::Refusal { .. } => "finished: 14",
+            Item::Refusal { .. } => "finished: 13",
             Item::Sequence { second: 80, .. } => "finished: a copy",
             Item::Sequence { second: 208, .. } => "finished: a mode setting",
             _ => "finished: accepted",

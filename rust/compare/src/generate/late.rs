@@ -26,7 +26,11 @@ pub fn break_rule(random: &mut Random, fault: &str, settings: &mut Settings) {
     for place in &mut settings.places {
         place.waiting = 0;
     }
-    let screen = if columns[0] == 1 { 1 } else { random.below(2) };
+    let screen = match (columns[0], settings.mode) {
+        (1, _) => 1,
+        (_, 3) => 0,
+        _ => random.below(2),
+    };
     let place = &mut settings.places[screen];
     // a screen of one column is screen 1, or has another of 78 beside it
     let screen_of_one = columns[screen] == 1;

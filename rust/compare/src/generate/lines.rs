@@ -11,7 +11,7 @@ pub fn marks(random: &mut Random, lines: [u8; 2]) -> [u8; 96] {
     let mut marks = [0; 96];
     for (own, lines) in marks.chunks_mut(48).zip(lines) {
         let often = random.pick(&[0, 1, 4, 7, 8]);
-        for mark in &mut own[..usize::from(lines) - 1] {
+        for mark in &mut own[..usize::from(lines).saturating_sub(1)] {
             *mark = u8::from(random.below(8) < often);
         }
     }
@@ -35,7 +35,9 @@ pub fn break_marks(random: &mut Random, fault: &str, settings: &mut Settings) {
     match fault {
         "mark of 2" => own[random.below(lines - 1)] = 2,
         "mark of any other byte" => own[random.below(lines - 1)] = random.byte() | 2,
-        "mark on the last line of screen 1" | "mark on the last line of screen 2" => own[lines - 1] = 1,
+        "mark on the last line of screen 1" | "mark on the last line of screen 2" => {
+            own[lines.max(1) - 1] = 1
+        }
         // a screen of 48 lines has none past them
         _ => own[random.pick(&[lines, lines, 47]).min(47)] = 1,
     }

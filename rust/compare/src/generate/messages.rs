@@ -1,5 +1,6 @@
 //! Messages, part by part.
 
+use super::dots::drawing;
 use super::late::at_the_end;
 use super::lines::long_name;
 use super::sequences::{sequence, SECONDS};
@@ -25,6 +26,11 @@ impl Belief {
             columns: [settings.columns1, settings.columns2],
             selected: settings.selected.into(),
         }
+    }
+
+    pub fn believe_mode_3(&mut self) {
+        let (mode, display, lines, columns, selected) = (3, 1, [8, 0], [80, 0], 0);
+        *self = Belief { mode, display, lines, columns, selected };
     }
 
     pub fn height(&self) -> usize {
@@ -61,7 +67,7 @@ pub fn message(random: &mut Random, settings: &Settings) -> Vec<u8> {
 }
 
 fn part(random: &mut Random, belief: &mut Belief, bytes: &mut Vec<u8>) {
-    match random.below(18) {
+    match random.below(19) {
         0..=2 => text(random, bytes),
         3 => codes(random, bytes),
         4 => to_the_edge(random, belief, bytes),
@@ -72,6 +78,7 @@ fn part(random: &mut Random, belief: &mut Belief, bytes: &mut Vec<u8>) {
         7 => escape_in_parameter(random, belief, bytes),
         8 => long_name(random, belief, bytes),
         9 => at_the_end(random, belief, bytes),
+        10 if belief.mode == 3 || random.one_in(3) => drawing(random, belief, bytes),
         _ => {
             let second = random.pick(&SECONDS);
             sequence(random, belief, second, bytes);
@@ -131,7 +138,10 @@ fn key_display(random: &mut Random, belief: &mut Belief, bytes: &mut Vec<u8>) {
     if random.one_in(2) {
         bytes.extend([27, 213]);
     }
-    belief.display ^= 1;
+    // idle in mode 3
+    if belief.mode != 3 {
+        belief.display ^= 1;
+    }
     bytes.extend([27, 211, belief.display]);
     if random.one_in(2) {
         bytes.extend([27, 149, 1, 27, 210, 8, inside(random, 1, belief.columns().min(9)), random.byte()]);

@@ -1,5 +1,6 @@
 //! Single sequences, with their parameters in range or not.
 
+use super::dots;
 use super::messages::Belief;
 use super::settings::inside;
 use crate::random::Random;
@@ -14,6 +15,14 @@ pub const SECONDS: [u8; 57] = [
 
 /// One sequence; three in four have every parameter in its range.
 pub fn sequence(random: &mut Random, belief: &mut Belief, second: u8, bytes: &mut Vec<u8>) {
+    if belief.mode == 3 {
+        match second {
+            198 => return dots::line(random, bytes),
+            199 => return dots::point(random, bytes),
+            _ if dots::IDLE.contains(&second) => return dots::idle(random, second, bytes),
+            _ => {}
+        }
+    }
     bytes.extend([27, second]);
     if second == 208 {
         return mode_setting(random, belief, bytes);
@@ -97,9 +106,13 @@ fn scrolling(random: &mut Random, lines: usize, bytes: &mut Vec<u8>) {
 }
 
 fn mode_setting(random: &mut Random, belief: &mut Belief, bytes: &mut Vec<u8>) {
-    let mode = random.pick(&[0, 0, 1, 1, 2, 2, 3]);
+    let mode = random.pick(&[0, 0, 0, 1, 1, 1, 2, 2, 2, 3, 3, 4]);
     if mode == 3 {
-        return bytes.push(random.pick(&[3, 3, 4, 27, 255]));
+        belief.believe_mode_3();
+        return bytes.push(3);
+    }
+    if mode == 4 {
+        return bytes.push(random.pick(&[4, 27, 255]));
     }
     let start = bytes.len();
     bytes.push(mode);

@@ -1,5 +1,6 @@
 //! Arbitrary sound settings, and settings with one thing wrong.
 
+use super::dots::{break_mode_3, in_mode_3, MODE_3_FAULTS};
 use super::late::{break_rule, flag, RULE_FAULTS};
 use super::lines::{break_marks, marks, MARK_FAULTS};
 use super::streams::{break_stream, with_stream, STREAM_FAULTS};
@@ -68,6 +69,7 @@ pub fn settings(random: &mut Random) -> Settings {
         rule,
         ..OPENING
     };
+    let whole = if random.one_in(4) { in_mode_3(random, &whole) } else { whole };
     with_stream(random, whole)
 }
 
@@ -140,6 +142,11 @@ pub fn unsound(random: &mut Random, sound: &Settings) -> (&'static str, Settings
         break_rule(random, name, &mut settings);
         return (name, settings);
     }
+    if random.one_in(if sound.mode == 3 { 3 } else { 12 }) {
+        let name = random.pick(&MODE_3_FAULTS);
+        break_mode_3(random, name, &mut settings);
+        return (name, settings);
+    }
     let (name, field) = random.pick(&FIELDS);
     let beyond = beyond(name, &settings);
     let value = field(&mut settings);
@@ -177,9 +184,10 @@ fn least_lines(mode: u8) -> u8 {
 /// The first values outside the range of a field.
 fn beyond(name: &str, s: &Settings) -> [u8; 2] {
     let height = height(s.mode, s.display) as u8;
-    let last_top = |lines: u8| lines - height + 1;
+    // mode 3's screen 2 has no lines, and top 1 all the same
+    let last_top = |lines: u8| lines.max(height) - height + 1;
     match name {
-        "mode" => [3, 255],
+        "mode" => [3, 4],
         "lines1" | "lines2" => [least_lines(s.mode) - 1, 49],
         "columns1" | "columns2" => [0, 79],
         "line 1" => [0, s.lines1 + 1],

@@ -23,7 +23,6 @@ pub fn cases(cases: &mut Cases) {
     // numbers that name none
     cases.add("parameter-none-with-10", &[&[27, 27]]);
     cases.add("parameter-none-with-12", &[&[27, 208, 2, 99]]);
-    cases.add("parameter-none-with-14", &[&[27, 208, 3]]);
     cases.add_with_room("parameter-none-with-13", &[(655, &[27, 80])]);
     // the first refusal's, not a later one's
     cases.add("parameter-of-the-first-of-two", &[&[27, 144, 0, 0, 27, 61, 31, 32]]);

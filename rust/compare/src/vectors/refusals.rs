@@ -52,8 +52,7 @@ pub fn refusals(cases: &mut Cases) {
     cases.add("refusal-11-209-takes-an-escape", &[&[27, 209, 27, 42]]);
     cases.add("refusal-11-escape-as-a-line", &[&[27, 61, 27, 42, 66]]);
     cases.add("refusal-11-208-mode-9", &[&[27, 208, 9, 65]]);
-    cases.add("refusal-14-then-text", &[&[65, 27, 208, 3, 66, 67]]);
-    cases.add("refusal-first-of-several", &[&[65, 27, 67, 90, 27, 208, 3, 27, 1, 27]]);
+    cases.add("refusal-first-of-several", &[&[65, 27, 67, 90, 27, 208, 4, 27, 1, 27]]);
     cases.add("refusal-first-is-the-last-item", &[&[65, 27, 51, 27]]);
     cases.add("refusal-2-message-of-4097", &[b"text", &[65; 4097]]);
     cases.add("message-of-4096", &[&[65; 4096]]);

@@ -1,7 +1,7 @@
 -- `weight_of`: a shift to the right is the quotient by a power of two.
 use mathlib.Core.Path.{refl}
 use borrow.Author.Needs.{needs}
-use Rattle.dots.specs.Dot.{weight}
+use Rattle.model.specs.Dot.{weight}
 use Rattle.dots.proofs.dot.weight_of.Statement.{statement}
 use Rattle.dots.proofs.dot.weight_of.Tie as tie
 

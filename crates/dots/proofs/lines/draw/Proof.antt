@@ -5,7 +5,7 @@ use native.Mathlib.Omega.{arith}
 use mathlib.Core.List.{List}
 use lib.ListN.{length}
 use borrow.Author.Needs.{needs}
-use Rattle.dots.specs.Line.{drawn}
+use Rattle.model.specs.Strokes.{drawn}
 use Rattle.dots.specs.Walk.{Carried}
 use Rattle.dots.proofs.Drawing.{drawn-all, drawn-more, drawn-none}
 use Rattle.dots.proofs.Walking.{carried-byte, carried-dot, carried-start}

@@ -1,7 +1,7 @@
 -- `mask_bit`: a shift to the right is the quotient by a power of two.
 use mathlib.Core.Path.{refl}
 use borrow.Author.Needs.{needs}
-use Rattle.dots.specs.Line.{maskBit}
+use Rattle.model.specs.Strokes.{maskBit}
 use Rattle.dots.proofs.lines.mask_bit.Statement.{statement}
 use Rattle.dots.proofs.lines.mask_bit.Tie as tie
 

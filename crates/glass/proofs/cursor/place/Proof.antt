@@ -31,7 +31,7 @@ returns-3 c =
     let good = sym (judged .before .sound .ensures) ∙ not-false _ (judged .if1 .left) in
     let s = judged .before .before .args .settings in
     rw (good, ne-eqb _ _ (tested .if2 .left))
-    (sym (c .shown .ensures (state s [] []) (c .before .before .frame-of .ensures .0 .framed) (sym (c .before .here .ensures))))
+    (sym (c .shown .ensures (state s [] [] []) (c .before .before .frame-of .ensures .0 .framed) (sym (c .before .here .ensures))))
 
 pub place-spec : {M : Type 1} → statement M
 unfolding cursorAt

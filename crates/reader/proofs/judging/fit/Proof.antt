@@ -12,6 +12,7 @@ fit-spec =
     tie.close
     (tie.spec
     (λ c. search needs)
-    (λ c. rw (c .before .enum-told .given .1, lt-ltb _ _ (c .if1 .taken)))
-    (λ c. rw (c .before .enum-told .given .1, le-ltb _ _ (c .if1 .left)))
+    (λ c κs. tt)
+    (λ c. rw (c .before .before .enum-told .given .1, ← c .before .copy-size .ensures, lt-ltb _ _ (c .if1 .taken)))
+    (λ c. rw (c .before .before .enum-told .given .1, ← c .before .copy-size .ensures, le-ltb _ _ (c .if1 .left)))
     (λ c. rw (no-copy _ (c .match .keys2))))

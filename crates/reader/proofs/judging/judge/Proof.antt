@@ -1,4 +1,4 @@
--- `reader::judging::judge` meets its contract: by what `check` finds, then by `fit`.
+-- `reader::judging::judge` meets its contract: a sequence by what `check` finds, then by `fit`.
 use mathlib.Core.Path.{_∙_}
 use borrow.Author.Needs.{needs}
 use Rattle.reader.proofs.JudgingLaws.{judged-bad, judged-good, unjudged}
@@ -12,6 +12,6 @@ judge-spec =
     (λ c. search needs)
     (λ c κs. tt)
     (λ c κs. tt)
-    (λ c. rw (c .before .before .before .before .item .given .1) (c .fit .ensures ∙ judged-good _ _ _ _ (c .before .before .check .ensures) (c .before .if1 .taken)))
-    (λ c. rw (c .before .before .before .item .given .1) (judged-bad _ _ _ _ (c .before .check .ensures) (c .if1 .left)))
+    (λ c. let f = c .before .before in rw (f .before .before .item .given .1) (c .fit .ensures ∙ judged-good _ _ _ _ (f .check .ensures) (c .before .if1 .taken)))
+    (λ c. let f = c .before in rw (f .before .before .item .given .1) (judged-bad _ _ _ _ (f .check .ensures) (c .if1 .left)))
     (λ c. unjudged _ _ _ (c .match .keys2)))

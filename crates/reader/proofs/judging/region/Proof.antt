@@ -16,4 +16,4 @@ region-spec =
     (λ c κs. tt)
     (λ c κs. tt)
     (λ c κs. search needs)
-    (λ c. rw (c .of-two .ensures, c .before .within2 .ensures, c .before .before .within .ensures, c .before .before .before .less-one .ensures) (two _ _)))
+    (λ c. rw (c .of-two .ensures, c .before .within2 .ensures, c .before .before .within .ensures, c .before .before .before .less-one .ensures) (two 1 _ _)))

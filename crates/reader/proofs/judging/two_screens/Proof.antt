@@ -1,7 +1,7 @@
 -- `reader::judging::two_screens` meets its contract: its tests are those of the mode's checks.
 use borrow.Author.Needs.{needs}
 use Rattle.model.specs.Checks.{passes}
-use Rattle.reader.proofs.JudgingLaws.{two-behind}
+use Rattle.reader.proofs.JudgingLaws.{behind-free, two}
 use Rattle.reader.proofs.judging.two_screens.Statement.{statement}
 use Rattle.reader.proofs.judging.two_screens.Tie as tie
 
@@ -12,4 +12,4 @@ two-screens-spec =
     (tie.spec
     (λ c. search needs)
     (λ c κs. search needs)
-    (λ c s. rw (c .of-two .ensures) (two-behind _ _)))
+    (λ c s. rw (c .of-two .ensures) (behind-free 1 _ _ (two 2 _ _))))

@@ -33,11 +33,10 @@ returns-2 c =
     rw (case .item .given .1) (record { run = λ e. absurd (differ (sym e)); next = λ e. refl; acts = λ e h n. done .control .ensures; rests = λ e. absurd (differ e) })
 
 returns-3 : tie.Need-returns-3
-unfolding applyItem
 returns-3 c =
     let done = c .before .before .before .before .before .before in
     let case = done .before .before .before .before .before in
-    rw (case .item2 .given .1) (record { run = λ e. absurd (differ (sym e)); next = λ e. refl; acts = λ e h n. done .act .ensures .on h n; rests = λ e. let o = done .act .ensures .off e in (o .0, (o .1, (o .2, o .3))) })
+    rw (case .item2 .given .1) (record { run = λ e. absurd (differ (sym e)); next = λ e. refl; acts = λ e. done .act .ensures .on; rests = λ e. let o = done .act .ensures .off e in (o .0, (o .1, (o .2, o .3))) })
 
 returns-4 : tie.Need-returns-4
 returns-4 c = rw (c .enum-told2 .given .1) (record { run = λ e. absurd (differ (sym e)); next = λ e. refl; acts = λ e h. absurd (differ (sym h)); rests = λ e. (refl, (refl, (refl, refl))) })

@@ -13,4 +13,4 @@ bare-after-spec =
     (λ c κs. search needs)
     (λ c. rw (c .before .item .given .1))
     (λ c. rw (c .before .before .item2 .given .1) (c .bare-then .ensures))
-    (λ c. bare-other (c .before .args .item) (c .before .args .bare) (c .match .keys3)))
+    (λ c. bare-other (c .before .args .mode) (c .before .args .item) (c .before .args .bare) (c .match .keys3)))

@@ -8,7 +8,7 @@ use Rattle.serving.proofs.acting.print_copy.Tie as tie
 copy-requires : tie.Need-copy-requires
 copy-requires c κs =
     let test = c .before in
-    let entry = test .before .before .before .before .before in
+    let entry = test .before .before .before .before .before .before in
     (entry .pre .0, rw (sym (test .before .is-copy .ensures) ∙ test .if1 .taken) at (entry .pre .1))
 
 returns : tie.Need-returns

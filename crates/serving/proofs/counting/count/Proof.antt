@@ -1,8 +1,7 @@
 -- By the item's cases.
 use mathlib.Core.Path.{_∙_, ap}
-use mathlib.Core.Bool.{Bool, cond}
+use Prim.Native.Nat.{ℕ}
 use native.Mathlib.Omega.{arith}
-use Rattle.model.specs.Picture.{copySize}
 use Rattle.serving.specs.Counting.{acceptedWith}
 use borrow.Author.Needs.{needs}
 use Rattle.serving.proofs.counting.count.Statement.{statement}
@@ -17,13 +16,13 @@ enum-told-2 c = search needs
 enum-known-item : tie.Need-enum-known-item
 enum-known-item c = search needs
 
-is-copy-requires : tie.Need-is-copy-requires
-is-copy-requires c κs = search needs
+printer-bytes-requires : tie.Need-printer-bytes-requires
+printer-bytes-requires c κs = tt
 
 accept-requires : tie.Need-accept-requires
 accept-requires c κs =
     let p = c .before .before .before .before .pre in
-    record { few = omega arith; roomy = rw (c .is-copy .ensures) (rw (c .before .before .item .given .1) at (p .roomy)) }
+    record { few = omega arith; roomy = rw (c .printer-bytes .ensures) (rw (c .before .before .item .given .1) at (p .roomy)) }
 
 enum-known-item-2 : tie.Need-enum-known-item-2
 enum-known-item-2 c = search needs
@@ -41,7 +40,7 @@ returns-2 : tie.Need-returns-2
 returns-2 c = search needs
 
 returns-3 : tie.Need-returns-3
-returns-3 c = rw (c .before .before .before .item .given .1) (c .accept .ensures ∙ ap (λ (b : Bool). acceptedWith (cond b copySize 0) (c .before .before .before .before .before .args .counts)) (c .before .is-copy .ensures))
+returns-3 c = rw (c .before .before .before .item .given .1) (c .accept .ensures ∙ ap (λ (n : ℕ). acceptedWith n (c .before .before .before .before .before .args .counts)) (c .before .printer-bytes .ensures))
 
 returns-4 : tie.Need-returns-4
 returns-4 c = rw (c .before .before .item2 .given .1) (c .refuse .ensures)
@@ -53,7 +52,7 @@ count-spec =
     enum-told
     enum-told-2
     enum-known-item
-    is-copy-requires
+    printer-bytes-requires
     accept-requires
     enum-known-item-2
     cast-refuse

@@ -11,10 +11,12 @@ use Rattle.settings.proofs.modes.set.Tie as tie
 returns : tie.Need-returns
 unfolding modeSet
 returns c =
-    let layer = c .before .before in
+    let dots = c .before .before in
+    let layer = dots .before .before .before .before in
     let cells = layer .before .before .before .before in
-    let sized = cells .before .before .before .before .pre in
+    let sized = cells .before .before .before .before .before .pre in
     stands refl (cells .fill .ensures ∙ ap (λ (n : ℕ). replicate n 32) (sized .cells-are)) (layer .fill2 .ensures ∙ ap (λ (n : ℕ). replicate n 0) (sized .layer-are))
+    (dots .wipe .ensures ∙ ap (λ (n : ℕ). replicate n 0) (sized .dots-are))
 
 pub set-spec : {M : Type 1} → statement M
-set-spec = tie.close (tie.spec (λ c κs. search needs) (λ c κs. search needs) (λ c. search needs) (λ c. search needs) returns)
+set-spec = tie.close (tie.spec (λ c κs. search needs) (λ c κs. search needs) (λ c κs. search needs) (λ c. search needs) (λ c. search needs) (λ c. search needs) returns)

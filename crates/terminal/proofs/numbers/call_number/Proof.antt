@@ -13,7 +13,7 @@ use Rattle.terminal.proofs.numbers.call_number.Tie as tie
 
 -- the places on the way back: from the stores' test, the message's, the shape's
 abbrev start-of : tie.Then1 → tie.Start
-start-of c = c .before .before .before .before .before .before
+start-of c = c .before .before .before .before .before .before .before
 
 abbrev asked : tie.Then2 → tie.Start
 asked c = start-of (c .before)
@@ -25,7 +25,7 @@ abbrev shaped-of : tie.Then4 → tie.Then3
 shaped-of c = c .before .before .before .before
 
 -- what each of them tells
-all-sized : (c : tie.Then1) → let a = start-of c .args in sized (terminal (a .settings) (a .cells .now) (a .layer .now) (a .shown .now)) ≡ true
+all-sized : (c : tie.Then1) → let a = start-of c .args in sized (terminal (a .settings) (a .cells .now) (a .layer .now) (a .dots .now) (a .shown .now)) ≡ true
 unfolding sized
 all-sized c = sym (c .before .stores-sized .ensures) ∙ c .if1 .taken
 
@@ -42,7 +42,7 @@ returns c =
     let places = c .before .before .before in
     let two = few-of (shaped-of places) in
     let a = asked two .args in
-    none-wait (a .settings) (a .message .now) (a .cells .now) (a .layer .now) (a .shown .now) (all-sized (two .before)) (few two) (by-line places) (sym (c .before .quiet .ensures) ∙ c .if5 .taken)
+    none-wait (a .settings) (a .message .now) (a .cells .now) (a .layer .now) (a .dots .now) (a .shown .now) (all-sized (two .before)) (few two) (by-line places) (sym (c .before .quiet .ensures) ∙ c .if5 .taken)
 
 returns-2 : tie.Need-returns-2
 returns-2 c =
@@ -50,38 +50,38 @@ returns-2 c =
     let places = quiet .before .before .before in
     let two = few-of (shaped-of places) in
     let a = asked two .args in
-    some-wait (a .settings) (a .message .now) (a .cells .now) (a .layer .now) (a .shown .now) (all-sized (two .before)) (few two) (by-line places) (sym (quiet .before .quiet .ensures) ∙ quiet .if5 .left) (sym (c .before .sound .ensures) ∙ c .if6 .taken)
+    some-wait (a .settings) (a .message .now) (a .cells .now) (a .layer .now) (a .dots .now) (a .shown .now) (all-sized (two .before)) (few two) (by-line places) (sym (quiet .before .quiet .ensures) ∙ quiet .if5 .left) (sym (c .before .sound .ensures) ∙ c .if6 .taken)
 
 returns-3 : tie.Need-returns-3
 returns-3 c =
     let places = c .before .before .before .before .before in
     let two = few-of (shaped-of places) in
     let a = asked two .args in
-    not-sound (a .settings) (a .message .now) (a .cells .now) (a .layer .now) (a .shown .now) (all-sized (two .before)) (few two) (by-line places ∙ sym (c .before .sound .ensures) ∙ c .if6 .left)
+    not-sound (a .settings) (a .message .now) (a .cells .now) (a .layer .now) (a .dots .now) (a .shown .now) (all-sized (two .before)) (few two) (by-line places ∙ sym (c .before .sound .ensures) ∙ c .if6 .left)
 
 returns-4 : tie.Need-returns-4
 returns-4 c =
     let two = few-of (c .before .before .before .before) in
     let a = asked two .args in
-    not-sound (a .settings) (a .message .now) (a .cells .now) (a .layer .now) (a .shown .now) (all-sized (two .before)) (few two)
+    not-sound (a .settings) (a .message .now) (a .cells .now) (a .layer .now) (a .dots .now) (a .shown .now) (all-sized (two .before)) (few two)
     (sound-places (a .settings) (c .before .before .stored .ensures .1) ((λ i. sym (c .before .before .before .placed .ensures) i && sym (c .before .before .stored .ensures .0) i && sym (c .before .marked .ensures) i) ∙ c .if4 .left))
 
 returns-5 : tie.Need-returns-5
 returns-5 c =
     let two = c .before .before in
     let a = asked two .args in
-    not-sound (a .settings) (a .message .now) (a .cells .now) (a .layer .now) (a .shown .now) (all-sized (two .before)) (few two) (sound-shape (a .settings) (sym (c .before .shaped .ensures) ∙ c .if3 .left))
+    not-sound (a .settings) (a .message .now) (a .cells .now) (a .layer .now) (a .dots .now) (a .shown .now) (all-sized (two .before)) (few two) (sound-shape (a .settings) (sym (c .before .shaped .ensures) ∙ c .if3 .left))
 
 returns-6 : tie.Need-returns-6
 returns-6 c =
     let a = start-of (c .before) .args in
-    sym (numbered (terminal (a .settings) (a .cells .now) (a .layer .now) (a .shown .now)) (a .message .now) true false _ _ (all-sized (c .before)) (lt-leb _ _ (c .if2 .left)) refl refl)
+    sym (numbered (terminal (a .settings) (a .cells .now) (a .layer .now) (a .dots .now) (a .shown .now)) (a .message .now) true false _ _ (all-sized (c .before)) (lt-leb _ _ (c .if2 .left)) refl refl)
 
 returns-7 : tie.Need-returns-7
 unfolding sized
 returns-7 c =
-    let a = c .before .before .before .before .before .before .args in
-    sym (numbered (terminal (a .settings) (a .cells .now) (a .layer .now) (a .shown .now)) (a .message .now) false _ _ _ (sym (c .before .stores-sized .ensures) ∙ c .if1 .left) refl refl refl)
+    let a = c .before .before .before .before .before .before .before .args in
+    sym (numbered (terminal (a .settings) (a .cells .now) (a .layer .now) (a .dots .now) (a .shown .now)) (a .message .now) false _ _ _ (sym (c .before .stores-sized .ensures) ∙ c .if1 .left) refl refl refl)
 
 pub call-number-spec : {M : Type 1} → statement M
 call-number-spec =
