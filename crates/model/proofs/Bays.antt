@@ -1,46 +1,17 @@
--- Bays' examples, P10's and P11's among them, all under one statement that antt computes; the lists of calls of P1, P2, P5, P9 and P11, under
--- another; P9's openings; and P11's dots, those that stay and the sizes of their store.
-use mathlib.Core.Path.{_≡_, refl}
+-- Bays' examples, P10's and P11's among them, and the lists of calls of P1, P2, P5, P9 and P11: worked out in Worked by the quick forms, which are the definitions.
+use mathlib.Core.Path.{_∙_, _≡_}
 use mathlib.Core.Bool.{true}
 use mathlib.Core.List.{_++_}
-use Rattle.model.specs.Bytes.{blanked, joined, onPart, put, scrolledDown, scrolledUp}
-use Rattle.model.specs.Checks.{firstBad, inRanges?, member, passes}
-use Rattle.model.specs.Screens.{base, cellAt, columnsOf, height, lineAt, linesOf, placeOf, size, textRows, screens}
-use Rattle.model.specs.Marks.{endOf, endUnmarked, listed, markOf, marked?, marksDown, marksUp, running, runningOn, unmarkedFrom}
-use Rattle.model.specs.Line.{line?, padded, zeros?}
-use Rattle.model.specs.Sound.{arrayRanges, inside?, insideRanges, keyRanges, marks?, otherRanges, plainRanges, shapeRanges, sound?, aloneRanges, second?}
-use Rattle.model.specs.Picture.{copied, copiedRows, covered, halves, painting, picture, pictureAt, sides, textAt, under, windowAt, copySizeOf, dotCopy, pictureCopy}
-use Rattle.model.specs.Sequences.{find, modeRowOf, rowOf, idle?}
-use Rattle.model.specs.Reading.{afterEscape, afterMode, byteOf, decoded, ended, gathered, itemOf, kindOf, needed, remaining, unfinished?}
-use Rattle.model.specs.Judging.{allowed, badOf, fitting, legal?, judgedRanges}
-use Rattle.model.specs.Rules.{applyItem, awaited, blankFrom, centred, cleared, control, displaying, down, emptied, erased, flagged, held, keyLine, lifted, onward, remarked, runsOn, shifted, withKeys, withKindPatterns, mark, missed, modeSet, nearest, obeyed, onLines, placed, printed, right, shownAt, stored, toColumn, topped, tracked, trackedFar, unmark, withCells, withLayer, withSettings, dotsCleared, withDots}
-use Rattle.model.specs.Dot.{acted, dotAt, weight, withDot}
-use Rattle.model.specs.Strokes.{drawn, flat, lineDot, lined as stroke, longer, maskBit, offsetAt, placed as strokePlaced, shorter, stepped}
-use Rattle.model.specs.Items.{applyAll, copies, countedAll, happened, lined, readsOf, texted}
-use Rattle.model.specs.Calls.{accepted, allFree, answerOf, countable, eventsBy, eventsIn, firstOf, itemBytes, besideItems, keyable, noneWaits, numberOf, printedBy, readsBy, readsIn, reasons, served, soundIn, shownAfter, sized, startOf, takenBy, takenIn}
-use Rattle.model.specs.Examples.{added, allHold, allRight, holds, isRight, marked, parameters, unmarked}
-use Rattle.model.specs.Runs.{allRun, keyLines, streams, turnsHold}
+use Rattle.model.specs.Examples.{added, allRight, marked, parameters, unmarked}
+use Rattle.model.specs.Runs.{allRun, keyLines, streams}
 use Rattle.model.specs.LineRuns.{logicalLines}
-use Rattle.model.specs.Opening.{openedBy, openingNumber, ruled}
-use Rattle.model.specs.WrapRuns.{lateWraps, openings}
-use Rattle.model.specs.CurveRuns.{curveRuns, dotsKept, dotsSized, loadCurve}
+use Rattle.model.specs.WrapRuns.{lateWraps}
+use Rattle.model.specs.CurveRuns.{curveRuns, loadCurve}
+use Rattle.model.proofs.Worked.{examples, runs}
+use Rattle.model.proofs.QuickLaws.{all-quick, quick-runs}
 
 pub bays : allRight (marked ++ (unmarked ++ (added ++ (parameters ++ loadCurve)))) ≡ true
-unfolding copySizeOf dotCopy pictureCopy withDots dotsCleared weight dotAt withDot acted longer shorter flat offsetAt strokePlaced lineDot maskBit stepped drawn stroke idle? judgedRanges screens aloneRanges second? joined onPart blanked scrolledUp scrolledDown put member passes inRanges? firstBad linesOf columnsOf placeOf textRows height base size lineAt cellAt keyRanges plainRanges arrayRanges insideRanges shapeRanges otherRanges inside? zeros? line? markOf marked? marks? sound? windowAt halves sides textAt under covered pictureAt picture painting copiedRows copied find rowOf modeRowOf afterMode afterEscape needed unfinished? gathered remaining kindOf decoded ended itemOf byteOf legal? badOf allowed fitting withSettings withCells withLayer placed emptied shownAt unmark mark stored onLines listed remarked lifted down toColumn runningOn runsOn onward right awaited topped held centred nearest missed tracked trackedFar printed unmarkedFrom cleared control blankFrom running endOf erased marksUp marksDown endUnmarked shifted modeSet flagged displaying keyLine withKeys withKindPatterns obeyed applyItem readsOf happened applyAll copies countedAll itemBytes sized soundIn firstOf allFree reasons numberOf accepted noneWaits countable keyable besideItems startOf takenBy takenIn readsBy readsIn eventsBy eventsIn shownAfter served answerOf printedBy holds allHold isRight allRight marked unmarked added parameters loadCurve
-bays = refl
+bays = all-quick _ ∙ examples
 
 pub turns : allRun (streams ++ (keyLines ++ (logicalLines ++ (lateWraps ++ curveRuns)))) ≡ true
-unfolding copySizeOf dotCopy pictureCopy withDots dotsCleared weight dotAt withDot acted longer shorter flat offsetAt strokePlaced lineDot maskBit stepped drawn stroke idle? judgedRanges screens aloneRanges second? padded lined texted joined onPart blanked scrolledUp scrolledDown put member passes inRanges? firstBad linesOf columnsOf placeOf textRows height base size lineAt cellAt keyRanges plainRanges arrayRanges insideRanges shapeRanges otherRanges inside? zeros? line? markOf marked? marks? sound? windowAt halves sides textAt under covered pictureAt picture painting copiedRows copied find rowOf modeRowOf afterMode afterEscape needed unfinished? gathered remaining kindOf decoded ended itemOf byteOf legal? badOf allowed fitting withSettings withCells withLayer placed emptied shownAt unmark mark stored onLines listed remarked lifted down toColumn runningOn runsOn onward right awaited topped held centred nearest missed tracked trackedFar printed unmarkedFrom cleared control blankFrom running endOf erased marksUp marksDown endUnmarked shifted modeSet flagged displaying keyLine withKeys withKindPatterns obeyed applyItem readsOf happened applyAll copies countedAll itemBytes sized soundIn firstOf allFree reasons numberOf accepted noneWaits countable keyable besideItems startOf takenBy takenIn readsBy readsIn eventsBy eventsIn shownAfter served answerOf printedBy holds allHold turnsHold allRun streams keyLines logicalLines lateWraps curveRuns
-turns = refl
-
-pub opens : openings ≡ true
-unfolding openings openingNumber openedBy ruled sized
-opens = refl
-
-pub kept : dotsKept ≡ true
-unfolding copySizeOf dotCopy pictureCopy withDots dotsCleared weight dotAt withDot acted longer shorter flat offsetAt strokePlaced lineDot maskBit stepped drawn stroke idle? judgedRanges screens aloneRanges second? padded lined texted joined onPart blanked scrolledUp scrolledDown put member passes inRanges? firstBad linesOf columnsOf placeOf textRows height base size lineAt cellAt keyRanges plainRanges arrayRanges insideRanges shapeRanges otherRanges inside? zeros? line? markOf marked? marks? sound? windowAt halves sides textAt under covered pictureAt picture painting copiedRows copied find rowOf modeRowOf afterMode afterEscape needed unfinished? gathered remaining kindOf decoded ended itemOf byteOf legal? badOf allowed fitting withSettings withCells withLayer placed emptied shownAt unmark mark stored onLines listed remarked lifted down toColumn runningOn runsOn onward right awaited topped held centred nearest missed tracked trackedFar printed unmarkedFrom cleared control blankFrom running endOf erased marksUp marksDown endUnmarked shifted modeSet flagged displaying keyLine withKeys withKindPatterns obeyed applyItem readsOf happened applyAll copies countedAll itemBytes sized soundIn firstOf allFree reasons numberOf accepted noneWaits countable keyable besideItems startOf takenBy takenIn readsBy readsIn eventsBy eventsIn shownAfter served answerOf printedBy dotsKept
-kept = refl
-
-pub stores : dotsSized ≡ true
-unfolding dotsSized openedBy openingNumber sized firstOf reasons numberOf ruled soundIn noneWaits sound? second? aloneRanges screens inRanges? passes member linesOf columnsOf placeOf textRows height keyRanges plainRanges arrayRanges insideRanges shapeRanges otherRanges inside? zeros? line? unfinished? needed markOf marked? marks? countable
-stores = refl
+turns = quick-runs _ ∙ runs

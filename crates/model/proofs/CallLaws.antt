@@ -17,7 +17,7 @@ use Rattle.model.specs.Screens.{base, cellAt, columnsOf, height, lineAt,
 use Rattle.model.specs.Line.{heldIn, limit, padded}
 use Rattle.model.specs.Marks.{markOf}
 use Rattle.model.specs.Sound.{Good, Inside, Sound, arrayRanges, keyRanges, mode0, plainRanges, aloneRanges}
-use Rattle.model.specs.Picture.{covered, painting, picture, pictureAt, textAt, under, windowAt}
+use Rattle.model.specs.Picture.{painting, picture, pictureAt}
 use Rattle.model.specs.Reading.{Read, remaining}
 use Rattle.model.specs.Items.{Event, applyAll, blankAnswer, copies, counted, countedAll, eventsOf}
 use Rattle.model.specs.Calls.{Asked, Call, Promised, Reason, Request, Terminal, accepted, allFree, answerOf, closing, countable, eventsBy, eventsIn, firstOf, itemBytes, besideItems, keyText, keyable, message, noneWaits, numberOf, ownReasons, paints?, piece, printedBy, readsBy, readsIn, reason, reasons, request, requestOf, served, short, shownAfter, sized, soundIn, startOf, takenBy, takenIn, terminal}
@@ -32,6 +32,8 @@ use Rattle.model.proofs.SoundLaws.{sound-true, true-sound}
 use Rattle.model.proofs.Events.{AllLegal, legal-append, legal-reads}
 use Rattle.model.proofs.Gathering.{none-unfinished}
 use Rattle.model.proofs.Printing.{printed-reads, reads-accepted}
+use Rattle.model.proofs.Quickly.{below, byRows, overlaid, row, rowsFrom}
+use Rattle.model.proofs.PaintLaws.{painted-by-rows}
 
 -- a call's number is 0 exactly when it is accepted
 free-number : (rs : List Reason) → allFree rs ≡ true → firstOf rs ≡ 0
@@ -209,11 +211,11 @@ unfolding served painting shownAfter
 sized-served t q e = cond-at (λ (l : List ℕ). length l ≡ 640) (accepted t q && paints? (q .asked)) _ (t .shown) (λ a. length-listFrom (picture (served t q .state)) 0 640) (λ a. e)
 
 -- which calls a good terminal accepts
-sized-good : (t : Terminal) → Good (t .state) → length (t .shown) ≡ 640 → sized t ≡ true
+pub sized-good : (t : Terminal) → Good (t .state) → length (t .shown) ≡ 640 → sized t ≡ true
 unfolding sized
 sized-good t g e = and-both (eqb (length (t .state .cells)) 3840) _ (eq-eqb _ _ (g .cells-are)) (and-both (eqb (length (t .state .layer)) 1280) _ (eq-eqb _ _ (g .layer-are)) (and-both (eqb (length (t .state .dots)) 3840) (eqb (length (t .shown)) 640) (eq-eqb _ _ (g .dots-are)) (eq-eqb _ _ e)))
 
-sound-good : (t : Terminal) → Good (t .state) → soundIn t ≡ true
+pub sound-good : (t : Terminal) → Good (t .state) → soundIn t ≡ true
 unfolding soundIn
 sound-good t g = true-sound (t .state .settings) (g .sound)
 
@@ -239,13 +241,13 @@ ruled-range rule = go (eqb rule 1) refl (eqb rule 2) refl
 
 module _ (rule : ℕ) where
   opened-blank : replicate 640 32 ≡ painting (opened rule)
-  unfolding painting picture pictureAt covered under textAt windowAt textRows cellAt lineAt base columnsOf placeOf
-  opened-blank = refl
+  unfolding byRows rowsFrom row below overlaid textRows cellAt lineAt base columnsOf placeOf
+  opened-blank = let e : replicate 640 32 ≡ byRows (opened rule) = refl in e ∙ sym (painted-by-rows (opened rule))
 
   shown-opened : Shown (openedTerminal rule)
   shown-opened = subst Shown (λ i. record { state = opened rule; shown = sym opened-blank i }) (shown-painting (opened rule))
 
-  resumed-opened : ruled rule ≡ true → Resumed (openedTerminal rule)
+  pub resumed-opened : ruled rule ≡ true → Resumed (openedTerminal rule)
   unfolding linesOf columnsOf height textRows placeOf inRanges? passes member keyRanges plainRanges arrayRanges markOf screens aloneRanges
   resumed-opened e = record {
     sound = record {

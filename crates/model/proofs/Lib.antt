@@ -1,4 +1,5 @@
-pub mod Bays
+pub mod Quickly
+pub mod Worked
 pub mod Tests
 pub mod Arms
 pub mod Cases
@@ -18,6 +19,7 @@ pub mod ItemLaws
 pub mod Following
 pub mod Events
 pub mod Printing
+pub mod PaintLaws
 pub mod CallLaws
 pub mod LineAfter
 pub mod Promises
@@ -46,3 +48,5 @@ pub mod Parts
 pub mod Witness
 pub mod DotLaws
 pub mod DotsStay
+pub mod QuickLaws
+pub mod Bays
