@@ -2,8 +2,8 @@
  * Holds the header and the archive together: every field of the settings is
  * set by a sequence, a piece or a key text of its own and read back through the
  * header's structures, as are the answer's fields; streams, the key line, long lines,
- * the late wrap and mode 3 give what document 02 says of them, and refused calls leave
- * every byte alone.
+ * the late wrap, mode 3 and written sequences give what document 02 says of them, and
+ * refused calls leave every byte alone.
  *
  *   gcc -std=c99 -o abi abi.c libboard.a && ./abi
  *
@@ -1158,6 +1158,136 @@ static void repeats(void)
     check(px8_key_repeats(settings, NULL, 0, NULL, 0).number == PX8_SERVED, "repeats: nothing");
 }
 
+/* ---- sequences written ---- */
+
+/* Into the printer buffer, which is filled anew: what was written, and nothing else. */
+static px8_reached check_written(px8_settings settings, uint8_t second, const uint8_t *parameters,
+                                 size_t length, size_t place, const char *what)
+{
+    px8_reached r;
+    size_t end = place + 2 + length;
+    fill_desk();
+    r = px8_write(settings, second, parameters, length, at.printer, ROOM, place);
+    check(r.number == PX8_SERVED && r.parameter == 0 && r.place == end && at.printer[place] == 27 &&
+              at.printer[place + 1] == second &&
+              (length == 0 || memcmp(at.printer + place + 2, parameters, length) == 0) &&
+              memcmp(at.printer, copy.printer, place) == 0 &&
+              memcmp(at.printer + end, copy.printer + end, ROOM - end) == 0 && guards_stay(),
+          what);
+    return r;
+}
+
+/* Refused: no byte is altered, and the place stays. */
+static void check_unwritten(px8_settings settings, uint8_t second, const uint8_t *parameters,
+                            size_t length, size_t room, size_t place, uint8_t number,
+                            uint8_t parameter, const char *what)
+{
+    px8_reached r;
+    fill_desk();
+    r = px8_write(settings, second, parameters, length, at.printer, room, place);
+    check(r.number == number && r.parameter == parameter && r.place == place &&
+              memcmp(&at, &copy, sizeof at) == 0,
+          what);
+}
+
+/* Every sequence of the list, with parameters that the opening takes. */
+static void every_sequence(px8_settings settings)
+{
+    static const uint8_t seconds[] = {42, 50, 51, 80, 84, 89, 123, 125, 150, 151, 160, 161, 162, 163, 164,
+                                      165, 176, 177, 212, 213, 215, 246, 37, 67, 148, 149, 209, 211, 214,
+                                      240, 241, 242, 247, 61, 144, 145, 210, 199, 243, 244, 245, 224, 198};
+    static const uint8_t lengths[] = {22, 11, 3, 1, 4, 1, 1}; /* of the list's lines, in its order */
+    static const uint8_t counts[] = {0, 1, 2, 3, 4, 9, 11};
+    static uint8_t parameters[PX8_SEQUENCE_MOST];
+    size_t row, n, at_second = 0;
+    for (row = 0; row < sizeof lengths; row++)
+        for (n = 0; n < lengths[row]; n++, at_second++) {
+            const uint8_t second = seconds[at_second];
+            memset(parameters, 1, sizeof parameters);
+            if (second == 67) parameters[0] = 'U';
+            if (second == 247) parameters[0] = 2;
+            if (second == 61) memset(parameters, 32, 2);
+            if (second == 224) parameters[0] = 224;
+            check_written(settings, second, parameters, counts[row], at_second, "write: every sequence");
+            check_unwritten(settings, second, parameters, (size_t)counts[row] + 1, ROOM, 0, PX8_NOT_LISTED, 0,
+                            "write: one parameter too many");
+            if (counts[row] > 0 && second != 209)
+                check_unwritten(settings, second, parameters, (size_t)counts[row] - 1, ROOM, 0, PX8_CUT, 0,
+                                "write: one parameter too few");
+        }
+    check(at_second == sizeof seconds, "write: the whole list");
+}
+
+static void mode_settings(px8_settings settings)
+{
+    static const uint8_t mode0[] = {0, 24, 24}, mode1[] = {1, 24}, mode2[] = {2, 10, 20, 35}, mode3[] = {3};
+    static const uint8_t few[] = {0, 7, 24}, sum[] = {0, 24, 25}, none[] = {4};
+    check_written(settings, 208, mode0, sizeof mode0, 0, "write: mode 0");
+    check_written(settings, 208, mode1, sizeof mode1, 0, "write: mode 1");
+    check_written(settings, 208, mode2, sizeof mode2, 0, "write: mode 2");
+    check_written(settings, 208, mode3, sizeof mode3, 0, "write: mode 3");
+    check_unwritten(settings, 208, few, 3, ROOM, 0, PX8_OUT_OF_RANGE, 2, "write: too few lines");
+    check_unwritten(settings, 208, sum, 3, ROOM, 0, PX8_OUT_OF_RANGE, 3, "write: too many lines together");
+    check_unwritten(settings, 208, none, 1, ROOM, 0, PX8_OUT_OF_RANGE, 1, "write: no mode");
+    check_unwritten(settings, 208, mode2, 3, ROOM, 0, PX8_CUT, 0, "write: mode 2 cut");
+    check_unwritten(settings, 208, NULL, 0, ROOM, 0, PX8_CUT, 0, "write: no mode byte");
+}
+
+/* Places and space, and which number goes before another. */
+static void write_order(px8_settings settings)
+{
+    static const uint8_t home[] = {32, 32}, below[] = {56, 32}, right[] = {55, 112};
+    px8_settings unsound = settings;
+    unsound.step = 0;
+    check_unwritten(settings, 61, below, 2, ROOM, 3, PX8_OUT_OF_RANGE, 1, "write: a line too far");
+    check_unwritten(settings, 61, right, 2, ROOM, 3, PX8_OUT_OF_RANGE, 2, "write: a column too far");
+    check_unwritten(settings, 1, home, 2, ROOM, 3, PX8_NOT_LISTED, 0, "write: not listed");
+    check_unwritten(settings, 61, home, 2, 8, 5, PX8_NO_SPACE, 0, "write: a byte too few");
+    check_unwritten(settings, 42, NULL, 0, 4, 4, PX8_NO_SPACE, 0, "write: at the end");
+    check_unwritten(settings, 42, NULL, 0, 4, 5, PX8_NO_SPACE, 0, "write: past the end");
+    check_unwritten(settings, 42, NULL, 0, ROOM, SIZE_MAX, PX8_NO_SPACE, 0, "write: the greatest place");
+    check_unwritten(settings, 42, NULL, 0, ROOM, SIZE_MAX - 1, PX8_NO_SPACE, 0, "write: no sum that wraps");
+    check_unwritten(settings, 61, below, 2, 0, 9, PX8_OUT_OF_RANGE, 1, "write: 11 before 22");
+    check_unwritten(settings, 61, below, 1, 0, 9, PX8_CUT, 0, "write: 12 before 22");
+    check_unwritten(settings, 1, NULL, 0, 0, 9, PX8_NOT_LISTED, 0, "write: 10 before 22");
+    check_unwritten(unsound, 61, below, 2, 0, 9, PX8_UNSOUND, 0, "write: 3 before 11 and 22");
+    check(px8_write(settings, 42, NULL, 0, NULL, 0, 0).number == PX8_NO_SPACE, "write: no buffer");
+    check(px8_write(settings, 42, NULL, 0, at.printer, 4, 2).place == 4, "write: just enough");
+}
+
+static void written(void)
+{
+    static const uint8_t wild[PX8_SEQUENCE_MOST] = {255, 255, 255, 255, 255, 255, 255, 255, 255, 255, 255};
+    static const uint8_t escape[] = {27}, zero[] = {0}, waits[] = {27, 61}, mode3[] = {27, 208, 3};
+    static const uint8_t both[] = {27, 37, 27, 27, 42, 27, 209, 0};
+    px8_settings settings = open_desk().settings;
+    px8_settings drawing, stream;
+    px8_reached r;
+    px8_answer a;
+    every_sequence(settings);
+    mode_settings(settings);
+    write_order(settings);
+    r = px8_write(settings, 37, escape, 1, at.printer, ROOM, 0);
+    r = px8_write(settings, 42, NULL, 0, at.printer, ROOM, r.place);
+    r = px8_write(settings, 209, NULL, 0, at.printer, ROOM, r.place);
+    check(r.place == sizeof both && memcmp(at.printer, both, sizeof both) == 0, "write: one behind another");
+    a = px8_message(settings, both, sizeof both, STORES, NULL, 0).answer;
+    check(a.accepted == 3 && a.refused == 0, "write: read back");
+    check_written(settings, 209, zero, 1, 9, "write: 209 with its byte");
+    check_written(settings, 198, wild, 11, 0, "write: 198 is not judged in mode 0");
+    check_written(settings, 199, wild, 4, 0, "write: nor is 199");
+    stream = send_piece(settings, waits, sizeof waits).settings;
+    check_written(stream, 42, NULL, 0, 0, "write: waiting bytes aside");
+    stream.held = 1;
+    check_unwritten(stream, 42, NULL, 0, ROOM, 0, PX8_UNSOUND, 0, "write: what waits is not sound");
+    fill_desk();
+    settings = open_desk().settings;
+    drawing = send_message(settings, mode3, sizeof mode3).settings;
+    check_written(drawing, 80, NULL, 0, 0, "write: a copy of dots has room");
+    check_written(drawing, 148, wild, 1, 0, "write: 148 is not judged in mode 3");
+    check_unwritten(drawing, 199, wild, 4, ROOM, 0, PX8_OUT_OF_RANGE, 1, "write: 199 is");
+}
+
 int main(void)
 {
     opening();
@@ -1200,6 +1330,7 @@ int main(void)
     empty_buffers();
     compared();
     repeats();
+    written();
     printf("%d passed, %d failed\n", passed, failed);
     return failed != 0;
 }

@@ -4,15 +4,15 @@
  *   gcc -std=c99 -o bay bay.c libboard.a && ./bay
  *
  * The load is drawn piece by piece, as a scale sends it, each piece with its
- * own cursor placing. After each message the answer and the eight lines of the
- * shown screen are printed; bay.out holds what this program prints.
+ * own cursor placing. Sequences are written by px8_write, not spelled by hand. After
+ * each message the answer and the eight lines of the shown screen are printed;
+ * bay.out holds what this program prints.
  */
 #include <stdio.h>
 #include <string.h>
 
 #include "px8.h"
 
-#define ESC 27
 #define SCREEN_1 0
 #define SCREEN_2 1
 
@@ -34,49 +34,52 @@ typedef struct message {
 
 /* ---- writing a message ---- */
 
-static void add(message *to, const void *bytes, size_t length)
+static void add_text(message *to, const char *text)
 {
+    const size_t length = strlen(text);
     if (length > sizeof to->bytes - to->length)
         return;
-    memcpy(to->bytes + to->length, bytes, length);
+    memcpy(to->bytes + to->length, text, length);
     to->length += length;
 }
 
-static void add_text(message *to, const char *text)
+/* A sequence by its second byte and its parameters, behind what the message has. It is
+ * judged as the bay stands: both screens have the same lines and columns here, so that
+ * a selection before it in the message changes nothing about its ranges. */
+static void add_sequence(const bay *at, message *to, uint8_t second, const uint8_t *parameters,
+                         size_t count)
 {
-    add(to, text, strlen(text));
+    const px8_reached reached = px8_write(at->settings, second, parameters, count, to->bytes,
+                                          sizeof to->bytes, to->length);
+    to->length = reached.place;
+    if (reached.number != PX8_SERVED)
+        printf("sequence %u not written: number %u, parameter %u\n", (unsigned)second,
+               (unsigned)reached.number, (unsigned)reached.parameter);
 }
 
 /* Places the cursor; lines and columns count from 1. */
-static void add_place(message *to, int line, int column)
+static void add_place(const bay *at, message *to, int line, int column)
 {
-    uint8_t sequence[4];
-    sequence[0] = ESC;
-    sequence[1] = 61;
-    sequence[2] = (uint8_t)(line + 31);
-    sequence[3] = (uint8_t)(column + 31);
-    add(to, sequence, sizeof sequence);
+    uint8_t parameters[2];
+    parameters[0] = (uint8_t)(line + 31);
+    parameters[1] = (uint8_t)(column + 31);
+    add_sequence(at, to, 61, parameters, sizeof parameters);
 }
 
-static void add_select(message *to, int screen)
+static void add_select(const bay *at, message *to, uint8_t screen)
 {
-    uint8_t sequence[3];
-    sequence[0] = ESC;
-    sequence[1] = 209;
-    sequence[2] = (uint8_t)screen;
-    add(to, sequence, sizeof sequence);
+    add_sequence(at, to, 209, &screen, 1);
 }
 
-static void add_copy(message *to)
+static void add_copy(const bay *at, message *to)
 {
-    static const uint8_t sequence[2] = {ESC, 80};
-    add(to, sequence, sizeof sequence);
+    add_sequence(at, to, 80, NULL, 0);
 }
 
-static void add_key_line(message *to)
+static void add_key_line(const bay *at, message *to)
 {
-    static const uint8_t sequence[3] = {ESC, 211, 0};
-    add(to, sequence, sizeof sequence);
+    static const uint8_t on[1] = {0};
+    add_sequence(at, to, 211, on, 1);
 }
 
 /* ---- showing what stands ---- */
@@ -152,33 +155,33 @@ static void name_key(bay *at, size_t key, const char *text)
 
 static void draw_tally(bay *at, message *next, const char *loads, const char *sum)
 {
-    add_select(next, SCREEN_2);
-    add_place(next, 1, 1);
+    add_select(at, next, SCREEN_2);
+    add_place(at, next, 1, 1);
     add_text(next, "TALLY OF THE DAY");
-    add_place(next, 3, 1);
+    add_place(at, next, 3, 1);
     add_text(next, "loads");
-    add_place(next, 3, 12);
+    add_place(at, next, 3, 12);
     add_text(next, loads);
-    add_place(next, 4, 1);
+    add_place(at, next, 4, 1);
     add_text(next, "sum kg");
-    add_place(next, 4, 12);
+    add_place(at, next, 4, 12);
     add_text(next, sum);
     send_message(at, "the tally, on screen 2", next);
 }
 
 static void draw_load(bay *at, message *next)
 {
-    add_select(next, SCREEN_1);
-    add_place(next, 4, 30);
+    add_select(at, next, SCREEN_1);
+    add_place(at, next, 4, 30);
     add_text(next, "LOAD kg");
     send_message(at, "the label, on screen 1", next);
-    add_place(next, 4, 40);
+    add_place(at, next, 4, 40);
     add_text(next, "38");
     send_message(at, "thousands", next);
-    add_place(next, 4, 43);
+    add_place(at, next, 4, 43);
     add_text(next, "500");
     send_message(at, "the rest", next);
-    add_place(next, 4, 42);
+    add_place(at, next, 4, 42);
     add_text(next, ",");
     send_message(at, "the comma", next);
 }
@@ -192,19 +195,21 @@ int main(void)
     draw_tally(&here, &next, "     12", "412,300");
     draw_load(&here, &next);
     draw_tally(&here, &next, "     13", "450,800");
-    add_select(&next, SCREEN_1);
+    add_select(&here, &next, SCREEN_1);
     send_message(&here, "screen 1 again", &next);
-    add_copy(&next);
+    add_copy(&here, &next);
     send_message(&here, "a copy", &next);
-    /* A slip, to show a refusal: there is no line 25. The rest is served. */
-    add_place(&next, 6, 30);
+    /* A slip, to show a refusal: there is no line 25, so nothing is written of it. */
+    add_place(&here, &next, 6, 30);
     add_text(&next, "stable");
-    add_place(&next, 25, 1);
+    add_place(&here, &next, 25, 1);
+    /* The same slip spelled by hand, as an older program sends it. The rest is served. */
+    add_text(&next, "\033=8 ");
     send_message(&here, "a line that is not there", &next);
     name_key(&here, 1, "TARE    ");
     name_key(&here, 2, "PRINT   ");
     name_key(&here, 10, "   TALLY");
-    add_key_line(&next);
+    add_key_line(&here, &next);
     send_message(&here, "the key line", &next);
     return 0;
 }

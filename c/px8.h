@@ -13,6 +13,7 @@
  *   px8_key_text  sets the text of a key for the key line
  *   px8_printed   how many bytes of a printer buffer to send on
  *   px8_key_repeats  the codes that a trace of key presses sends
+ *   px8_write     writes a sequence into an outgoing buffer
  *
  * and, beside them, two that lay one shown screen beside another:
  *
@@ -45,7 +46,8 @@
  *
  * Not checked, since C cannot tell: a pointer that is null or dangling
  * although its length is not 0; a length larger than the buffer; buffers that
- * overlap each other, the message or the piece. Each of these is undefined behaviour.
+ * overlap each other, the message, the piece or the parameters. Each of
+ * these is undefined behaviour.
  * Every other input is answered, by what it asks for or by a number. A null
  * pointer with length 0 is an empty buffer.
  *
@@ -91,6 +93,7 @@ extern "C" {
 #define PX8_TRACE_MOST 60000  /* the longest trace that is taken */
 #define PX8_STROKE 9          /* bytes of a record of a trace */
 #define PX8_CODE 5            /* bytes of a code that a trace sends */
+#define PX8_SEQUENCE_MOST 13  /* bytes of the longest sequence, ESC 198 */
 
 /* Byte of line 1 to 48 of screen 1 (0) or 2 (1) in the lines' marks. */
 #define PX8_MARK_AT(screen, line) (PX8_LINES_MOST * (screen) + (line) - 1)
@@ -130,6 +133,10 @@ extern "C" {
 #define PX8_UNKNOWN_RECORD 21  /* a record's kind is not 1 or 2, or its body not 5 bytes */
 #define PX8_TICK_FALLS 24      /* a record's tick is below that of the one before */
 #define PX8_OUTPUT_TOO_SMALL 25 /* the codes need more than the output has */
+
+/* The number of px8_write: 0, 3, then 10, 12 or 11 as below, or, last: */
+#define PX8_NO_SPACE 22        /* the buffer has fewer bytes from the place on than the
+                                * sequence needs, or the place is past its end */
 
 /* The number of the first refused sequence of a call that was served. A
  * refused sequence is skipped, and changes nothing but the counts and the
@@ -432,6 +439,13 @@ typedef struct px8_repeats {
     uint64_t count; /* how many codes were sent and written; 0 if refused */
 } px8_repeats;
 
+/* What px8_write returns; there are padding bytes after `parameter`. */
+typedef struct px8_reached {
+    size_t place;      /* behind what was written; if refused, the place given */
+    uint8_t number;    /* PX8_SERVED, or why nothing was written: 3, 10, 11, 12, 22 */
+    uint8_t parameter; /* the first bad parameter, from 1, if it is 11; else 0 */
+} px8_reached;
+
 /* ---- calls ---- */
 
 /*
@@ -588,6 +602,32 @@ px8_repeats px8_key_repeats(px8_settings settings,
                             const uint8_t *trace, size_t trace_length,
                             uint8_t *output, size_t output_length);
 
+/*
+ * Writes a sequence, given by its second byte and its parameters as sent (see "what a
+ * message holds"), into the buffer from the place on: ESC, the second byte, the
+ * parameters, and no other byte. Several follow one behind another when each call is
+ * given the place that the one before returned, from 0 on; the place is then how much
+ * of the buffer is to be sent. PX8_SEQUENCE_MOST bytes hold any sequence.
+ *
+ * What is written is read back as that one sequence by whoever has these settings, and
+ * different sequences never give the same bytes. ESC 209 is always written with its
+ * byte: without a parameter it is written with 0.
+ *
+ * Refused with 3 unless all settings are sound, those of the stream too; else exactly
+ * as the sequence would be in a message under these settings, by the same number, 10,
+ * 12 or 11, and naming the same parameter. Bytes that wait are left aside, and a copy
+ * (ESC 80) has room. More parameters than the sequence has, by the mode byte for ESC
+ * 208, are 10, too few are 12. So in modes 0 to 2 ESC 198 and 199 are written with
+ * any parameters, and in mode 3 those that do nothing there. Else refused with 22
+ * where the buffer has no space. Each call judges by the settings given, not by what
+ * the sequences written before would change: after ESC 208 give settings of its mode.
+ *
+ * A refused call alters no byte of the buffer and returns the place given.
+ */
+px8_reached px8_write(px8_settings settings, uint8_t second,
+                      const uint8_t *parameters, size_t parameters_length,
+                      uint8_t *buffer, size_t buffer_length, size_t place);
+
 #ifdef __cplusplus
 }
 #endif
@@ -678,6 +718,11 @@ PX8_HOLDS(offsetof(px8_opened, number) == 488);
 PX8_HOLDS(sizeof(px8_repeats) == 16);
 PX8_HOLDS(offsetof(px8_repeats, number) == 0);
 PX8_HOLDS(offsetof(px8_repeats, count) == 8);
+
+PX8_HOLDS(sizeof(px8_reached) == 16);
+PX8_HOLDS(offsetof(px8_reached, place) == 0);
+PX8_HOLDS(offsetof(px8_reached, number) == 8);
+PX8_HOLDS(offsetof(px8_reached, parameter) == 9);
 #undef PX8_HOLDS
 #endif
 

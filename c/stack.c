@@ -91,6 +91,13 @@ static void *repeats(void *unused) {
     return unused;
 }
 
+/* the longest sequence */
+static void *writing(void *unused) {
+    static const uint8_t bytes[] = {1, 144, 0, 18, 0, 18, 0, 60, 170, 170, 3};
+    if (px8_write(settings, 198, bytes, sizeof bytes, printer, sizeof printer, 0).place != PX8_SEQUENCE_MOST) abort();
+    return unused;
+}
+
 /* the bytes of a stack that a call touched */
 static size_t used(void *(*call)(void *)) {
     pthread_t thread;
@@ -118,6 +125,7 @@ int main(void) {
     size_t name = used(key_text) - thread;
     size_t lay = used(compare) - thread;
     size_t work = used(repeats) - thread;
-    printf("opening %zu\nmessage %zu\ndrawing %zu\npiece %zu\nnext piece %zu\nclosing %zu\nkey text %zu\ncompare %zu\nkey repeats %zu\n", open, serve, draw, start, rest, end, name, lay, work);
-    return open <= MOST && serve <= MOST && draw <= MOST && start <= STREAM_MOST && rest <= STREAM_MOST && end <= STREAM_MOST && name <= MOST && lay <= MOST && work <= MOST ? 0 : 1;
+    size_t spell = used(writing) - thread;
+    printf("opening %zu\nmessage %zu\ndrawing %zu\npiece %zu\nnext piece %zu\nclosing %zu\nkey text %zu\ncompare %zu\nkey repeats %zu\nwrite %zu\n", open, serve, draw, start, rest, end, name, lay, work, spell);
+    return open <= MOST && serve <= MOST && draw <= MOST && start <= STREAM_MOST && rest <= STREAM_MOST && end <= STREAM_MOST && name <= MOST && lay <= MOST && work <= MOST && spell <= MOST ? 0 : 1;
 }

@@ -5,7 +5,7 @@
 #[path = "src/breaks/mod.rs"]
 mod breaks;
 
-use breaks::{Break, BREAKS, SCREENS, TRACES};
+use breaks::{Break, BREAKS, SCREENS, TRACES, WRITES};
 use std::fmt::Write;
 use std::path::{Path, PathBuf};
 
@@ -21,7 +21,7 @@ struct Part {
     calls: (&'static str, &'static [&'static str]),
 }
 
-const PARTS: [Part; 3] = [
+const PARTS: [Part; 4] = [
     Part {
         name: "terminal",
         breaks: BREAKS,
@@ -42,6 +42,13 @@ const PARTS: [Part; 3] = [
         list: "BROKEN_TRACES: &[traces::Functions]",
         files: &["settings", "sound", "repeats"],
         calls: ("repeats", &["key_repeats"]),
+    },
+    Part {
+        name: "writes",
+        breaks: WRITES,
+        list: "BROKEN_WRITES: &[writes::Functions]",
+        files: &["settings", "dots", "picture", "read", "stream", "sound", "write"],
+        calls: ("write", &["write"]),
     },
 ];
 

@@ -30,7 +30,7 @@
 //!
 //! The lines of two screens side by side say their input in `screens`, those
 //! of a stream's pieces and closings in `streams`, those of traces of keys in
-//! `traces`.
+//! `traces`, those of sequences written in `writes`.
 //!
 //! A run sends them often enough to last some milliseconds. Each run starts
 //! from the same settings and stores; within a run nothing is cleared. The
@@ -51,6 +51,7 @@ mod streams;
 mod traces;
 #[cfg_attr(not(vterm), path = "no_vterm.rs")]
 mod vterm;
+mod writes;
 
 use input::{Case, Kind};
 use side::{Board, Plain, Side, Takes};
@@ -79,6 +80,7 @@ fn main() -> ExitCode {
     }
     streams::bench(&word);
     traces::bench(&word);
+    writes::bench(&word);
     ExitCode::SUCCESS
 }
 

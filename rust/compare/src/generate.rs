@@ -18,7 +18,7 @@ pub mod sequences;
 mod settings;
 pub mod streams;
 
-pub use messages::message;
+pub use messages::{message, Belief};
 pub use settings::{settings, unsound, FIELDS};
 
 use crate::random::Random;

@@ -12,6 +12,7 @@
 //! - `streams`: closed streams against one uncut reading
 //! - `screens`: the comparison of two screens, with a trait of its own
 //! - `traces`: key repeats, with a trait of its own
+//! - `writes`: the sequences written, with a trait of its own
 //! - `classes`: counts by name
 
 pub mod breaks;
@@ -25,6 +26,7 @@ pub mod screens;
 pub mod streams;
 pub mod traces;
 pub mod vectors;
+pub mod writes;
 
 use reference::{Answer, Settings};
 

@@ -1,15 +1,16 @@
 //! `compare [--calls N] [--seed S] [--list L]`: the reference against the
 //! tuned version on random lists of calls; with `--screens` on pairs of
-//! screens, with `--traces` on traces of keys. With `--streams` closed
-//! streams of both against one uncut reading.
+//! screens, with `--traces` on traces of keys, with `--writes` on sequences
+//! written and read back. With `--streams` closed streams of both against one
+//! uncut reading.
 //! `compare --breaks`: how soon each broken copy is found.
 
 use compare::play::{run, Plan};
 use compare::report::{
-    command_line, compare, compare_screens, compare_streams, compare_traces, Options, Subject,
+    command_line, compare, compare_screens, compare_streams, compare_traces, compare_writes, Options, Subject,
 };
-use compare::{screens, traces, Functions, Terminal};
-use compare::{BROKEN, BROKEN_SCREENS, BROKEN_TRACES, REFERENCE, TUNED};
+use compare::{screens, traces, writes, Functions, Terminal};
+use compare::{BROKEN, BROKEN_SCREENS, BROKEN_TRACES, BROKEN_WRITES, REFERENCE, TUNED};
 use reference::{Answer, Settings};
 use std::panic::{catch_unwind, AssertUnwindSafe};
 use std::process::ExitCode;
@@ -17,7 +18,7 @@ use std::process::ExitCode;
 fn main() -> ExitCode {
     let Some(options) = command_line() else {
         eprintln!(
-            "usage: compare [--calls N] [--seed S] [--list L] [--streams | --screens | --traces] [--breaks]"
+            "usage: compare [--calls N] [--seed S] [--list L] [--streams | --screens | --traces | --writes] [--breaks]"
         );
         return ExitCode::from(2);
     };
@@ -38,6 +39,9 @@ fn versions(options: &Options) -> bool {
         }
         Subject::Screens => compare_screens(&mut { screens::REFERENCE }, &mut { screens::TUNED }, options),
         Subject::Traces => compare_traces(&mut { traces::REFERENCE }, &mut { traces::TUNED }, options),
+        Subject::Writes => {
+            compare_writes(&mut { writes::REFERENCE }, &mut { writes::TUNED }, &mut { TUNED }, options)
+        }
     }
 }
 
@@ -130,7 +134,13 @@ fn breaks(plan: &Plan) -> bool {
         let call = || traces::run(&mut { traces::REFERENCE }, &mut { broken }, &mut classes, &plan);
         told(broken.name, tool_break(call))
     });
-    let found: Vec<bool> = lists.chain(screens).chain(traces).collect();
+    let writes = BROKEN_WRITES.iter().map(|&broken| {
+        let mut classes = writes::classes();
+        let (left, reader) = (&mut { writes::REFERENCE }, &mut { REFERENCE });
+        let call = || writes::run(left, &mut { broken }, reader, &mut classes, &plan);
+        told(broken.name, tool_break(call))
+    });
+    let found: Vec<bool> = lists.chain(screens).chain(traces).chain(writes).collect();
     let good = found.iter().filter(|&&found| found).count();
     println!("breaks: {good} of {} found", found.len());
     good == found.len()

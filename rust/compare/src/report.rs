@@ -7,6 +7,7 @@ use crate::play::{run, Plan};
 use crate::screens::{self, Screens};
 use crate::streams;
 use crate::traces::{self, Repeats};
+use crate::writes::{self, Writes};
 use crate::Terminal;
 
 /// What is compared.
@@ -20,6 +21,8 @@ pub enum Subject {
     Screens,
     /// traces of keys
     Traces,
+    /// sequences written
+    Writes,
 }
 
 pub struct Options {
@@ -46,6 +49,7 @@ pub fn command_line() -> Option<Options> {
             "--streams" => options.subject = Subject::Streams,
             "--screens" => options.subject = Subject::Screens,
             "--traces" => options.subject = Subject::Traces,
+            "--writes" => options.subject = Subject::Writes,
             "--breaks" => options.breaks = true,
             _ => return None,
         }
@@ -86,6 +90,21 @@ pub fn compare_traces(left: &mut dyn Repeats, right: &mut dyn Repeats, options: 
     let outcome = traces::examples(left, right, &mut classes)
         .and_then(|_| traces::run(left, right, &mut classes, &options.plan));
     verdict("traces", outcome, &classes.lines(), options)
+}
+
+/// The same of the sequences written, read back by a terminal.
+pub fn compare_writes(
+    left: &mut dyn Writes,
+    right: &mut dyn Writes,
+    reader: &mut dyn Terminal,
+    options: &Options,
+) -> bool {
+    println!("compare: sequences written, {} and {}, seed {}", left.name(), right.name(), options.plan.seed);
+    println!("compare: read back by {}", reader.name());
+    let mut classes = writes::classes();
+    let outcome = writes::examples(left, right, reader, &mut classes)
+        .and_then(|_| writes::run(left, right, reader, &mut classes, &options.plan));
+    verdict("lists of sequences", outcome, &classes.lines(), options)
 }
 
 /// Prints what a comparison found and what it reached.

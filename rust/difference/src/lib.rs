@@ -4,6 +4,7 @@
 use compare::screens::Screens;
 use compare::traces::Repeats;
 use compare::vectors::{play, play_on, recording, Case};
+use compare::writes::{Reached, Writes};
 use compare::Terminal;
 use reference::differences::Record;
 use reference::{Answer, Keys, Place, Settings};
@@ -122,6 +123,52 @@ impl Repeats for Board {
     fn key_repeats(&mut self, settings: Settings, trace: &[u8], output: &mut [u8]) -> (u8, usize) {
         let repeats = px8::key_repeats(settings_to_board(&settings), trace, output);
         (repeats.number, repeats.count as usize)
+    }
+}
+
+impl Writes for Board {
+    fn name(&self) -> &str {
+        "board"
+    }
+
+    fn write(
+        &mut self,
+        settings: Settings,
+        second: u8,
+        parameters: &[u8],
+        buffer: &mut [u8],
+        place: usize,
+    ) -> Reached {
+        let reached = px8::write(settings_to_board(&settings), second, parameters, buffer, place);
+        (reached.place, reached.number, reached.parameter)
+    }
+}
+
+/// The archive's writer through its names: what has no name is left to the call by
+/// numbers.
+pub struct NamedBoard;
+
+impl Writes for NamedBoard {
+    fn name(&self) -> &str {
+        "board, by names"
+    }
+
+    fn write(
+        &mut self,
+        settings: Settings,
+        second: u8,
+        parameters: &[u8],
+        buffer: &mut [u8],
+        place: usize,
+    ) -> Reached {
+        let Some(sequence) = px8::Sequence::of(second, parameters) else {
+            return Board.write(settings, second, parameters, buffer, place);
+        };
+        let mut writer = px8::Writer::at(buffer, place);
+        match writer.write(&settings_to_board(&settings), sequence) {
+            Ok(()) => (writer.place(), 0, 0),
+            Err(refused) => (writer.place(), refused.number, refused.parameter),
+        }
     }
 }
 

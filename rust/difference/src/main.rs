@@ -2,14 +2,15 @@
 //! against the reference on random lists of calls, pieces, closings and key
 //! texts among them; with `--streams` its closed streams against the reference's uncut
 //! reading, with `--screens` on pairs of screens, with `--traces` on traces of
-//! keys.
+//! keys, with `--writes` on sequences that it writes, by numbers and by names, and
+//! reads back.
 //! `difference --vectors`: the same on the named cases.
 
-use compare::report::{command_line, compare, compare_screens, compare_streams, compare_traces, Subject};
-use compare::traces;
+use compare::report::{command_line, compare, compare_screens, compare_streams, compare_traces};
+use compare::report::{compare_writes, Subject};
 use compare::vectors::cases;
-use compare::{screens, REFERENCE};
-use difference::{case_difference, Board};
+use compare::{screens, traces, writes, REFERENCE};
+use difference::{case_difference, Board, NamedBoard};
 use std::process::ExitCode;
 
 fn main() -> ExitCode {
@@ -19,7 +20,7 @@ fn main() -> ExitCode {
         let options = command_line().filter(|options| !options.breaks);
         let Some(options) = options else {
             eprintln!(
-                "usage: difference [--calls N] [--seed S] [--list L] [--streams | --screens | --traces] | --vectors"
+                "usage: difference [--calls N] [--seed S] [--list L] [--streams | --screens | --traces | --writes] | --vectors"
             );
             return ExitCode::from(2);
         };
@@ -28,6 +29,11 @@ fn main() -> ExitCode {
             Subject::Streams => compare_streams(&mut Board, &options),
             Subject::Screens => compare_screens(&mut { screens::REFERENCE }, &mut Board, &options),
             Subject::Traces => compare_traces(&mut { traces::REFERENCE }, &mut Board, &options),
+            Subject::Writes => {
+                let mut reference = writes::REFERENCE;
+                compare_writes(&mut reference, &mut Board, &mut Board, &options)
+                    && compare_writes(&mut reference, &mut NamedBoard, &mut Board, &options)
+            }
         }
     };
     if good {

@@ -2,10 +2,9 @@
 //! the program's. Broken copies show that both ways of looking see something.
 
 use compare::play::{run, Plan};
-use compare::streams;
 use compare::vectors::cases;
-use compare::{BROKEN, REFERENCE};
-use difference::{case_difference, settings_from_board, settings_to_board, Board};
+use compare::{streams, writes, BROKEN, REFERENCE};
+use difference::{case_difference, settings_from_board, settings_to_board, Board, NamedBoard};
 use reference::settings::OPENING;
 
 #[test]
@@ -22,6 +21,18 @@ fn random_lists() {
 fn closed_streams() {
     let plan = Plan { seed: 205, calls: 2_000, list: 0, progress: 0 };
     assert_eq!(streams::run(&mut Board, &mut streams::classes(), &plan), Ok(plan.calls));
+}
+
+/// By numbers and by names; what the archive writes it also reads back.
+#[test]
+fn written_sequences() {
+    let plan = Plan { seed: 206, calls: 3_000, list: 0, progress: 0 };
+    let sides: [&mut dyn writes::Writes; 2] = [&mut Board, &mut NamedBoard];
+    for side in sides {
+        let (mut reference, mut classes) = (writes::REFERENCE, writes::classes());
+        assert_eq!(writes::examples(&mut reference, side, &mut Board, &mut classes), Ok(21));
+        assert_eq!(writes::run(&mut reference, side, &mut Board, &mut classes, &plan), Ok(plan.calls));
+    }
 }
 
 #[test]

@@ -43,6 +43,7 @@ fn only_the_calls_are_exported() {
         "px8_opening",
         "px8_piece",
         "px8_printed",
+        "px8_write",
     ];
     let expected = expected.map(|name| (name.to_string(), 'T'));
     assert_eq!(ours, expected);

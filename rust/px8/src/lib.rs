@@ -7,7 +7,8 @@
 //! [`printed`] are the library's own calls, on slices of any length; a wrong
 //! length is a refusal and never a fault. [`compare`], [`first_difference`] and [`differences`] lay
 //! two shown screens side by side. [`key_repeats`] works out from a trace which
-//! codes the keyboard sent.
+//! codes the keyboard sent. A [`Writer`] writes each [`Sequence`] by its name, so that a
+//! program need not spell its bytes.
 //!
 //! The archive is looked for in the repository's `target/staticlib`, or in
 //! the folder named by the environment variable `PX8_LIB_DIR`.
@@ -24,12 +25,16 @@
 
 mod calls;
 mod screens;
+mod sequence;
 mod stream;
 mod terminal;
 mod types;
+mod writer;
 
 pub use calls::{closing, key_repeats, key_text, message, opening, piece, printed};
 pub use screens::{compare, differences, first_difference};
+pub use sequence::{Dot, Sequence};
 pub use stream::{Refused, Stream};
 pub use terminal::{Reply, Terminal};
 pub use types::*;
+pub use writer::{write, Outgoing, Reached, Unwritten, Writer};

@@ -1,9 +1,11 @@
 //! A terminal that owns its stores.
 
 use crate::calls;
+use crate::sequence::Sequence;
 use crate::stream::Stream;
 use crate::types::{Answer, Settings, CELLS, COPY, LAYER, MESSAGE_MOST, ROWS, SHOWN, WIDTH};
 use crate::types::{DOTS, DOT_COLUMNS, DOT_ROW, DOT_ROWS};
+use crate::writer::{Unwritten, Writer};
 
 /// A terminal with its settings and stores.
 ///
@@ -224,6 +226,27 @@ impl Terminal {
     /// ```
     pub fn stream(&mut self) -> Stream<'_> {
         Stream::of(self)
+    }
+
+    /// The bytes of these sequences, one behind another, each judged by the settings that
+    /// stand; or why the first that is refused is not written.
+    ///
+    /// ```
+    /// use px8::Sequence;
+    /// let mut terminal = px8::Terminal::open();
+    /// let bytes = terminal.write([Sequence::Select { screen: 1 }, Sequence::cursor_to(2, 3)])?;
+    /// assert_eq!(bytes, [27, 209, 1, 27, 61, 33, 34]);
+    /// assert!(terminal.message(&bytes).answer.is_clean());
+    /// let refused = terminal.write([Sequence::Clear, Sequence::cursor_to(25, 1)]).unwrap_err();
+    /// assert_eq!(refused.to_string(), "not written, number 11: parameter 1 is outside its range");
+    /// # Ok::<(), px8::Unwritten>(())
+    /// ```
+    pub fn write(&self, sequences: impl IntoIterator<Item = Sequence>) -> Result<Vec<u8>, Unwritten> {
+        let mut writer = Writer::new(Vec::new());
+        for sequence in sequences {
+            writer.write(&self.settings, sequence)?;
+        }
+        Ok(writer.into_inner())
     }
 
     /// Which codes a trace sends under the key repeat that stands, as ticks of

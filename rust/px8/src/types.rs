@@ -62,6 +62,9 @@ pub const BAD_KEY_TEXT: u8 = 17;
 pub const BAD_RULE: u8 = 23;
 /// More places differ than the list has records; the whole call is refused.
 pub const LIST_SHORT: u8 = 18;
+/// The outgoing buffer has no space for the sequence behind its place; nothing is
+/// written.
+pub const NO_SPACE: u8 = 22;
 /// First refusal: the byte after ESC is not in the list.
 pub const NOT_LISTED: u8 = 10;
 /// First refusal: a parameter is outside its range, or its sum with the one
@@ -327,13 +330,7 @@ impl std::fmt::Display for Refusal {
         write!(f, "refusal {} at offset {}: ", self.number, self.offset)?;
         match self.number {
             NOT_LISTED => write!(f, "the byte after ESC is not in the list"),
-            OUT_OF_RANGE => {
-                write!(f, "parameter {} is outside its range", self.parameter)?;
-                match self.parameter {
-                    1 => Ok(()),
-                    _ => write!(f, ", or its sum with the one before is too large"),
-                }
-            }
+            OUT_OF_RANGE => in_range_words(f, self.parameter),
             CUT => write!(f, "the message or stream ends inside the sequence"),
             NO_ROOM => {
                 write!(f, "a copy needs {COPY} bytes of printer room, in mode 3 {DOTS}, and fewer are left")
@@ -345,6 +342,15 @@ impl std::fmt::Display for Refusal {
 }
 
 impl std::error::Error for Refusal {}
+
+/// What 11 says of a parameter.
+pub(crate) fn in_range_words(f: &mut std::fmt::Formatter, parameter: u8) -> std::fmt::Result {
+    write!(f, "parameter {parameter} is outside its range")?;
+    match parameter {
+        1 => Ok(()),
+        _ => write!(f, ", or its sum with the one before is too large"),
+    }
+}
 
 impl std::fmt::Display for Answer {
     /// The answer's line, as program `show` prints it.

@@ -15,6 +15,7 @@
 //! - `lengths`: the words of the program `lengths`
 //! - `differences`: two screens compared, and the words of `compare`
 //! - `repeats`: key repeats from a trace, and the words of `repeats`
+//! - `write`: the sequences written
 
 #![forbid(unsafe_code)]
 
@@ -31,6 +32,7 @@ pub mod settings;
 pub mod sound;
 pub mod stream;
 pub mod text;
+pub mod write;
 
 pub use calls::{closing, key_text, message, opening, piece, printed};
 pub use picture::picture;

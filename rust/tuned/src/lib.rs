@@ -12,6 +12,7 @@ pub mod repeats;
 pub mod screens;
 mod sequences;
 mod streams;
+pub mod writes;
 
 use engine::{Engine, Stores};
 pub use reference::{Answer, Keys, Place, Settings};

@@ -2,7 +2,8 @@
 
 use crate::dots;
 use crate::engine::Engine;
-use reference::{Answer, Place};
+use crate::rows;
+use reference::{Answer, Place, Settings};
 
 /// Length by second byte, 0 for none. 208 stands with its shortest.
 const LENGTHS: [u8; 256] = lengths();
@@ -33,10 +34,14 @@ const fn lengths() -> [u8; 256] {
 
 /// The bytes of the sequence at the start of `rest`, as far as they are known.
 fn length(rest: &[u8], second: u8) -> usize {
-    if second == 208 && rest.len() > 2 {
-        [5, 4, 6, 3][usize::from(rest[2].min(3))]
-    } else {
-        usize::from(LENGTHS[usize::from(second)])
+    listed(second, rest.get(2))
+}
+
+/// The bytes of a sequence by its second one and, of 208, the one behind it.
+pub fn listed(second: u8, third: Option<&u8>) -> usize {
+    match third {
+        Some(&mode) if second == 208 => [5, 4, 6, 3][usize::from(mode.min(3))],
+        _ => usize::from(LENGTHS[usize::from(second)]),
     }
 }
 
@@ -83,7 +88,64 @@ fn misfit_of_mode(p: &[u8]) -> u8 {
     }
 }
 
+/// What parameters are judged by: the mode, and the selected screen's measures.
+pub struct Limits {
+    pub mode: u8,
+    pub lines: usize,
+    pub columns: usize,
+    pub height: usize,
+}
+
+/// What does nothing in mode 3: there is no other screen and no other window.
+fn idle(mode: u8, second: u8) -> bool {
+    mode == 3 && matches!(second, 148..=151 | 209 | 211..=215)
+}
+
+impl Limits {
+    pub fn of(s: &Settings) -> Limits {
+        let (lines, columns) = if s.selected == 0 { (s.lines1, s.columns1) } else { (s.lines2, s.columns2) };
+        let height = rows(s) << u8::from(s.mode == 1);
+        Limits { mode: s.mode, lines: lines.into(), columns: columns.into(), height: height.into() }
+    }
+
+    /// The first parameter that does not fit, 0 if all do.
+    pub fn misfit(&self, second: u8, p: &[u8]) -> u8 {
+        match second {
+            _ if idle(self.mode, second) => 0,
+            198 if self.mode == 3 => dots::misfit_of_line(p),
+            199 if self.mode == 3 => dots::misfit_of_dot(p),
+            61 => earlier(within(p[0], 32, self.lines + 31), within(p[1], 32, self.columns + 31)),
+            144 | 145 => {
+                let (a, m) = (usize::from(p[0]), usize::from(p[1]));
+                earlier(a < self.lines, m > 0 && a + m <= self.lines)
+            }
+            208 => misfit_of_mode(p),
+            210 => earlier(within(p[0], 1, 8), within(p[1], 1, 80)),
+            _ => u8::from(!self.fits(second, p)),
+        }
+    }
+
+    /// The sequences of which the first parameter alone is judged.
+    fn fits(&self, second: u8, p: &[u8]) -> bool {
+        match second {
+            67 => is_charset(p[0]),
+            148 => within(p[0], 1, self.height),
+            149 | 209 | 211 | 240 => p[0] < 2,
+            214 => p[0] < 4,
+            224 => within(p[0], 224, 254),
+            241 | 242 => within(p[0], 1, 127),
+            247 => is_shift(p[0]),
+            _ => true,
+        }
+    }
+}
+
 impl Engine<'_> {
+    fn limits(&self) -> Limits {
+        let Engine { lines, columns, height, .. } = *self;
+        Limits { mode: self.settings.mode, lines, columns, height }
+    }
+
     /// Serves the sequence at `at` and returns its bytes.
     pub fn escape(&mut self, message: &[u8], at: usize, answer: &mut Answer) -> usize {
         let rest = &message[at..];
@@ -121,7 +183,7 @@ impl Engine<'_> {
         }
         let (number, parameter) = match second {
             80 if self.printer.len() - self.printed < self.copy_size() => (13, 0),
-            _ => match self.misfit(second, &rest[2..length]) {
+            _ => match self.limits().misfit(second, &rest[2..length]) {
                 0 => (0, 0),
                 parameter => (11, parameter),
             },
@@ -129,44 +191,8 @@ impl Engine<'_> {
         (number, parameter, length)
     }
 
-    /// The first parameter that does not fit, 0 if all do.
-    fn misfit(&self, second: u8, p: &[u8]) -> u8 {
-        match second {
-            _ if self.idle(second) => 0,
-            198 if self.settings.mode == 3 => dots::misfit_of_line(p),
-            199 if self.settings.mode == 3 => dots::misfit_of_dot(p),
-            61 => earlier(within(p[0], 32, self.lines + 31), within(p[1], 32, self.columns + 31)),
-            144 | 145 => {
-                let (a, m) = (usize::from(p[0]), usize::from(p[1]));
-                earlier(a < self.lines, m > 0 && a + m <= self.lines)
-            }
-            208 => misfit_of_mode(p),
-            210 => earlier(within(p[0], 1, 8), within(p[1], 1, 80)),
-            _ => u8::from(!self.fits(second, p)),
-        }
-    }
-
-    /// The sequences of which the first parameter alone is judged.
-    fn fits(&self, second: u8, p: &[u8]) -> bool {
-        match second {
-            67 => is_charset(p[0]),
-            148 => within(p[0], 1, self.height),
-            149 | 209 | 211 | 240 => p[0] < 2,
-            214 => p[0] < 4,
-            224 => within(p[0], 224, 254),
-            241 | 242 => within(p[0], 1, 127),
-            247 => is_shift(p[0]),
-            _ => true,
-        }
-    }
-
-    /// What does nothing in mode 3: there is no other screen and no other window.
-    fn idle(&self, second: u8) -> bool {
-        self.settings.mode == 3 && matches!(second, 148..=151 | 209 | 211..=215)
-    }
-
     fn obey(&mut self, second: u8, p: &[u8]) {
-        if self.idle(second) {
+        if idle(self.settings.mode, second) {
             return;
         }
         match second {

@@ -11,6 +11,7 @@
 //! - `dots`: mode 3
 //! - `screens`: the comparison of two screens
 //! - `traces`: key repeats
+//! - `writes`: the sequences written
 
 mod dots;
 mod keyline;
@@ -21,6 +22,7 @@ mod scope;
 mod screens;
 mod streams;
 mod traces;
+mod writes;
 
 pub struct Break {
     pub name: &'static str,
@@ -50,3 +52,6 @@ pub const SCREENS: &[&[Break]] = &[screens::BREAKS];
 
 /// The broken copies of the key repeats.
 pub const TRACES: &[&[Break]] = &[traces::BREAKS];
+
+/// The broken copies of the writer.
+pub const WRITES: &[&[Break]] = &[writes::BREAKS];

@@ -1,0 +1,4 @@
+pub mod Told
+pub mod Only
+pub mod Parts
+pub mod Claimed

@@ -1,0 +1,4 @@
+pub mod Spelling
+pub mod Given
+pub mod Spelled
+pub mod Claims

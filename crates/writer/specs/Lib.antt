@@ -1,0 +1,5 @@
+pub mod Writing
+pub mod Promised
+pub mod Several
+pub mod Claims
+pub mod Examples
