@@ -2,7 +2,7 @@
  * Holds the header and the archive together: every field of the settings is
  * set by a sequence, a piece or a key text of its own and read back through the
  * header's structures, as are the answer's fields; streams, the key line, long lines,
- * the late wrap, mode 3 and written sequences give what document 02 says of them, and
+ * the late wrap, mode 3, packs and written sequences give what document 02 says of them, and
  * refused calls leave every byte alone.
  *
  *   gcc -std=c99 -o abi abi.c libboard.a && ./abi
@@ -85,6 +85,11 @@ static px8_outcome send_message(px8_settings settings, const uint8_t *message, s
 static px8_outcome send_piece(px8_settings settings, const uint8_t *piece, size_t length)
 {
     return px8_piece(settings, piece, length, STORES, at.printer, ROOM);
+}
+
+static px8_pack_outcome send_pack(px8_settings settings, const uint8_t *pack, size_t length)
+{
+    return px8_pack(settings, pack, length, STORES, at.printer, ROOM);
 }
 
 static px8_outcome close_stream(px8_settings settings)
@@ -556,6 +561,62 @@ static void key_line_windows(void)
     check(at.shown[PX8_AT(1, 42)] == 'A', "key line: the right half");
 }
 
+/* ---- packs ---- */
+
+/* A pack is served: taken, accepted, first refusal with its record and offset. */
+static px8_settings check_pack(px8_pack_outcome out, uint32_t taken, uint32_t accepted, uint8_t first,
+                               uint32_t record, uint32_t offset, const char *what)
+{
+    const px8_answer a = out.answer;
+    check(a.number == PX8_SERVED && a.taken == taken && a.accepted == accepted && a.first == first &&
+              out.record == record && a.offset == offset && guards_stay(),
+          what);
+    return out.settings;
+}
+
+static void packs(void)
+{
+    static const uint8_t cut[] = {1, 0, 1, 0, 27, 1, 0, 1, 0, 80};
+    static const uint8_t copies[] = {2, 0, 1, 0, 27, 80, 0, 0, 1, 0, 3, 0, 1, 0, 'B', 27, 80};
+    static const uint8_t own[] = {3, 0, 1, 0, 27, 209, 1, 2, 0, 1, 0, 27, 209,
+                                  6, 0, 1, 0, 66, 27,  61, 99, 32, 67};
+    px8_pack_outcome out;
+    fill_desk();
+    check_pack(send_pack(open_desk().settings, cut, sizeof cut), 2, 0, PX8_CUT, 1, 0, "pack: a cut sequence");
+    check(at.cells[0] == 80 && at.shown[0] == 80, "pack: the next message");
+    fill_desk();
+    out = px8_pack(open_desk().settings, copies, sizeof copies, STORES, at.printer, 2 * PX8_COPY - 1);
+    check_pack(out, 5, 1, PX8_NO_ROOM, 3, 1, "pack: the room left over");
+    check(out.answer.printed == PX8_COPY &&
+              memcmp(at.printer + PX8_COPY, copy.printer + PX8_COPY, ROOM - PX8_COPY) == 0,
+          "pack: one copy");
+    fill_desk();
+    out = send_pack(open_desk().settings, copies, sizeof copies);
+    check_pack(out, 5, 2, 0, 0, 0, "pack: two copies");
+    check(out.answer.printed == 2 * PX8_COPY && at.printer[0] == ' ' && at.printer[PX8_COPY] == 'B',
+          "pack: copies one behind the other");
+    fill_desk();
+    out = send_pack(open_desk().settings, own, sizeof own);
+    check(check_pack(out, 11, 2, PX8_OUT_OF_RANGE, 3, 1, "pack: bodies of their own").selected == 0 &&
+              out.answer.parameter == 1,
+          "pack: 27, 209 at a body's end");
+}
+
+/* An empty pack paints nothing; an empty body does. */
+static void empty_packs(void)
+{
+    static const uint8_t body[] = {0, 0, 1, 0};
+    px8_settings settings;
+    fill_desk();
+    settings = open_desk().settings;
+    memset(at.shown, 7, PX8_SHOWN);
+    check(same_settings(check_pack(send_pack(settings, NULL, 0), 0, 0, 0, 0, 0, "pack: empty"), settings) &&
+              all(at.shown, PX8_SHOWN, 7),
+          "pack: nothing painted");
+    check_pack(send_pack(settings, body, sizeof body), 0, 0, 0, 0, 0, "pack: an empty body");
+    check(all(at.shown, PX8_SHOWN, PX8_BLANK), "pack: painted");
+}
+
 /* ---- mode 3 ---- */
 
 /* Mode 3, then the bytes; just these two bytes of the dots are not 0. */
@@ -947,6 +1008,45 @@ static void refused_streams(void)
     check_refused(send_message(full, NULL, 0), full, PX8_BYTES_WAIT, "refused: an empty message by 16");
 }
 
+static void check_refused_pack(px8_pack_outcome out, px8_settings given, uint8_t number, const char *what)
+{
+    px8_outcome plain;
+    plain.settings = out.settings;
+    plain.answer = out.answer;
+    check_refused(plain, given, number, what);
+    check(out.record == 0, what);
+}
+
+/* 1, 19, 20, 21, 2, 3, 16, each over the whole pack. */
+static void refused_packs(void)
+{
+    static uint8_t pack[PX8_PACK_MOST + 1];
+    static const uint8_t escape[] = {27};
+    const px8_settings waits = with_line(escape, 1, 1);
+    px8_settings unsound = waits;
+    const size_t long_body = PX8_RECORD_HEAD + PX8_MESSAGE_MOST + 1;
+    unsound.step = 0;
+    pack[0] = (PX8_MESSAGE_MOST + 1) & 255;
+    pack[1] = (PX8_MESSAGE_MOST + 1) >> 8;
+    pack[2] = 1;
+    pack[3] = 1;
+    fill_desk();
+    check_refused_pack(px8_pack(unsound, pack, sizeof pack, at.cells, PX8_CELLS, at.layer, PX8_LAYER, at.shown,
+                                PX8_SHOWN, at.dots, PX8_DOTS - 1, at.printer, ROOM),
+                       unsound, PX8_STORE_SIZE, "refused: pack, dots too short");
+    check_refused_pack(send_pack(unsound, pack, sizeof pack), unsound, PX8_PACK_TOO_LONG, "refused: pack too long");
+    check_refused_pack(send_pack(unsound, pack, long_body + 3), unsound, PX8_CUT_RECORD, "refused: pack, head cut");
+    check_refused_pack(send_pack(unsound, pack, long_body - 1), unsound, PX8_CUT_RECORD, "refused: pack, body cut");
+    check_refused_pack(send_pack(unsound, pack, long_body), unsound, PX8_UNKNOWN_RECORD, "refused: pack, kind");
+    pack[3] = 0;
+    check_refused_pack(send_pack(unsound, pack, long_body), unsound, PX8_TOO_LONG, "refused: pack, a long body");
+    pack[0]--;
+    check_refused_pack(send_pack(unsound, pack, long_body - 1), unsound, PX8_UNSOUND, "refused: pack, not sound");
+    check_refused_pack(send_pack(unsound, NULL, 0), unsound, PX8_UNSOUND, "refused: empty pack, not sound");
+    check_refused_pack(send_pack(waits, pack, long_body - 1), waits, PX8_BYTES_WAIT, "refused: pack, bytes wait");
+    check_refused_pack(send_pack(waits, NULL, 0), waits, PX8_BYTES_WAIT, "refused: empty pack, bytes wait");
+}
+
 /* 3, then 17: a number as wide as size_t is judged whole. */
 static void refused_key_texts(void)
 {
@@ -1312,6 +1412,8 @@ int main(void)
     key_line_windows();
     long_lines();
     late_wrap();
+    packs();
+    empty_packs();
     dots();
     bad_dots();
     manual_line();
@@ -1322,6 +1424,7 @@ int main(void)
     unsound_lines();
     limit();
     refused_streams();
+    refused_packs();
     refused_key_texts();
     unsound_key_lines();
     unsound_marks();

@@ -3,7 +3,7 @@
  *
  *   gcc -std=c99 -o bay bay.c libboard.a && ./bay
  *
- * The load is drawn piece by piece, as a scale sends it, each piece with its
+ * The load is drawn part by part, as a scale sends it, each part in a message with its
  * own cursor placing. Sequences are written by px8_write, not spelled by hand. After
  * each message the answer and the eight lines of the shown screen are printed;
  * bay.out holds what this program prints.

@@ -10,6 +10,7 @@
  *   px8_message   reads one message and brings everything up to date
  *   px8_piece     the same for a piece of a stream, cut at any byte
  *   px8_closing   ends the stream
+ *   px8_pack      reads many messages that came as one pack
  *   px8_key_text  sets the text of a key for the key line
  *   px8_printed   how many bytes of a printer buffer to send on
  *   px8_key_repeats  the codes that a trace of key presses sends
@@ -28,25 +29,26 @@
  * terminals, threads or interrupt levels can use the library at once if each
  * has its own settings and stores.
  *
- * A list of calls. Open once; then hand each message, piece and closing the
+ * A list of calls. Open once; then hand each message, piece, closing and pack the
  * settings and the four stores just as the call before left them; a key text,
  * which has no store, the settings. Nobody else
  * should write them meanwhile. Settings, cells, layer and dots can be saved and
  * taken up again later without an opening, in the middle of a stream too: they are
- * all that stands, and the next message, piece or closing that is served paints
- * the shown screen from them.
+ * all that stands, and the next message, piece, closing or pack with a
+ * record that is served paints the shown screen from them.
  *
  * Messages or a stream. A message is read by itself: it must not end inside a
  * sequence. A line whose bytes come in whatever parts the port hands over is a
  * stream: give each part to px8_piece and say the end by px8_closing. However
- * it is cut, it comes to the same as if it had come in one.
+ * it is cut, it comes to the same as if it had come in one. Many messages that an
+ * office sends together are a pack, for px8_pack.
  *
  * Linking. libboard.a is made for x86-64 and its C calling convention. Of the
  * C library it needs at most memcpy, memmove, memset, memcmp and bcmp.
  *
  * Not checked, since C cannot tell: a pointer that is null or dangling
  * although its length is not 0; a length larger than the buffer; buffers that
- * overlap each other, the message, the piece or the parameters. Each of
+ * overlap each other, the message, the piece, the pack or the parameters. Each of
  * these is undefined behaviour.
  * Every other input is answered, by what it asks for or by a number. A null
  * pointer with length 0 is an empty buffer.
@@ -90,6 +92,9 @@ extern "C" {
 #define PX8_TEXTS 80          /* bytes of the key texts, PX8_KEYS * PX8_KEY_TEXT */
 #define PX8_LINES_MOST 48     /* lines of a screen at most */
 #define PX8_LINE_MARKS 96     /* bytes of the lines' marks, 2 * PX8_LINES_MOST */
+#define PX8_PACK_MOST 60000   /* the longest pack that is taken */
+#define PX8_RECORD_HEAD 4     /* bytes of a record before its body: the body's length and
+                               * the kind, two bytes each, the low one first */
 #define PX8_TRACE_MOST 60000  /* the longest trace that is taken */
 #define PX8_STROKE 9          /* bytes of a record of a trace */
 #define PX8_CODE 5            /* bytes of a code that a trace sends */
@@ -110,13 +115,16 @@ extern "C" {
 
 /* The number of a call: 0, or why the whole call was refused. They are tried
  * in this order: 1, 23 by px8_opening, 1, 2, 3, 16 by px8_message, 1, 2, 3, 15 by
- * px8_piece, 1, 3 by px8_closing, 3, 17 by px8_key_text. */
+ * px8_piece, 1, 3 by px8_closing, 1, 19, 20, 21, 2, 3, 16 by px8_pack, 3, 17 by
+ * px8_key_text. */
 #define PX8_SERVED 0     /* the call was served */
 #define PX8_STORE_SIZE 1 /* cells, layer, shown screen or dots are not of their size */
-#define PX8_TOO_LONG 2   /* the message or piece is longer than PX8_MESSAGE_MOST */
+#define PX8_TOO_LONG 2   /* the message, the piece or a message of the pack is longer
+                          * than PX8_MESSAGE_MOST */
 #define PX8_UNSOUND 3    /* a setting is outside its range (see px8_settings) */
 #define PX8_STREAM_TOO_LONG 15 /* the piece would take the count past PX8_COUNT_MOST */
-#define PX8_BYTES_WAIT 16 /* a message, even an empty one, while bytes of a stream wait */
+#define PX8_BYTES_WAIT 16 /* a message or pack, even an empty one, while bytes of a
+                           * stream wait */
 #define PX8_BAD_KEY_TEXT 17 /* the key is not 1 to PX8_KEYS, or the text not of
                              * PX8_KEY_TEXT bytes */
 
@@ -126,11 +134,15 @@ extern "C" {
  * size), and px8_compare, after 1: */
 #define PX8_LIST_SHORT 18 /* more places differ than the list has records */
 
-/* The number of px8_key_repeats: 0, 3, or one of these, tried in this order,
- * 3 first; each is tried over the whole trace before the next. */
+/* Of a pack and of a trace, each tried over the whole of it before the next: */
+#define PX8_PACK_TOO_LONG 19   /* the pack is longer than PX8_PACK_MOST */
 #define PX8_TRACE_TOO_LONG 19  /* the trace is longer than PX8_TRACE_MOST */
-#define PX8_CUT_RECORD 20      /* a record's head or body runs past the trace's end */
-#define PX8_UNKNOWN_RECORD 21  /* a record's kind is not 1 or 2, or its body not 5 bytes */
+#define PX8_CUT_RECORD 20      /* a record's head or body runs past the end */
+#define PX8_UNKNOWN_RECORD 21  /* of a pack a kind that is not 1; of a trace one that is not
+                                * 1 or 2, or a body not of 5 bytes */
+
+/* The number of px8_key_repeats: 0, 3, 19, 20, 21, or one of these, tried in this
+ * order. */
 #define PX8_TICK_FALLS 24      /* a record's tick is below that of the one before */
 #define PX8_OUTPUT_TOO_SMALL 25 /* the codes need more than the output has */
 
@@ -195,7 +207,7 @@ typedef struct px8_keys {
  * caller that makes or alters settings can meet number 3.
  *
  * held, waiting and count are the stream's. No sequence changes them, and a
- * message leaves them. Only px8_key_text changes the texts, only px8_opening the
+ * message and a pack leave them. Only px8_key_text changes the texts, only px8_opening the
  * rule. Between `waiting` and `count` there is a padding byte of no fixed value, and
  * there are three behind `rule`: compare settings field by field. */
 typedef struct px8_settings {
@@ -250,8 +262,8 @@ typedef struct px8_settings {
  *         where there is no mark, else the code at PX8_PLACES further on is
  *         shown in place of the cell's. Any bytes are accepted.
  * shown   What the display shows: byte PX8_AT(row, column). Every message, piece
- *         and closing that is served paints all 640, an empty one too; the
- *         library never reads it.
+ *         and closing that is served paints all 640, an empty one too, and every
+ *         pack with a record; the library never reads it.
  * dots    The picture of mode 3, row after row of PX8_DOT_ROW bytes, the leftmost
  *         dot in the highest bit: byte PX8_DOT_AT(vertical, horizontal) has it by
  *         PX8_DOT_WEIGHT(horizontal). Only ESC 198 and 199 in mode 3 draw; ESC 42
@@ -386,21 +398,22 @@ typedef struct px8_settings {
 
 /* ---- results ---- */
 
-/* The answer to a message, a piece, a closing or a key text (which takes, reads
- * and prints nothing). Between its fields there are padding bytes of no fixed
+/* The answer to a message, a piece, a closing, a pack or a key text (which takes,
+ * reads and prints nothing). Between its fields there are padding bytes of no fixed
  * value: compare answers field by field. */
 typedef struct px8_answer {
     uint8_t number;    /* PX8_SERVED, or why the whole call was refused: 1, 2, 3, 15,
-                        * 16, 17; sequences may be refused in a call that was served */
+                        * 16, 17, 19, 20, 21; sequences may be refused in a call that
+                        * was served */
     uint32_t taken;    /* bytes taken, if served: all of the message or piece, those
-                        * too that wait; none by closing */
+                        * too that wait; none by closing; of a pack the bodies */
     uint32_t accepted; /* sequences accepted (printed bytes and codes not counted) */
     uint32_t refused;  /* sequences refused */
     uint8_t first;     /* number of the first refusal, 10 to 13; 0 if there is none */
     uint8_t parameter; /* its first bad parameter, from 1, if it is 11; else 0 */
-    uint32_t offset;   /* where its ESC stands, counted from 0: in the message, or
-                        * for a piece and a closing in the stream; 0 if there is
-                        * none */
+    uint32_t offset;   /* where its ESC stands, counted from 0: in the message, also of
+                        * a pack, or for a piece and a closing in the stream; 0 if
+                        * there is none */
     size_t printed;    /* bytes of printed copies: PX8_COPY each, in mode 3 PX8_DOTS */
 } px8_answer;
 
@@ -408,6 +421,14 @@ typedef struct px8_outcome {
     px8_settings settings;
     px8_answer answer;
 } px8_outcome;
+
+/* What px8_pack returns; there are padding bytes after `record`. */
+typedef struct px8_pack_outcome {
+    px8_settings settings;
+    px8_answer answer; /* the counts of all messages together; `offset` is in the body
+                        * of the record below */
+    uint32_t record;   /* the record of the first refusal, from 1; 0 if there is none */
+} px8_pack_outcome;
 
 typedef struct px8_opened {
     px8_settings settings;
@@ -539,9 +560,32 @@ px8_outcome px8_closing(px8_settings settings,
                         uint8_t *dots, size_t dots_length);
 
 /*
+ * Reads the messages of a pack of up to PX8_PACK_MOST bytes, one after the other. A
+ * pack is a row of records: the length of the body and the kind, two bytes each, the
+ * low one first, then the body; kind 1 is a message. It is just as if px8_message had
+ * been called for each body, with the printer room that those before left over: copies
+ * follow each other in the buffer, each message is read by itself (12, and 27, 209 at
+ * the end of its own body), and the shown screen is that of the last. A body may be
+ * empty. A pack without a record is served too, and does nothing: it paints nothing.
+ *
+ * The answer has the counts of all messages together and the first refusal, record
+ * says in which record it is.
+ *
+ * A refused call (answer.number 1, 19, 20, 21, 2, 3 or 16) changes nothing, as with a
+ * message: no message of it is read before the whole pack was looked through.
+ */
+px8_pack_outcome px8_pack(px8_settings settings,
+                          const uint8_t *pack, size_t pack_length,
+                          uint8_t *cells, size_t cells_length,
+                          uint8_t *layer, size_t layer_length,
+                          uint8_t *shown, size_t shown_length,
+                          uint8_t *dots, size_t dots_length,
+                          uint8_t *printer, size_t printer_length);
+
+/*
  * Sets the text of a key, number 1 to PX8_KEYS, to these PX8_KEY_TEXT codes, which
  * may be any. It paints nothing: the text is seen, where the display is 0, from the
- * next message, piece or closing on, and in the copies that these print. It is
+ * next message, piece, closing or pack with a record on, and in the copies that these print. It is
  * served whatever the display is, and while bytes of a stream wait.
  *
  * A refused call (answer.number 3 or 17) returns the settings as they were given.
@@ -609,7 +653,8 @@ px8_repeats px8_key_repeats(px8_settings settings,
  * given the place that the one before returned, from 0 on; the place is then how much
  * of the buffer is to be sent. PX8_SEQUENCE_MOST bytes hold any sequence.
  *
- * What is written is read back as that one sequence by whoever has these settings, and
+ * What is written is read back as that one sequence by whoever has these settings, a copy
+ * where there is room for it, and
  * different sequences never give the same bytes. ESC 209 is always written with its
  * byte: without a parameter it is written with 0.
  *
@@ -695,6 +740,11 @@ PX8_HOLDS(offsetof(px8_answer, printed) == 24);
 PX8_HOLDS(sizeof(px8_outcome) == 520);
 PX8_HOLDS(offsetof(px8_outcome, settings) == 0);
 PX8_HOLDS(offsetof(px8_outcome, answer) == 488);
+
+PX8_HOLDS(sizeof(px8_pack_outcome) == 528);
+PX8_HOLDS(offsetof(px8_pack_outcome, settings) == 0);
+PX8_HOLDS(offsetof(px8_pack_outcome, answer) == 488);
+PX8_HOLDS(offsetof(px8_pack_outcome, record) == 520);
 
 PX8_HOLDS(sizeof(px8_difference) == 4);
 PX8_HOLDS(offsetof(px8_difference, row) == 0);

@@ -13,7 +13,7 @@
 #define STACK (256 * 1024)
 #define FILL 0xA5
 #define MOST 4096        /* what the README says a call takes at most, */
-#define STREAM_MOST 8192 /* and a piece and a closing, which are made of message calls */
+#define STREAM_MOST 8192 /* and a piece, a closing and a pack, which are made of message calls */
 
 static uint8_t cells[PX8_CELLS], layer[PX8_LAYER], shown[PX8_SHOWN], dots[PX8_DOTS], printer[PX8_DOTS];
 static px8_settings settings;
@@ -64,6 +64,16 @@ static void *next(void *unused) {
 static void *closing(void *unused) {
     settings = px8_closing(settings, cells, sizeof cells, layer, sizeof layer, shown, sizeof shown, dots, sizeof dots).settings;
     if (settings.held != 0) abort();
+    return unused;
+}
+
+/* a pack of messages with the deepest ways through each */
+static void *pack(void *unused) {
+    static const uint8_t bytes[] = {5, 0, 1, 0, '3', '8', 27, 80, 10, 0, 0, 1, 0, 13, 0, 1, 0, 27, 208, 2, 10, 20, 35, 27, 210, 1, 1, 90, 27, 80,
+                                    11, 0, 1, 0, 27, 224, 230, 1, 2, 3, 4, 5, 6, 7, 8, 1, 0, 1, 0, 'A'};
+    const px8_pack_outcome out = px8_pack(settings, bytes, sizeof bytes, cells, sizeof cells, layer, sizeof layer, shown, sizeof shown, dots, sizeof dots, printer, sizeof printer);
+    if (out.answer.number != PX8_SERVED || out.answer.printed != 2 * PX8_COPY) abort();
+    settings = out.settings;
     return unused;
 }
 
@@ -122,10 +132,11 @@ int main(void) {
     size_t start = used(piece) - thread;
     size_t rest = used(next) - thread;
     size_t end = used(closing) - thread;
+    size_t many = used(pack) - thread;
     size_t name = used(key_text) - thread;
     size_t lay = used(compare) - thread;
     size_t work = used(repeats) - thread;
     size_t spell = used(writing) - thread;
-    printf("opening %zu\nmessage %zu\ndrawing %zu\npiece %zu\nnext piece %zu\nclosing %zu\nkey text %zu\ncompare %zu\nkey repeats %zu\nwrite %zu\n", open, serve, draw, start, rest, end, name, lay, work, spell);
-    return open <= MOST && serve <= MOST && draw <= MOST && start <= STREAM_MOST && rest <= STREAM_MOST && end <= STREAM_MOST && name <= MOST && lay <= MOST && work <= MOST && spell <= MOST ? 0 : 1;
+    printf("opening %zu\nmessage %zu\ndrawing %zu\npiece %zu\nnext piece %zu\nclosing %zu\npack %zu\nkey text %zu\ncompare %zu\nkey repeats %zu\nwrite %zu\n", open, serve, draw, start, rest, end, many, name, lay, work, spell);
+    return open <= MOST && serve <= MOST && draw <= MOST && start <= STREAM_MOST && rest <= STREAM_MOST && end <= STREAM_MOST && many <= STREAM_MOST && name <= MOST && lay <= MOST && work <= MOST && spell <= MOST ? 0 : 1;
 }

@@ -17,8 +17,8 @@ struct Part {
     list: &'static str,
     /// from below: each is built on some of those before it
     files: &'static [&'static str],
-    /// the file with the calls, and the calls
-    calls: (&'static str, &'static [&'static str]),
+    /// the calls, each by its file
+    calls: &'static [(&'static str, &'static str)],
 }
 
 const PARTS: [Part; 4] = [
@@ -26,29 +26,39 @@ const PARTS: [Part; 4] = [
         name: "terminal",
         breaks: BREAKS,
         list: "BROKEN: &[Functions]",
-        files: &["settings", "dots", "picture", "read", "stream", "sound", "apply", "calls"],
-        calls: ("calls", &["opening", "message", "piece", "closing", "key_text", "printed"]),
+        files: &[
+            "settings", "dots", "picture", "read", "stream", "sound", "apply", "calls", "records", "pack",
+        ],
+        calls: &[
+            ("calls", "opening"),
+            ("calls", "message"),
+            ("calls", "piece"),
+            ("calls", "closing"),
+            ("calls", "key_text"),
+            ("calls", "printed"),
+            ("pack", "pack"),
+        ],
     },
     Part {
         name: "screens",
         breaks: SCREENS,
         list: "BROKEN_SCREENS: &[screens::Functions]",
         files: &["settings", "differences"],
-        calls: ("differences", &["compare", "first_difference"]),
+        calls: &[("differences", "compare"), ("differences", "first_difference")],
     },
     Part {
         name: "traces",
         breaks: TRACES,
         list: "BROKEN_TRACES: &[traces::Functions]",
-        files: &["settings", "sound", "repeats"],
-        calls: ("repeats", &["key_repeats"]),
+        files: &["settings", "sound", "records", "repeats"],
+        calls: &[("repeats", "key_repeats")],
     },
     Part {
         name: "writes",
         breaks: WRITES,
         list: "BROKEN_WRITES: &[writes::Functions]",
         files: &["settings", "dots", "picture", "read", "stream", "sound", "write"],
-        calls: ("write", &["write"]),
+        calls: &[("write", "write")],
     },
 ];
 
@@ -70,8 +80,7 @@ fn copies(part: &Part, sources: &Path) -> String {
     for (number, change) in part.breaks.iter().copied().flatten().enumerate() {
         let module = format!("{}_{number}", part.name);
         text += &copy(&module, part, change, sources);
-        let (file, calls) = part.calls;
-        let calls = calls.iter().map(|call| format!("{call}: {module}::{file}::{call}"));
+        let calls = part.calls.iter().map(|(file, call)| format!("{call}: {module}::{file}::{call}"));
         let calls = calls.collect::<Vec<_>>().join(", ");
         writeln!(list, "    {kind} {{ name: {:?}, {calls} }},", change.name).unwrap();
     }
@@ -89,7 +98,7 @@ fn copy(module: &str, part: &Part, change: &Break, sources: &Path) -> String {
         if change.file == name {
             changed += source.matches(change.old).count();
             source = source.replace(change.old, change.new);
-        } else if !copied.iter().any(|below| source.contains(&format!("super::{below}::"))) {
+        } else if !copied.iter().any(|below| uses(&source, below)) {
             writeln!(text, "pub use reference::{file};").unwrap();
             continue;
         }
@@ -98,4 +107,9 @@ fn copy(module: &str, part: &Part, change: &Break, sources: &Path) -> String {
     }
     assert_eq!(changed, 1, "break {}: its passage must stand once in {}", change.name, change.file);
     text + "}\n"
+}
+
+/// Whether a file names another, by its items or as a whole.
+fn uses(source: &str, below: &str) -> bool {
+    [";", "::"].iter().any(|end| source.contains(&format!("super::{below}{end}")))
 }

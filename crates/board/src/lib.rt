@@ -1,5 +1,5 @@
 // The calls of the terminal for a board's firmware, in C or Rust: structures by value, slices as pointer and length. Each promises what the terminal's
-// own call does; c/px8.h says it for C. The crates `stream` and `aside` have the others: each is an object of its own in the archive, so that what a
+// own call does; c/px8.h says it for C. The crates `stream`, `packs` and `aside` have the others: each is an object of its own in the archive, so that what a
 // message asks of the settings has no other caller here, and a compiler works it out where the message is served.
 ghost use mathlib.Core.Path.{_≡_};
 ghost use lib.ListN.{length};

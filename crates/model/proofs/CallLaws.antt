@@ -7,7 +7,7 @@ use mathlib.Core.Bool.{Bool, _&&_, _||_, cond, false, true}
 use mathlib.Core.List.{List, [], _∷_}
 use lib.ListN.{getD, length, length-replicate, replicate}
 use lib.Dec.{eqb, leb}
-use borrow.Author.Tests.{eq-eqb, eqb-true, leb-true}
+use borrow.Author.Tests.{eq-eqb, eqb-true, le-leb, leb-true}
 use Rattle.model.specs.declared.Answer.{Answer}
 use Rattle.model.specs.declared.Item.{Item}
 use Rattle.model.specs.declared.Item.the-variants.{Control, Printed, Refused, Sequence}
@@ -18,9 +18,11 @@ use Rattle.model.specs.Line.{heldIn, limit, padded}
 use Rattle.model.specs.Marks.{markOf}
 use Rattle.model.specs.Sound.{Good, Inside, Sound, arrayRanges, keyRanges, mode0, plainRanges, aloneRanges}
 use Rattle.model.specs.Picture.{painting, picture, pictureAt}
-use Rattle.model.specs.Reading.{Read, remaining}
-use Rattle.model.specs.Items.{Event, applyAll, blankAnswer, copies, counted, countedAll, eventsOf}
-use Rattle.model.specs.Calls.{Asked, Call, Promised, Reason, Request, Terminal, accepted, allFree, answerOf, closing, countable, eventsBy, eventsIn, firstOf, itemBytes, besideItems, keyText, keyable, message, noneWaits, numberOf, ownReasons, paints?, piece, printedBy, readsBy, readsIn, reason, reasons, request, requestOf, served, short, shownAfter, sized, soundIn, startOf, takenBy, takenIn, terminal}
+use Rattle.model.specs.Reading.{Read, remaining, uncut}
+use Rattle.model.specs.Records.{uncut?}
+use Rattle.model.specs.Packs.{readsEach, recordFrom}
+use Rattle.model.specs.Items.{Event, applyAll, blankAnswer, copies, counted, countedAll, eventsOf, readsOf}
+use Rattle.model.specs.Calls.{Asked, Call, Promised, Reason, Request, Terminal, accepted, allFree, answerOf, besideItems, closing, countable, eventsBy, eventsIn, firstOf, keyText, keyable, knownIn, message, noneWaits, numberOf, ownReasons, pack, packable, packed?, packedBy, paints?, piece, printedBy, readsBy, readsIn, reason, reasons, recordOf, request, requestOf, served, short, shortIn, shownAfter, sized, soundIn, takenBy, takenIn, terminal}
 use Rattle.model.specs.Opening.{openedBy, openedTerminal, openingNumber, ruled, unopened}
 use Rattle.model.specs.Claims.{Shown}
 use Rattle.model.specs.Demand.{Opening, Resumed}
@@ -29,9 +31,9 @@ use Rattle.model.proofs.ByteLaws.{getD-listFrom, length-listFrom}
 use Rattle.model.proofs.LineLaws.{sound-padded, sound-piece, sound-quiet, true-line}
 use Rattle.model.proofs.MarkLaws.{none-marked}
 use Rattle.model.proofs.SoundLaws.{sound-true, true-sound}
-use Rattle.model.proofs.Events.{AllLegal, legal-append, legal-reads}
+use Rattle.model.proofs.Events.{AllLegal, events-append, legal-append, legal-reads}
 use Rattle.model.proofs.Gathering.{none-unfinished}
-use Rattle.model.proofs.Printing.{printed-reads, reads-accepted}
+use Rattle.model.proofs.Printing.{printed-reads, reads-accepted, reads-either}
 use Rattle.model.proofs.Quickly.{below, byRows, overlaid, row, rowsFrom}
 use Rattle.model.proofs.PaintLaws.{painted-by-rows}
 
@@ -42,6 +44,13 @@ free-number [] e = refl
 free-number (r ∷ rs) e =
     elim-at (λ (n : ℕ). n ≡ 0) (r .free) (firstOf rs) (r .number) (λ f. free-number rs (and-right (r .free) (allFree rs) e))
     (λ f. absurd (differ (sym (and-left (r .free) (allFree rs) e) ∙ f)))
+
+-- where no reason applies, reason i, from 0, does not
+free-at : (rs : List Reason) (i : ℕ) → allFree rs ≡ true → getD rs i (reason 0 true) .free ≡ true
+unfolding allFree
+free-at [] i e = refl
+free-at (r ∷ rs) zero e = and-left (r .free) (allFree rs) e
+free-at (r ∷ rs) (suc i) e = free-at rs i (and-right (r .free) (allFree rs) e)
 
 pub number-accepted : (t : Terminal) (q : Request) → accepted t q ≡ true → numberOf t q ≡ 0
 unfolding accepted numberOf
@@ -67,6 +76,7 @@ numbered-reasons t (message m) = (omega arith, (omega arith, (omega arith, (omeg
 numbered-reasons t (piece m) = (omega arith, (omega arith, (omega arith, (omega arith, tt))))
 numbered-reasons t closing = (omega arith, (omega arith, tt))
 numbered-reasons t (keyText k x) = (omega arith, (omega arith, tt))
+numbered-reasons t (pack p) = (omega arith, (omega arith, (omega arith, (omega arith, (omega arith, (omega arith, (omega arith, tt)))))))
 
 pub accepted-number : (t : Terminal) (q : Request) → numberOf t q ≡ 0 → accepted t q ≡ true
 unfolding accepted numberOf
@@ -92,6 +102,19 @@ refused-answer t q e = ap (λ (b : Bool). countedAll (cond b (readsBy t q) []) (
 pub refused-prints : (t : Terminal) (q : Request) → accepted t q ≡ false → printedBy t q ≡ []
 unfolding printedBy eventsIn copies
 refused-prints t q e = ap (λ (b : Bool). copies (cond b (eventsBy t q) []) (t .state)) e
+
+-- P6: and no record; nor has one that is no pack
+pub refused-record : (t : Terminal) (q : Request) → accepted t q ≡ false → recordOf t q ≡ 0
+unfolding recordOf
+refused-record t q e = ap (λ (b : Bool). cond (packed? (q .asked) && b) (recordFrom 1 (packedBy (q .asked)) (t .state) (q .room)) 0) e ∙ go (packed? (q .asked))
+  where
+    go : (b : Bool) → cond (b && false) (recordFrom 1 (packedBy (q .asked)) (t .state) (q .room)) 0 ≡ 0
+    go true = refl
+    go false = refl
+
+pub plain-record : (t : Terminal) (q : Request) → packed? (q .asked) ≡ false → recordOf t q ≡ 0
+unfolding recordOf
+plain-record t q e = ap (λ (b : Bool). cond (b && accepted t q) (recordFrom 1 (packedBy (q .asked)) (t .state) (q .room)) 0) e
 
 -- of an accepted call
 unfoldable pub after : Terminal → Request → Terminal
@@ -140,17 +163,15 @@ state-served t q = refl
 -- an accepted call was given sound settings, and, but for a key call, stores of their sizes; a piece is within the limit, a message is read
 -- while none waits, and a key and its text are what they must be
 sound-in : (t : Terminal) (q : Request) → accepted t q ≡ true → (paints? (q .asked) ≡ true → sized t ≡ true) × (soundIn t ≡ true)
-unfolding accepted reasons allFree
+unfolding accepted reasons
 sound-in t q e = go (q .asked) e
   where
-    three : (p a b c d : Bool) → (a && (b && (c && (d && true)))) ≡ true → (p ≡ true → a ≡ true) × (c ≡ true)
-    three p a b c d e = let z = and-right b _ (and-right a _ e) in (λ h. and-left a _ e, and-left c _ z)
-
     go : (a : Asked) → allFree (reasons t a) ≡ true → (paints? a ≡ true → sized t ≡ true) × (soundIn t ≡ true)
-    go (message m) e = three true (sized t) (short m) (soundIn t) (noneWaits (t .state .settings)) e
-    go (piece m) e = three true (sized t) (short m) (soundIn t) (countable (t .state .settings) m) e
-    go closing e = (λ h. and-left (sized t) _ e, and-left (soundIn t) _ (and-right (sized t) _ e))
-    go (keyText k x) e = (λ h. absurd (differ (sym h)), and-left (soundIn t) _ e)
+    go (message m) e = (λ h. free-at (reasons t (message m)) 0 e, free-at (reasons t (message m)) 2 e)
+    go (piece m) e = (λ h. free-at (reasons t (piece m)) 0 e, free-at (reasons t (piece m)) 2 e)
+    go closing e = (λ h. free-at (reasons t closing) 0 e, free-at (reasons t closing) 1 e)
+    go (keyText k x) e = (λ h. absurd (differ (sym h)), free-at (reasons t (keyText k x)) 0 e)
+    go (pack p) e = (λ h. free-at (reasons t (pack p)) 0 e, free-at (reasons t (pack p)) 5 e)
 
 pub accepted-sized : (t : Terminal) (q : Request) → accepted t q ≡ true → paints? (q .asked) ≡ true → sized t ≡ true
 accepted-sized t q e = sound-in t q e .0
@@ -160,16 +181,27 @@ unfolding soundIn
 accepted-sound t q e = sound-true (t .state .settings) (sound-in t q e .1)
 
 pub accepted-counts : (t : Terminal) (m : List ℕ) (room : ℕ) → accepted t (request (piece m) room) ≡ true → t .state .settings .count + length m ≤ limit
-unfolding accepted reasons allFree countable
-accepted-counts t m room e = leb-true _ _ (and-left (leb (t .state .settings .count + length m) limit) true (and-right (soundIn t) _ (and-right (short m) _ (and-right (sized t) _ e))))
+unfolding accepted reasons countable
+accepted-counts t m room e = leb-true _ _ (free-at (reasons t (piece m)) 3 e)
 
 pub accepted-quiet : (t : Terminal) (m : List ℕ) (room : ℕ) → accepted t (request (message m) room) ≡ true → t .state .settings .held ≡ 0
-unfolding accepted reasons allFree noneWaits
-accepted-quiet t m room e = eqb-true _ _ (and-left (eqb (t .state .settings .held) 0) true (and-right (soundIn t) _ (and-right (short m) _ (and-right (sized t) _ e))))
+unfolding accepted reasons noneWaits
+accepted-quiet t m room e = eqb-true _ _ (free-at (reasons t (message m)) 3 e)
 
 pub accepted-keyable : (t : Terminal) (k : ℕ) (x : List ℕ) (room : ℕ) → accepted t (request (keyText k x) room) ≡ true → keyable k x ≡ true
-unfolding accepted reasons allFree
-accepted-keyable t k x room e = and-left (keyable k x) true (and-right (soundIn t) _ e)
+unfolding accepted reasons
+accepted-keyable t k x room e = free-at (reasons t (keyText k x)) 1 e
+
+-- P6: a pack, that all its messages are short, and that none waits
+pub accepted-pack : (t : Terminal) (p : List ℕ) (room : ℕ) → accepted t (request (pack p) room) ≡ true → (sized t ≡ true) × (shortIn p ≡ true) × (t .state .settings .held ≡ 0)
+unfolding accepted reasons noneWaits
+accepted-pack t p room e = let rs = reasons t (pack p) in (free-at rs 0 e, free-at rs 4 e, eqb-true _ _ (free-at rs 6 e))
+
+-- and a message that is short is accepted while none waits
+pub message-accepted : (t : Terminal) (m : List ℕ) (room : ℕ) → sized t ≡ true → Sound (t .state .settings) → t .state .settings .held ≡ 0 → length m ≤ 4096 → accepted t (request (message m) room) ≡ true
+unfolding accepted reasons allFree soundIn noneWaits
+message-accepted t m room z s q l =
+    and-both (sized t) _ z (and-both (short m) _ (le-leb _ _ l) (and-both (soundIn t) _ (true-sound (t .state .settings) s) (and-both (eqb (t .state .settings .held) 0) true (eq-eqb _ _ q) refl)))
 
 -- what a call leaves of the line is sound, and a text that it sets has its place
 legal-moved : (t : Terminal) (a : Asked) (room : ℕ) → accepted t (request a room) ≡ true → (st : State) → AllLegal (besideItems (t .state .settings) a) st
@@ -181,13 +213,21 @@ legal-moved t (piece m) room e st =
     (true-line (padded r) (length r) (s .count + length m) (sound-piece (s .waiting) (s .held) (s .count) (accepted-sound t (request (piece m) room) e .line) m (accepted-counts t m room e)), tt)
 legal-moved t closing room e st = (true-line (padded []) 0 0 (sound-padded [] 0 none-unfinished (omega arith) (omega arith)), tt)
 legal-moved t (keyText k x) room e st = (accepted-keyable t k x room e, tt)
+legal-moved t (pack p) room e st = tt
 
 -- what happens in a call is legal
+legal-each : (ms : List (List ℕ)) (st : State) (room : ℕ) → AllLegal (eventsOf (readsEach ms st room)) st
+unfolding readsEach
+legal-each [] st room = tt
+legal-each (m ∷ ms) st room =
+    let rs : List Read = readsOf (uncut m) 0 st room in
+    subst (λ (es : List Event). AllLegal es st) (sym (events-append rs _)) (legal-append (eventsOf rs) _ st (legal-reads (uncut m) 0 st room) (legal-each ms (applyAll (eventsOf rs) st) _))
+
 pub legal-in : (t : Terminal) (q : Request) → AllLegal (eventsIn t q) (t .state)
-unfolding readsBy eventsIn eventsBy
+unfolding eventsIn eventsBy
 legal-in t q = cond-at (λ (es : List Event). AllLegal es (t .state)) (accepted t q) _ _
     (λ e. legal-append (eventsOf (readsBy t q)) (besideItems (t .state .settings) (q .asked)) (t .state)
-    (legal-reads (itemBytes (t .state .settings) (q .asked)) (startOf (t .state .settings) (q .asked)) (t .state) (q .room))
+    (reads-either (λ rs. AllLegal (eventsOf rs) (t .state)) t q (λ ms. legal-each ms (t .state) (q .room)) (λ bss at. legal-reads bss at (t .state) (q .room)))
     (legal-moved t (q .asked) (q .room) e (applyAll (eventsOf (readsBy t q)) (t .state)))) (λ e. tt)
 
 -- the shown screen: a painted one shows the picture
@@ -215,6 +255,15 @@ pub sized-good : (t : Terminal) → Good (t .state) → length (t .shown) ≡ 64
 unfolding sized
 sized-good t g e = and-both (eqb (length (t .state .cells)) 3840) _ (eq-eqb _ _ (g .cells-are)) (and-both (eqb (length (t .state .layer)) 1280) _ (eq-eqb _ _ (g .layer-are)) (and-both (eqb (length (t .state .dots)) 3840) (eqb (length (t .shown)) 640) (eq-eqb _ _ (g .dots-are)) (eq-eqb _ _ e)))
 
+pub sizes : (t : Terminal) → sized t ≡ true → Sound (t .state .settings) → (Good (t .state)) × (length (t .shown) ≡ 640)
+unfolding sized
+sizes t e h =
+    let e₂ = and-right (eqb (length (t .state .cells)) 3840) _ e in
+    let e₃ = and-right (eqb (length (t .state .layer)) 1280) _ e₂ in (
+      record { sound = h; cells-are = eqb-true _ _ (and-left _ _ e); layer-are = eqb-true _ _ (and-left _ _ e₂); dots-are = eqb-true _ _ (and-left _ _ e₃) },
+      eqb-true _ _ (and-right (eqb (length (t .state .dots)) 3840) _ e₃),
+    )
+
 pub sound-good : (t : Terminal) → Good (t .state) → soundIn t ≡ true
 unfolding soundIn
 sound-good t g = true-sound (t .state .settings) (g .sound)
@@ -228,6 +277,7 @@ number-good t q g e = go (q .asked)
     go (piece m) = λ i. firstOf (reason 1 (sized-good t g e i) ∷ reason 2 (short m) ∷ reason 3 (sound-good t g i) ∷ reason 15 (countable (t .state .settings) m) ∷ [])
     go closing = λ i. firstOf (reason 1 (sized-good t g e i) ∷ reason 3 (sound-good t g i) ∷ [])
     go (keyText k x) = λ i. firstOf (reason 3 (sound-good t g i) ∷ reason 17 (keyable k x) ∷ [])
+    go (pack p) = λ i. firstOf (reason 1 (sized-good t g e i) ∷ reason 19 (packable p) ∷ reason 20 (uncut? p) ∷ reason 21 (knownIn p) ∷ reason 2 (shortIn p) ∷ reason 3 (sound-good t g i) ∷ reason 16 (noneWaits (t .state .settings)) ∷ [])
 
 -- what an accepted opening leaves, with either rule: blank, and the picture is blank
 ruled-range : (rule : ℕ) → ruled rule ≡ true → Passes (range 1 rule 2)

@@ -19,7 +19,7 @@ use Rattle.model.specs.Marks.{markOf}
 use Rattle.model.specs.Line.{LineSound, line?, padded}
 use Rattle.model.specs.Sound.{Good, arrayRanges, keyRanges, plainRanges}
 use Rattle.model.specs.Sequences.{codeOf}
-use Rattle.model.specs.Reading.{byteOf, itemOf}
+use Rattle.model.specs.Reading.{Read, byteOf, itemOf}
 use Rattle.model.specs.declared.Limits.{Limits}
 use Rattle.model.specs.Judging.{allowed, badOf, fitting, judged, legal?, legalItem?, limitsOf}
 use Rattle.model.specs.Rules.{applyItem, withSettings}
@@ -67,6 +67,14 @@ pub apply-append : (es fs : List Event) (a : State) → applyAll (es ++ fs) a �
 unfolding applyAll
 apply-append [] fs a = refl
 apply-append (e ∷ es) fs a = apply-append es fs (happened e a)
+
+-- and of what is read
+pub events-append : (xs ys : List Read) → eventsOf (xs ++ ys) ≡ eventsOf xs ++ eventsOf ys
+events-append [] ys = refl
+events-append (x ∷ xs) ys = ap (λ (l : List Event). itemRead x ∷ l) (events-append xs ys)
+
+pub applied-append : (xs ys : List Read) (st : State) → applyAll (eventsOf (xs ++ ys)) st ≡ applyAll (eventsOf ys) (applyAll (eventsOf xs) st)
+applied-append xs ys st = ap (λ (es : List Event). applyAll es st) (events-append xs ys) ∙ apply-append (eventsOf xs) (eventsOf ys) st
 
 pub legal-append : (es fs : List Event) (a : State) → AllLegal es a → AllLegal fs (applyAll es a) → AllLegal (es ++ fs) a
 unfolding applyAll

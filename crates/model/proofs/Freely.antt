@@ -17,7 +17,7 @@ use Rattle.model.specs.Sequences.{codeOf}
 use Rattle.model.specs.Reading.{Read, byteOf, gathered, itemOf, lastly, remaining}
 use Rattle.model.specs.Judging.{allowed, fitting, limitsOf}
 use Rattle.model.specs.Rules.{withSettings}
-use Rattle.model.specs.Items.{Event, applyAll, eventsOf, happened, itemRead, lined, obeyedBy, printerBytes, read, readsOf}
+use Rattle.model.specs.Items.{applyAll, eventsOf, happened, lined, obeyedBy, printerBytes, read, readsOf}
 use Rattle.model.specs.Stream.{met13, roomless}
 use Rattle.model.proofs.Tests.{differ, or-false}
 use Rattle.model.proofs.Gathering.{gathered-append}
@@ -54,10 +54,6 @@ reads-free (bs ∷ bss) at st room e =
     let same : r ≡ free at bs st = ap (λ (i : Item). record { at = at; item = i; bytes = bs; prints = printerBytes (st .settings .mode) i }) (fits (st .settings .mode) (allowed (itemOf at bs) (limitsOf (st .settings))) room (z .0)) in
     let z₂ : met13 (more (free at bs st)) ≡ false = subst (λ (x : Read). met13 (more x) ≡ false) same (z .1) in
     ap (λ (x : Read). x ∷ more x) same ∙ ap (λ (l : List Read). free at bs st ∷ l) (reads-free bss _ _ _ z₂)
-
-pub events-append : (xs ys : List Read) → eventsOf (xs ++ ys) ≡ eventsOf xs ++ eventsOf ys
-events-append [] ys = refl
-events-append (x ∷ xs) ys = ap (λ (l : List Event). itemRead x ∷ l) (events-append xs ys)
 
 freely-append : (xs ys : List (List ℕ)) (at : ℕ) (st : State) → freely (xs ++ ys) at st ≡ freely xs at st ++ freely ys (at + length (joined xs)) (applyAll (eventsOf (freely xs at st)) st)
 unfolding freely applyAll happened joined

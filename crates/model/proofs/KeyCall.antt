@@ -12,7 +12,7 @@ use Rattle.model.specs.Rules.{withSettings}
 use Rattle.model.specs.Items.{blankAnswer, copies, countedAll, readsOf, texted}
 use Rattle.model.specs.Calls.{KeyPromised, Request, Terminal, accepted, allFree, firstOf, itemBytes, keyText, keyable, keyed, numberOf, readsBy, reason, reasons, request, served, soundIn, takenBy, terminal}
 use Rattle.model.proofs.Tests.{and-both}
-use Rattle.model.proofs.CallLaws.{accepted-answer, accepted-prints}
+use Rattle.model.proofs.CallLaws.{accepted-answer, accepted-prints, plain-record}
 use Rattle.model.proofs.LineAfter.{leaves-texted}
 use Rattle.model.proofs.Promises.{promised-none}
 
@@ -42,6 +42,7 @@ module _ (k : ℕ) (x : List ℕ) (s : Settings) where
       let z : served d asked ≡ record { state = texted k x (d .state); shown = shown } = leaves-texted d k x 0 ok in
       record {
         answer-is = a ∙ sym (accepted-answer d asked ok);
+        record-is = sym (plain-record d asked refl);
         settings-are = l ∙ sym (ap (λ (y : Terminal). y .state .settings) z);
         cells-are = sym (ap (λ (y : Terminal). y .state .cells) z);
         layer-is = sym (ap (λ (y : Terminal). y .state .layer) z);
@@ -55,4 +56,4 @@ module _ (k : ℕ) (x : List ℕ) (s : Settings) where
       → left ≡ s → answer ≡ blankAnswer keyNumber 0 → KeyPromised k x s answer left
   promised-key-refused answer left e l a cells layer dots shown =
       promised-none (keyed k x s answer left cells layer dots shown) (accepted-here cells layer dots shown ∙ e) (λ i. terminal (l i) cells layer dots shown)
-      (a ∙ ap (λ (n : ℕ). blankAnswer n 0) (sym (number-here cells layer dots shown))) refl
+      (a ∙ ap (λ (n : ℕ). blankAnswer n 0) (sym (number-here cells layer dots shown))) refl refl

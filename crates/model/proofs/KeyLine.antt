@@ -11,14 +11,15 @@ use Rattle.model.specs.Screens.{base, cellAt, columnsOf, lineAt, placeOf
 use Rattle.model.specs.Picture.{covered, halves, pictureAt, sides, textAt, under, windowAt}
 use Rattle.model.specs.Rules.{withSettings}
 use Rattle.model.specs.Items.{texted}
-use Rattle.model.specs.Calls.{Asked, Request, Terminal, accepted, closing, keyText, message, paints?, piece, request, served}
-use Rattle.model.specs.Claims.{Shown, ShownIn, aboveRow8, claimedBy}
+use Rattle.model.specs.Packs.{bodiesOf, some?}
+use Rattle.model.specs.Calls.{Asked, Request, Terminal, accepted, closing, keyText, message, pack, paints?, piece, request, served}
+use Rattle.model.specs.Claims.{Shown, ShownIn, aboveRow8, claimedBy, claims, unclaims?}
 use Rattle.model.specs.Demand.{claimed, stands}
-use Rattle.model.proofs.Tests.{and-both, and-left, and-right, cond-at}
+use Rattle.model.proofs.Tests.{and-both, and-left, and-right, cond-at, differ}
 use Rattle.model.proofs.Keep.{rows-low}
 use Rattle.model.proofs.Places.{under-text}
 use Rattle.model.proofs.CallLaws.{refused-leaves, shown-accepted}
-use Rattle.model.proofs.LineAfter.{leaves-texted}
+use Rattle.model.proofs.LineAfter.{leaves-none, leaves-texted}
 
 -- a key's text is not seen above row 8
 text-texted : (k : ℕ) (x : List ℕ) (st : State) (r c : ℕ) → textAt (texted k x st) r c ≡ textAt st r c
@@ -51,14 +52,23 @@ module _ (t : Terminal) (room : ℕ) (c : ℕ → Bool) (h : ShownIn c t) where
   after-refused a e =
       let q : Request = request a room in
       subst (ShownIn (claimedBy t q c)) (sym (refused-leaves t q e))
-      (subst (λ (b : Bool). ShownIn (λ p. cond b (paints? a || (c p && aboveRow8 p)) (c p)) t) (sym e) h)
+      (subst (λ (b : Bool). ShownIn (λ p. cond b (claims a c p) (c p)) t) (sym e) h)
 
   after-key : (k : ℕ) (x : List ℕ) → accepted t (request (keyText k x) room) ≡ true → ShownIn (claimedBy t (request (keyText k x) room) c) (served t (request (keyText k x) room))
-  unfolding claimedBy
+  unfolding claimedBy claims
   after-key k x e =
       let q : Request = request (keyText k x) room in
       subst (ShownIn (claimedBy t q c)) (sym (leaves-texted t k x room e))
       (subst (λ (b : Bool). ShownIn (λ p. cond b (c p && aboveRow8 p) (c p)) (record { state = texted k x (t .state); shown = t .shown })) (sym e) (shown-key t k x c h))
+
+  after-pack : (p : List ℕ) → accepted t (request (pack p) room) ≡ true → ShownIn (claimedBy t (request (pack p) room) c) (served t (request (pack p) room))
+  unfolding claimedBy claims
+  after-pack p e = go (bodiesOf p) refl
+    where
+      go : (ms : List (List ℕ)) → bodiesOf p ≡ ms → ShownIn (claimedBy t (request (pack p) room) c) (served t (request (pack p) room))
+      go [] n =
+          subst (ShownIn (claimedBy t (request (pack p) room) c)) (sym (leaves-none t p room e n)) (subst (λ (b : Bool). ShownIn (λ k. cond b (some? (bodiesOf p) || c k) (c k)) t) (sym e) (subst (λ (ms : List (List ℕ)). ShownIn (λ k. some? ms || c k) t) (sym n) h))
+      go (m ∷ ms) n = after-painting (pack p) (ap some? n) e
 
   shown-asked : (a : Asked) → ShownIn (claimedBy t (request a room) c) (served t (request a room))
   shown-asked a = go (accepted t (request a room)) refl a refl
@@ -70,20 +80,41 @@ module _ (t : Terminal) (room : ℕ) (c : ℕ → Bool) (h : ShownIn c t) where
       go true e closing f = after-painting a (ap paints? f) e
       go true e (keyText k x) f =
           subst (λ (y : Asked). ShownIn (claimedBy t (request y room) c) (served t (request y room))) (sym f) (after-key k x (subst (λ (y : Asked). accepted t (request y room) ≡ true) f e))
+      go true e (pack p) f =
+          subst (λ (y : Asked). ShownIn (claimedBy t (request y room) c) (served t (request y room))) (sym f) (after-pack p (subst (λ (y : Asked). accepted t (request y room) ≡ true) f e))
 
 pub shown-stands : (qs : List Request) (t : Terminal) (c : ℕ → Bool) → ShownIn c t → ShownIn (claimed t qs c) (stands t qs)
 unfolding stands claimed
 shown-stands [] t c h = h
 shown-stands (q ∷ qs) t c h = shown-stands qs (served t q) (claimedBy t q c) (shown-asked t (q .room) c h (q .asked))
 
+-- a shown screen that shows the picture shows it after any accepted call but a key call
+pub shown-served : (t : Terminal) (a : Asked) (room : ℕ) → Shown t → unclaims? a ≡ false → accepted t (request a room) ≡ true → Shown (served t (request a room))
+shown-served t (message m) room s f e = shown-accepted t (request (message m) room) e refl
+shown-served t (piece m) room s f e = shown-accepted t (request (piece m) room) e refl
+shown-served t closing room s f e = shown-accepted t (request closing room) e refl
+shown-served t (keyText k x) room s f e = absurd (differ f)
+shown-served t (pack p) room s f e = go (bodiesOf p) refl
+  where
+    go : (ms : List (List ℕ)) → bodiesOf p ≡ ms → Shown (served t (request (pack p) room))
+    go [] n = subst Shown (sym (leaves-none t p room e n)) s
+    go (m ∷ ms) n = shown-accepted t (request (pack p) room) e (ap some? n)
+
 -- a place above row 8 that is claimed stays claimed
 claimed-step : (t : Terminal) (q : Request) (c : ℕ → Bool) (p : ℕ) → aboveRow8 p ≡ true → c p ≡ true → claimedBy t q c p ≡ true
-unfolding claimedBy
-claimed-step t q c p u e = cond-at (λ (b : Bool). b ≡ true) (accepted t q) _ _ (λ z. go (paints? (q .asked))) (λ z. e)
+unfolding claimedBy claims
+claimed-step t q c p u e = cond-at (λ (b : Bool). b ≡ true) (accepted t q) _ _ (λ z. go (q .asked)) (λ z. e)
   where
-    go : (b : Bool) → (b || (c p && aboveRow8 p)) ≡ true
-    go true = refl
-    go false = and-both (c p) (aboveRow8 p) e u
+    some : (b : Bool) → (b || c p) ≡ true
+    some true = refl
+    some false = e
+
+    go : (a : Asked) → claims a c p ≡ true
+    go (message m) = refl
+    go (piece m) = refl
+    go closing = refl
+    go (keyText k x) = and-both (c p) (aboveRow8 p) e u
+    go (pack b) = some (some? (bodiesOf b))
 
 claimed-above : (qs : List Request) (t : Terminal) (c : ℕ → Bool) (p : ℕ) → aboveRow8 p ≡ true → c p ≡ true → claimed t qs c p ≡ true
 unfolding claimed

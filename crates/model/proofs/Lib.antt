@@ -33,6 +33,7 @@ pub mod ShownPlace
 pub mod KeyLine
 pub mod KeyCall
 pub mod KeyLaws
+pub mod OneByOne
 pub mod Theorem
 pub mod Parameters
 pub mod Former
@@ -40,11 +41,13 @@ pub mod Freely
 pub mod Sums
 pub mod Flow
 pub mod Uncut
+pub mod Sending
 pub mod Offsets
 pub mod Wholes
 pub mod Joining
 pub mod Bounds
 pub mod Parts
+pub mod PackLoop
 pub mod Witness
 pub mod DotLaws
 pub mod DotsStay

@@ -21,10 +21,13 @@ use Rattle.model.specs.Checks.{Check, firstBad, free, inRanges?, member,
 use Rattle.model.specs.Sequences.{Row, codeOf, find, modeRowOf, modeRows, refusal, rowOf, rows}
 use Rattle.model.specs.State.{State}
 use Rattle.model.specs.Picture.{copySizeOf}
-use Rattle.model.specs.Reading.{Read, decoded, ended, itemOf, kindOf, unfinished?}
+use Rattle.model.specs.Reading.{Read, decoded, ended, itemOf, kindOf, uncut, unfinished?}
+use Rattle.model.specs.Packs.{readsEach}
 use Rattle.model.specs.Judging.{allowed, badOf, fitting, judged, judgedRanges, legal?, limitsOf, ranges}
 use Rattle.model.specs.Items.{blankAnswer, counted, countedAll, obeyedBy, read, readsOf}
-use Rattle.model.specs.Calls.{Request, Terminal, accepted, answerOf, numberOf, readsBy, readsIn, requestOf, takenIn}
+use Rattle.model.specs.Calls.{Request, Terminal, accepted, answerOf, numberOf, readsIn, requestOf, takenIn}
+use Rattle.model.proofs.Printing.{reads-either}
+use Rattle.model.proofs.Sums.{counted-append}
 use Rattle.model.specs.Claims.{isRefusal}
 use Rattle.model.specs.Demand.{stood}
 use Rattle.model.specs.Parameters.{FirstBad, FirstRefusal, Named, NamedItem, Naming, behind, here, none, sentAt, valuesOf}
@@ -167,11 +170,21 @@ all-named (bs ∷ bss) at st room a g =
 none-named : Named 0 0
 none-named = record { eleven = λ e. absurd (omega arith); another = λ e. refl }
 
+-- P6: of messages one after the other too
+each-named : (ms : List (List ℕ)) (st : State) (room : ℕ) (a : Answer) → Named (a .first) (a .parameter) → let b = countedAll (readsEach ms st room) a in Named (b .first) (b .parameter)
+unfolding countedAll readsEach
+each-named [] st room a g = g
+each-named (m ∷ ms) st room a g =
+    let rs : List Read = readsOf (uncut m) 0 st room in
+    subst (λ (b : Answer). Named (b .first) (b .parameter)) (sym (counted-append rs _ a)) (each-named ms _ _ (countedAll rs a) (all-named (uncut m) 0 st room a g))
+
 answer-named : (t : Terminal) (q : Request) → Named (answerOf t q .first) (answerOf t q .parameter)
-unfolding answerOf readsIn readsBy countedAll
+unfolding answerOf readsIn countedAll
 answer-named t q =
-    cond-at (λ (rs : List Read). let a = countedAll rs (blankAnswer (numberOf t q) (takenIn t q)) in Named (a .first) (a .parameter)) (accepted t q) _ []
-    (λ e. all-named _ _ (t .state) (q .room) (blankAnswer (numberOf t q) (takenIn t q)) none-named) (λ e. none-named)
+    let none : Answer = blankAnswer (numberOf t q) (takenIn t q) in
+    let Names : List Read → Type 0 = λ rs. Named (countedAll rs none .first) (countedAll rs none .parameter) in
+    cond-at Names (accepted t q) _ []
+    (λ e. reads-either Names t q (λ ms. each-named ms (t .state) (q .room) none none-named) (λ bss at. all-named bss at (t .state) (q .room) none none-named)) (λ e. none-named)
 
 -- once an item is refused, what is first stays
 kept-first : (i : Item) (at n : ℕ) (a : Answer) → eqb (a .refused) 0 ≡ false

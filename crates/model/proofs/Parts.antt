@@ -22,12 +22,12 @@ use Rattle.model.specs.Calls.{Terminal, accepted, answerOf, itemBytes, p
 use Rattle.model.specs.Claims.{countAfter, waitsAfter}
 use Rattle.model.specs.Stream.{together}
 use Rattle.model.proofs.Gathering.{joined-uncut}
-use Rattle.model.proofs.Printing.{length-copy}
+use Rattle.model.proofs.Events.{applied-append}
+use Rattle.model.proofs.Printing.{length-copy, prints-append}
 use Rattle.model.proofs.CallLaws.{accepted-answer, accepted-prints}
 use Rattle.model.proofs.LineAfter.{leaves-lined}
 use Rattle.model.proofs.Offsets.{further, further-counts, further-effect, further-prints}
 use Rattle.model.proofs.Sums.{joint}
-use Rattle.model.proofs.Flow.{applied-append, prints-append}
 
 -- reading goes on where it stopped: from the next offset, from what stands then, in the room that is left
 pub reads-append : (xs ys : List (List ℕ)) (at : ℕ) (st : State) (room : ℕ) → let rs = readsOf xs at st room in

@@ -3,7 +3,7 @@ use mathlib.Core.Path.{_∙_, _≡_, ap, refl, subst, sym}
 use Prim.Native.Nat.{_*_, _+_, _-_, _≤_, max, suc, zero, ℕ}
 use native.Mathlib.Nat.{add-zero, zero-add}
 use native.Mathlib.Omega.{arith}
-use mathlib.Core.Bool.{Bool, _&&_, cond, true}
+use mathlib.Core.Bool.{Bool, _&&_, cond, false, true}
 use mathlib.Core.List.{List, [], _++_, _∷_, append-assoc, append-nil}
 use lib.ListN.{getD, length, length-append}
 use lib.Dec.{eqb, ltb}
@@ -12,19 +12,22 @@ use Rattle.model.specs.declared.Answer.{Answer}
 use Rattle.model.specs.declared.Item.{Item}
 use Rattle.model.specs.declared.Item.the-variants.{Control, Printed, Refused, Sequence}
 use Rattle.model.specs.declared.Settings.{Settings}
-use Rattle.model.specs.Bytes.{listFrom}
+use Rattle.model.specs.Bytes.{joined, listFrom}
 use Rattle.model.specs.Line.{heldIn}
 use Rattle.model.specs.State.{State}
 use Rattle.model.specs.Picture.{copied, copiedRows, copySizeOf, dotCopy, picture, pictureCopy}
 use Rattle.model.specs.Sequences.{codeOf}
-use Rattle.model.specs.Reading.{Read, itemOf}
+use Rattle.model.specs.Reading.{Read, itemOf, uncut}
 use Rattle.model.specs.Judging.{allowed, fitting, limitsOf}
 use Rattle.model.specs.Items.{Event, applyAll, blankAnswer, bytesRead, copies, copyOf, counted, countedAll, happened, eventsOf, obeyedBy, printerBytes, printsOf, read, readsOf}
-use Rattle.model.specs.Calls.{Asked, Call, Promised, Request, Terminal, accepted, answerOf, closing, eventsBy, eventsIn, itemBytes, besideItems, keyText, message, numberOf, piece, printedBy, readsBy, readsIn, requestOf, sentBy, startOf, takenBy, takenIn}
-use Rattle.model.specs.Claims.{InOrder}
+use Rattle.model.specs.Packs.{bodiesOf, readsEach}
+use Rattle.model.specs.Calls.{Asked, Call, Promised, Request, Terminal, accepted, answerOf, closing, eventsBy, eventsIn, itemBytes, besideItems, keyText, message, numberOf, pack, packed?, packedBy, piece, printedBy, readsBy, readsIn, request, requestOf, sentBy, startOf, takenBy, takenIn}
+use Rattle.model.specs.Claims.{InBodies, InOrder, noBody, oneBody}
 use Rattle.model.proofs.Tests.{cond-at, cond₂}
 use Rattle.model.proofs.ByteLaws.{length-listFrom, length-written}
-use Rattle.model.proofs.Gathering.{AllSome, none, some, some-gathered, some-last, some-uncut}
+use Rattle.model.proofs.Gathering.{AllSome, joined-uncut, none, some, some-gathered, some-last, some-uncut}
+use Rattle.model.proofs.Events.{events-append}
+use Rattle.model.proofs.Sums.{counted-append}
 
 pub length-rows : (f : ℕ → ℕ) (r n : ℕ) → length (copiedRows f r n) ≡ n * 82
 unfolding copiedRows
@@ -75,12 +78,65 @@ copies-fit (bs ∷ bss) at st room =
     let k : r .prints ≤ room = fits-room (st .settings .mode) (allowed (itemOf at bs) (limitsOf (st .settings))) room in
     subst (λ (n : ℕ). n ≤ room) (sym (length-append (copyOf (r .item) st) rest ∙ ap (λ (n : ℕ). n + length rest) (length-copy (r .item) st))) (omega (arith, h, k))
 
+-- one item more
+counted-printed : (mode : ℕ) (i : Item) (at : ℕ) (a : Answer) → counted i at (printerBytes mode i) a .printed ≡ a .printed + printerBytes mode i
+counted-printed mode (Printed c) at a = sym (add-zero (a .printed))
+counted-printed mode (Control c) at a = sym (add-zero (a .printed))
+counted-printed mode (Sequence q) at a = refl
+counted-printed mode (Refused k p) at a = sym (add-zero (a .printed))
+
+all-printed : (bss : List (List ℕ)) (at : ℕ) (st : State) (room : ℕ) (a : Answer) → let rs = readsOf bss at st room in countedAll rs a .printed ≡ a .printed + length (copies (eventsOf rs) st)
+unfolding countedAll copies happened readsOf
+all-printed [] at st room a = sym (add-zero (a .printed))
+all-printed (bs ∷ bss) at st room a =
+    let r = read at bs (limitsOf (st .settings)) room in
+    let rest = copies (eventsOf (readsOf bss (at + length bs) (obeyedBy r st) (room - r .prints))) (obeyedBy r st) in
+    all-printed bss (at + length bs) (obeyedBy r st) (room - r .prints) (counted (r .item) (r .at) (r .prints) a)
+    ∙ omega (arith, counted-printed (st .settings .mode) (r .item) (r .at) a, length-append (copyOf (r .item) st) rest, length-copy (r .item) st)
+
 -- what is printed by events one behind the other
 pub copies-append : (es fs : List Event) (a : State) → copies (es ++ fs) a ≡ copies es a ++ copies fs (applyAll es a)
 unfolding copies applyAll
 copies-append [] fs a = refl
 copies-append (e ∷ es) fs a =
     ap (λ (l : List ℕ). printsOf e a ++ l) (copies-append es fs (happened e a)) ∙ sym (append-assoc (printsOf e a) (copies es (happened e a)) (copies fs (applyAll es (happened e a))))
+
+pub prints-append : (xs ys : List Read) (st : State) → copies (eventsOf (xs ++ ys)) st ≡ copies (eventsOf xs) st ++ copies (eventsOf ys) (applyAll (eventsOf xs) st)
+prints-append xs ys st = ap (λ (es : List Event). copies es st) (events-append xs ys) ∙ copies-append (eventsOf xs) (eventsOf ys) st
+
+-- P6: what the messages of a pack print, one after the other, each in the room left over
+module _ (m : List ℕ) (ms : List (List ℕ)) (st : State) (room : ℕ) where
+  abbrev firstOnes : List Read
+  firstOnes = readsOf (uncut m) 0 st room
+
+  abbrev leftOver : ℕ
+  leftOver = room - countedAll firstOnes (blankAnswer 0 (length m)) .printed
+
+  abbrev others : List Read
+  others = readsEach ms (applyAll (eventsOf firstOnes) st) leftOver
+
+  both-print : length (copies (eventsOf (firstOnes ++ others)) st) ≡ length (copies (eventsOf firstOnes) st) + length (copies (eventsOf others) (applyAll (eventsOf firstOnes) st))
+  both-print = ap length (prints-append firstOnes others st) ∙ length-append (copies (eventsOf firstOnes) st) (copies (eventsOf others) (applyAll (eventsOf firstOnes) st))
+
+fit-each : (ms : List (List ℕ)) (st : State) (room : ℕ) → length (copies (eventsOf (readsEach ms st room)) st) ≤ room
+unfolding readsEach copies
+fit-each [] st room = omega arith
+fit-each (m ∷ ms) st room =
+    let rs : List Read = readsOf (uncut m) 0 st room in
+    omega (arith, both-print m ms st room, copies-fit (uncut m) 0 st room, all-printed (uncut m) 0 st room (blankAnswer 0 (length m)), fit-each ms (applyAll (eventsOf rs) st) (leftOver m ms st room))
+
+printed-each : (ms : List (List ℕ)) (st : State) (room : ℕ) (a : Answer) → let rs = readsEach ms st room in countedAll rs a .printed ≡ a .printed + length (copies (eventsOf rs) st)
+unfolding readsEach copies countedAll
+printed-each [] st room a = sym (add-zero (a .printed))
+printed-each (m ∷ ms) st room a =
+    let rs : List Read = readsOf (uncut m) 0 st room in
+    ap (λ (b : Answer). b .printed) (counted-append rs (others m ms st room) a)
+    ∙ omega (arith, printed-each ms (applyAll (eventsOf rs) st) (leftOver m ms st room) (countedAll rs a), all-printed (uncut m) 0 st room a, both-print m ms st room)
+
+-- what holds of messages one after the other and of items one behind the other holds of what any call reads
+pub reads-either : (P : List Read → Type 0) (t : Terminal) (q : Request) → ((ms : List (List ℕ)) → P (readsEach ms (t .state) (q .room))) → ((bss : List (List ℕ)) (at : ℕ) → P (readsOf bss at (t .state) (q .room))) → P (readsBy t q)
+unfolding readsBy
+reads-either P t q f g = cond-at P (packed? (q .asked)) _ _ (λ e. f (packedBy (q .asked))) (λ e. g _ _)
 
 -- nothing is printed where a line is left, or a text set
 moved-prints : (s : Settings) (q : Asked) (a : State) → copies (besideItems s q) a ≡ []
@@ -89,6 +145,7 @@ moved-prints s (message m) a = refl
 moved-prints s (piece m) a = refl
 moved-prints s closing a = refl
 moved-prints s (keyText k x) a = refl
+moved-prints s (pack p) a = refl
 
 -- the items alone print
 pub prints-by : (t : Terminal) (q : Request) → copies (eventsBy t q) (t .state) ≡ copies (eventsOf (readsBy t q)) (t .state)
@@ -104,20 +161,15 @@ printed-reads t q = cond₂ (λ (es : List Event) (rs : List Read). copies es (t
 
 -- the printer bytes of a call fit in its room
 pub prints-fit : (d : Terminal) (q : Request) → length (printedBy d q) ≤ q .room
-unfolding readsIn readsBy copies
-prints-fit d q = subst (λ (l : List ℕ). length l ≤ q .room) (sym (printed-reads d q))
-    (cond-at (λ (rs : List Read). length (copies (eventsOf rs) (d .state)) ≤ q .room) (accepted d q) _ [] (λ e. copies-fit _ _ (d .state) (q .room)) (λ e. omega arith))
+unfolding readsIn copies
+prints-fit d q =
+    let Fits : List Read → Type 0 = λ rs. length (copies (eventsOf rs) (d .state)) ≤ q .room in
+    subst (λ (l : List ℕ). length l ≤ q .room) (sym (printed-reads d q))
+    (cond-at Fits (accepted d q) _ [] (λ e. reads-either Fits d q (λ ms. fit-each ms (d .state) (q .room)) (λ bss at. copies-fit bss at (d .state) (q .room))) (λ e. omega arith))
 
 -- so the printer buffer keeps its length
 pub buffer-length : (c : Call) → Promised c → length (c .printer) ≡ length (c .buffer)
 buffer-length c p = ap length (p .printer-is) ∙ length-written _ (c .buffer) (prints-fit (c .given) (requestOf c))
-
--- one item more
-counted-printed : (mode : ℕ) (i : Item) (at : ℕ) (a : Answer) → counted i at (printerBytes mode i) a .printed ≡ a .printed + printerBytes mode i
-counted-printed mode (Printed c) at a = sym (add-zero (a .printed))
-counted-printed mode (Control c) at a = sym (add-zero (a .printed))
-counted-printed mode (Sequence q) at a = refl
-counted-printed mode (Refused k p) at a = sym (add-zero (a .printed))
 
 counted-taken : (i : Item) (at n : ℕ) (a : Answer) → counted i at n a .taken ≡ a .taken
 counted-taken (Printed c) at n a = refl
@@ -125,20 +177,13 @@ counted-taken (Control c) at n a = refl
 counted-taken (Sequence q) at n a = refl
 counted-taken (Refused k p) at n a = refl
 
-all-printed : (bss : List (List ℕ)) (at : ℕ) (st : State) (room : ℕ) (a : Answer) → let rs = readsOf bss at st room in countedAll rs a .printed ≡ a .printed + length (copies (eventsOf rs) st)
-unfolding countedAll copies happened readsOf
-all-printed [] at st room a = sym (add-zero (a .printed))
-all-printed (bs ∷ bss) at st room a =
-    let r = read at bs (limitsOf (st .settings)) room in
-    let rest = copies (eventsOf (readsOf bss (at + length bs) (obeyedBy r st) (room - r .prints))) (obeyedBy r st) in
-    all-printed bss (at + length bs) (obeyedBy r st) (room - r .prints) (counted (r .item) (r .at) (r .prints) a)
-    ∙ omega (arith, counted-printed (st .settings .mode) (r .item) (r .at) a, length-append (copyOf (r .item) st) rest, length-copy (r .item) st)
-
 -- "invented counts fall to the items": the count of printer bytes
 pub printed-is : (d : Terminal) (q : Request) → answerOf d q .printed ≡ length (printedBy d q)
-unfolding answerOf readsIn readsBy countedAll copies
+unfolding answerOf readsIn countedAll copies
 printed-is d q =
-    cond-at (λ (rs : List Read). countedAll rs (blankAnswer (numberOf d q) (takenIn d q)) .printed ≡ 0 + length (copies (eventsOf rs) (d .state))) (accepted d q) (readsBy d q) [] (λ e. all-printed _ _ (d .state) (q .room) _) (λ e. refl)
+    let a : Answer = blankAnswer (numberOf d q) (takenIn d q) in
+    let Prints : List Read → Type 0 = λ rs. countedAll rs a .printed ≡ 0 + length (copies (eventsOf rs) (d .state)) in
+    cond-at Prints (accepted d q) (readsBy d q) [] (λ e. reads-either Prints d q (λ ms. printed-each ms (d .state) (q .room) a) (λ bss at. all-printed bss at (d .state) (q .room) a)) (λ e. refl)
     ∙ zero-add _ ∙ ap length (sym (printed-reads d q))
 
 all-taken : (rs : List Read) (a : Answer) → countedAll rs a .taken ≡ a .taken
@@ -163,6 +208,7 @@ some-asked s (message m) = some-uncut m
 some-asked s (piece m) = some-gathered (heldIn s) m
 some-asked s closing = some-last (heldIn s)
 some-asked s (keyText k x) = none
+some-asked s (pack p) = none
 
 taken-asked : (a : Asked) → takenBy a ≡ length (sentBy a)
 unfolding takenBy
@@ -170,20 +216,38 @@ taken-asked (message m) = refl
 taken-asked (piece m) = refl
 taken-asked closing = refl
 taken-asked (keyText k x) = refl
+taken-asked (pack p) = refl
+
+-- P6: body by body
+bodies-each : (ms : List (List ℕ)) (st : State) (room : ℕ) → InBodies ms (readsEach ms st room)
+unfolding readsEach
+bodies-each [] st room = noBody
+bodies-each (m ∷ ms) st room =
+    oneBody (firstOnes m ms st room) (others m ms st room) (ap joined (bytes-of (uncut m) 0 st room) ∙ joined-uncut m) (in-order (some-uncut m) 0 st room) (bodies-each ms _ _)
 
 module _ (t : Terminal) (q : Request) (e : accepted t q ≡ true) where
   pub reads-accepted : readsIn t q ≡ readsBy t q
   unfolding readsIn
   reads-accepted = ap (λ (b : Bool). cond b (readsBy t q) []) e
 
-  pub ordered : InOrder (startOf (t .state .settings) (q .asked)) (readsIn t q)
+  -- of a call that is no pack
+  pub reads-own : packed? (q .asked) ≡ false → readsIn t q ≡ readsOf (itemBytes (t .state .settings) (q .asked)) (startOf (t .state .settings) (q .asked)) (t .state) (q .room)
   unfolding readsBy
-  ordered = subst (InOrder (startOf (t .state .settings) (q .asked))) (sym reads-accepted) (in-order (some-asked (t .state .settings) (q .asked)) _ (t .state) (q .room))
+  reads-own n =
+      let s : Settings = t .state .settings in
+      reads-accepted ∙ ap (λ (b : Bool). cond b (readsEach (packedBy (q .asked)) (t .state) (q .room)) (readsOf (itemBytes s (q .asked)) (startOf s (q .asked)) (t .state) (q .room))) n
 
-  pub bytes-asked : bytesRead (readsIn t q) ≡ itemBytes (t .state .settings) (q .asked)
-  unfolding readsBy
-  bytes-asked = ap bytesRead reads-accepted ∙ bytes-of (itemBytes (t .state .settings) (q .asked)) _ (t .state) (q .room)
+  pub ordered : packed? (q .asked) ≡ false → InOrder (startOf (t .state .settings) (q .asked)) (readsIn t q)
+  ordered n = subst (InOrder (startOf (t .state .settings) (q .asked))) (sym (reads-own n)) (in-order (some-asked (t .state .settings) (q .asked)) _ (t .state) (q .room))
+
+  pub bytes-asked : packed? (q .asked) ≡ false → bytesRead (readsIn t q) ≡ itemBytes (t .state .settings) (q .asked)
+  bytes-asked n = ap bytesRead (reads-own n) ∙ bytes-of (itemBytes (t .state .settings) (q .asked)) _ (t .state) (q .room)
 
   pub taken-is : answerOf t q .taken ≡ length (sentBy (q .asked))
   unfolding answerOf takenIn
   taken-is = all-taken (readsIn t q) (blankAnswer (numberOf t q) (takenIn t q)) ∙ ap (λ (b : Bool). cond b (takenBy (q .asked)) 0) e ∙ taken-asked (q .asked)
+
+  pub in-bodies : (p : List ℕ) → q .asked ≡ pack p → InBodies (bodiesOf p) (readsIn t q)
+  unfolding readsBy
+  in-bodies p f =
+      subst (InBodies (bodiesOf p)) (sym (reads-accepted ∙ ap (λ (a : Asked). readsBy t (request a (q .room))) f)) (bodies-each (bodiesOf p) (t .state) (q .room))

@@ -1,7 +1,7 @@
 -- The answers of several calls as one: it is what counting their items one behind the other gives.
 use mathlib.Core.Path.{_∙_, _≡_, ap, refl, sym}
 use Prim.Native.Nat.{_+_, suc, zero, ℕ}
-use native.Mathlib.Nat.{add-zero, zero-add}
+use native.Mathlib.Nat.{add-assoc, add-zero, zero-add}
 use native.Mathlib.Omega.{arith}
 use mathlib.Core.Bool.{cond, false}
 use mathlib.Core.List.{List, [], _++_, _∷_}
@@ -20,6 +20,20 @@ first-of (suc r) s n x y =
     let e : eqb (suc r) 0 ≡ false = ne-eqb (suc r) 0 (omega arith) in
     let f : eqb (suc r + s) 0 ≡ false = ne-eqb (suc r + s) 0 (omega arith) in
     rw (e, f)
+
+-- three answers as one
+pub together-assoc : (a b c : Answer) → together a (together b c) ≡ together (together a b) c
+together-assoc a b c =
+    λ i. record {
+      number = c .number;
+      taken = sym (add-assoc (a .taken) (b .taken) (c .taken)) i;
+      accepted = sym (add-assoc (a .accepted) (b .accepted) (c .accepted)) i;
+      refused = sym (add-assoc (a .refused) (b .refused) (c .refused)) i;
+      first = first-of (a .refused) (b .refused) (c .first) (a .first) (b .first) i;
+      parameter = first-of (a .refused) (b .refused) (c .parameter) (a .parameter) (b .parameter) i;
+      offset = first-of (a .refused) (b .refused) (c .offset) (a .offset) (b .offset) i;
+      printed = sym (add-assoc (a .printed) (b .printed) (c .printed)) i;
+    }
 
 together-counted : (i : Item) (at n : ℕ) (a b : Answer) → together a (counted i at n b) ≡ counted i at n (together a b)
 together-counted (Printed c) at n a b = refl

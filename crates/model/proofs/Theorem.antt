@@ -4,7 +4,7 @@ use mathlib.Core.Path.{_∙_, _≡_, ap, refl, subst, sym}
 use Prim.Native.Nat.{_*_, _+_, _-_, _<_, _≤_, suc, zero, ℕ}
 use native.Mathlib.Nat.{le-of-suc-le-suc, not-suc-le-zero}
 use native.Mathlib.Omega.{arith}
-use mathlib.Core.Bool.{Bool, false, true}
+use mathlib.Core.Bool.{Bool, _&&_, cond, false, true}
 use mathlib.Core.List.{List, [], _++_, _∷_}
 use lib.ListN.{length, length-append, take}
 use lib.Seq.{take-append-add}
@@ -16,26 +16,22 @@ use Rattle.model.specs.Screens.{base, cellAt, columnsOf, lineAt, linesOf
 use Rattle.model.specs.Line.{heldIn}
 use Rattle.model.specs.Sound.{Good, Sound}
 use Rattle.model.specs.Items.{Event, applyAll, blankAnswer, bytesRead, copies, countedAll, readsOf, texted}
-use Rattle.model.specs.Calls.{Asked, Call, Promised, Request, Terminal, accepted, answerOf, eventsIn, firstOf, itemBytes, keyText, message, numberOf, ownReasons, paints?, printedBy, readsBy, readsIn, request, requestOf, sentBy, served, startOf, takenBy}
-use Rattle.model.specs.Claims.{Apart, InOrder, On, Shown, ShownIn, Standing, aboveRow8, countAfter, movesWindow, setsMode, waitsAfter}
+use Rattle.model.specs.Records.{recordsAfter}
+use Rattle.model.specs.Packs.{bodiesOf, readsEach, recordFrom}
+use Rattle.model.specs.Calls.{Asked, Call, Promised, Request, Terminal, accepted, answerOf, eventsIn, firstOf, itemBytes, keyText, message, numberOf, ownReasons, pack, packed?, paints?, printedBy, readsBy, readsIn, recordOf, request, requestOf, sentBy, served, startOf, takenBy}
+use Rattle.model.specs.Claims.{Apart, InBodies, InOrder, On, Shown, ShownIn, Standing, aboveRow8, countAfter, movesWindow, setsMode, waitsAfter}
 use Rattle.model.specs.Demand.{Demand, Demand3, Made, NoKey, Nth, Resumed, Start, Still, Stretch, before, claimed, event, eventsOver, first, itemCount, later, left, next, none, opening, requests, resumed, stands, stood}
 use Rattle.model.proofs.Frames.{SameScreen, Spared}
 use Rattle.model.proofs.Keep.{same-refl, same-trans, spared-refl, spared-trans, within}
 use Rattle.model.proofs.DotsStay.{event-dots}
 use Rattle.model.proofs.ItemLaws.{Obeyed}
-use Rattle.model.proofs.Events.{AllLegal, apply-append, at-next, cell-inside, chained, event-at, good-at, legal-append, refused-nothing, same-window, unchanged, window-at}
+use Rattle.model.proofs.Events.{AllLegal, at-next, cell-inside, chained, event-at, good-at, legal-append, refused-nothing, same-window, unchanged, window-at}
 use Rattle.model.proofs.CallLaws.{accepted-answer, accepted-number, accepted-prints, answer-number, left-is, legal-in, number-accepted, number-good, opening-resumed, opening-shown, refused-answer, refused-leaves, refused-number, refused-prints, shown-accepted, sized-served, state-served}
-use Rattle.model.proofs.Printing.{buffer-length, ordered, printed-is, reads-accepted, taken-is}
-use Rattle.model.proofs.LineAfter.{leaves-texted, line-after, once, whole}
-use Rattle.model.proofs.KeyLine.{above-stands, shown-above, shown-stands}
+use Rattle.model.proofs.Printing.{buffer-length, in-bodies, ordered, printed-is, reads-accepted, taken-is}
+use Rattle.model.proofs.LineAfter.{leaves-none, leaves-texted, line-after, once, whole}
+use Rattle.model.proofs.KeyLine.{above-stands, shown-above, shown-served, shown-stands}
+use Rattle.model.proofs.OneByOne.{events-unpacked, stands-unpacked, state-stands}
 use Rattle.model.proofs.Places.{one-cell}
-
--- what stands after a list is what its events made
-state-stands : (t : Terminal) (qs : List Request) → stands t qs .state ≡ applyAll (eventsOver t qs) (t .state)
-unfolding stands eventsOver applyAll
-state-stands t [] = refl
-state-stands t (q ∷ qs) =
-    state-stands (served t q) qs ∙ ap (applyAll (eventsOver (served t q) qs)) (state-served t q) ∙ sym (apply-append (eventsIn t q) (eventsOver (served t q) qs) (t .state))
 
 legal-over : (t : Terminal) (qs : List Request) → AllLegal (eventsOver t qs) (t .state)
 unfolding eventsOver
@@ -114,7 +110,7 @@ shown-left {t} (next {c = c} {cs = cs} g p m) (suc n) f s = shown-left m n (λ j
     go : (b : Bool) → accepted (c .given) (requestOf c) ≡ b → Shown (c .left)
     go true a =
         let e : c .answer .number ≡ 0 = number-is c p ∙ number-accepted (c .given) (requestOf c) a in
-        painted c p e (f 0 c (omega arith) (omega arith) first e)
+        subst Shown (sym (left-is c p)) (shown-served (c .given) (c .asked) (length (c .buffer)) (subst Shown (sym g) s) (f 0 c (omega arith) (omega arith) first e) a)
     go false a = subst Shown (sym (left-is c p ∙ refused-leaves (c .given) (requestOf c) a ∙ g)) s
 
 -- a fact that a call that paints makes, and that stays over the calls behind it
@@ -187,22 +183,41 @@ Whole x c m = (joined (bytesRead (readsIn x (requestOf c))) ≡ m) × (InOrder 0
 abbrev LineIs : Terminal → Call → Type 0
 LineIs x c = (heldIn (c .left .state .settings) ≡ waitsAfter (x .state .settings) (c .asked)) × (c .left .state .settings .count ≡ countAfter (x .state .settings) (c .asked))
 
-once-in : (c : Call) → Promised c → c .answer .number ≡ 0 → Once (c .given) c
-once-in c p e =
+taken-in : (c : Call) → Promised c → c .answer .number ≡ 0 → c .answer .taken ≡ length (sentBy (c .asked))
+taken-in c p e = ap (λ (a : Answer). a .taken) (p .answer-is) ∙ taken-is (c .given) (requestOf c) (is-accepted c p e)
+
+once-in : (c : Call) → Promised c → c .answer .number ≡ 0 → packed? (c .asked) ≡ false → Once (c .given) c
+once-in c p e n =
     let a = is-accepted c p e in (
-      once (c .given) (c .asked) (length (c .buffer)) a ∙ ap (λ (s : Settings). joined (bytesRead (readsIn (c .given) (requestOf c))) ++ heldIn s) (sym (p .settings-are)),
-      ordered (c .given) (requestOf c) a,
-      ap (λ (a : Answer). a .taken) (p .answer-is) ∙ taken-is (c .given) (requestOf c) a,
+      once (c .given) (c .asked) (length (c .buffer)) a n ∙ ap (λ (s : Settings). joined (bytesRead (readsIn (c .given) (requestOf c))) ++ heldIn s) (sym (p .settings-are)),
+      ordered (c .given) (requestOf c) a n,
+      taken-in c p e,
     )
+
+each-in : (c : Call) → Promised c → c .answer .number ≡ 0 → (b : List ℕ) → c .asked ≡ pack b → (InBodies (bodiesOf b) (readsIn (c .given) (requestOf c))) × (c .answer .taken ≡ length (joined (bodiesOf b)))
+each-in c p e b f = (in-bodies (c .given) (requestOf c) (is-accepted c p e) b f, taken-in c p e ∙ ap (λ (a : Asked). length (sentBy a)) f)
 
 whole-in : (c : Call) → Promised c → c .answer .number ≡ 0 → (m : List ℕ) → c .asked ≡ message m → Whole (c .given) c m
 unfolding startOf
 whole-in c p e m f =
-    let q : c .answer .taken ≡ length m = once-in c p e .2 ∙ ap (λ (a : Asked). length (sentBy a)) f in
+    let q : c .answer .taken ≡ length m = taken-in c p e ∙ ap (λ (a : Asked). length (sentBy a)) f in
     let a : accepted (c .given) (request (message m) (length (c .buffer))) ≡ true = subst (λ (a : Asked). accepted (c .given) (request a (length (c .buffer))) ≡ true) f (is-accepted c p e) in
     let z = subst (λ (a : Asked). (joined (bytesRead (readsIn (c .given) (request a (length (c .buffer))))) ≡ m) × (InOrder 0 (readsIn (c .given) (request a (length (c .buffer)))))) (sym f)
-    (whole (c .given) m (length (c .buffer)) a, ordered (c .given) (request (message m) (length (c .buffer))) a) in
+    (whole (c .given) m (length (c .buffer)) a, ordered (c .given) (request (message m) (length (c .buffer))) a refl) in
     (z .0, z .1, q)
+
+-- an empty pack
+empty-in : (c : Call) → Promised c → c .answer .number ≡ 0 → c .asked ≡ pack [] → (c .left ≡ c .given) × (c .answer ≡ blankAnswer 0 0) × (c .in-record ≡ 0) × (c .printer ≡ c .buffer)
+unfolding readsBy readsEach bodiesOf recordsAfter takenBy countedAll copies written joined recordFrom recordOf
+empty-in c p e f =
+    let q : Request = request (pack []) (length (c .buffer)) in
+    let fq : requestOf c ≡ q = ap (λ (a : Asked). request a (length (c .buffer))) f in
+    let a : accepted (c .given) q ≡ true = subst (λ (q : Request). accepted (c .given) q ≡ true) fq (is-accepted c p e) in (
+      left-is c p ∙ ap (served (c .given)) fq ∙ leaves-none (c .given) [] (length (c .buffer)) a refl,
+      p .answer-is ∙ ap (answerOf (c .given)) fq ∙ accepted-answer (c .given) q a,
+      p .record-is ∙ ap (recordOf (c .given)) fq ∙ ap (λ (b : Bool). cond (true && b) 0 0) a,
+      p .printer-is ∙ ap (λ (ys : List ℕ). written ys (c .buffer)) (ap (printedBy (c .given)) fq ∙ accepted-prints (c .given) q a),
+    )
 
 line-in : (c : Call) → Promised c → c .answer .number ≡ 0 → LineIs (c .given) c
 line-in c p e =
@@ -260,12 +275,16 @@ module _ (t : Terminal) (cs : List Call) (made : Made t cs) where
     numbers = each (λ x c. c .answer .number ≡ numberOf x (requestOf c)) number-is made;
     refused = each (λ x c. (c .answer .number ≡ 0 → ⊥) → (c .left ≡ c .given) × (c .answer ≡ blankAnswer (c .answer .number) 0) × (c .printer ≡ c .buffer)) unaltered made;
     refusals = λ n h e. at-next (eventsOver t (requests cs)) (t .state) n h ∙ refused-nothing (event t cs n) (before t cs n) e;
-    once = each (λ x c. c .answer .number ≡ 0 → Once x c) once-in made;
+    records = each (λ x c. c .in-record ≡ recordOf x (requestOf c)) (λ c p. p .record-is) made;
+    once = each (λ x c. c .answer .number ≡ 0 → packed? (c .asked) ≡ false → Once x c) once-in made;
+    once-each = each (λ x c. c .answer .number ≡ 0 → (b : List ℕ) → c .asked ≡ pack b → (InBodies (bodiesOf b) (readsIn x (requestOf c))) × (c .answer .taken ≡ length (joined (bodiesOf b)))) each-in made;
     whole = each (λ x c. c .answer .number ≡ 0 → (m : List ℕ) → c .asked ≡ message m → Whole x c m) whole-in made;
     line = each (λ x c. c .answer .number ≡ 0 → LineIs x c) line-in made;
     by-items = λ n h. by-items n;
     key-sets = each (λ x c. c .answer .number ≡ 0 → (k : ℕ) (y : List ℕ) → c .asked ≡ keyText k y
         → (c .left ≡ record { state = texted k y (c .given .state); shown = c .given .shown }) × (readsIn x (requestOf c) ≡ []) × (c .answer ≡ blankAnswer 0 0) × (c .printer ≡ c .buffer)) key-in made;
+    packs = λ n h. (exact n ∙ sym (stands-unpacked (requests (take n cs)) t), sym (events-unpacked (requests (take n cs)) t));
+    empty-pack = each (λ x c. c .answer .number ≡ 0 → c .asked ≡ pack [] → (c .left ≡ c .given) × (c .answer ≡ blankAnswer 0 0) × (c .in-record ≡ 0) × (c .printer ≡ c .buffer)) empty-in made;
     opened-shown = λ o n h f. shown-left made n f (opening-shown t o);
     message-shown = λ i c h e f n l u s. from-painting NoKey Shown no-key-tail (λ t cs m n. shown-left m n) made i c h e f n l s;
     opened-rows = λ o n h. above-left made n (shown-above t (opening-shown t o));

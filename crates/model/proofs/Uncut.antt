@@ -26,7 +26,7 @@ use Rattle.model.proofs.SoundLaws.{true-sound}
 use Rattle.model.proofs.Lined.{applied-lined}
 use Rattle.model.proofs.Events.{good-all}
 use Rattle.model.proofs.Printing.{reads-accepted}
-use Rattle.model.proofs.CallLaws.{accepted-answer, accepted-leaves, accepted-prints, accepted-sized, after, left-is, legal-in, number-good, refused-leaves, refused-number, sized-served, state-served}
+use Rattle.model.proofs.CallLaws.{accepted-answer, accepted-leaves, accepted-prints, accepted-sized, after, left-is, legal-in, message-accepted, number-good, refused-leaves, refused-number, sized-served, state-served}
 use Rattle.model.proofs.LineAfter.{count-lined, held-lined, leaves-lined, line-after, self-lined}
 use Rattle.model.proofs.Freely.{ahead, reads-free}
 use Rattle.model.proofs.Flow.{Flow, answersOver, flow-counts, flow-items, flow-prints, flow-shown, flow-sound, flow-state, printedOver}
@@ -36,7 +36,7 @@ use Rattle.model.proofs.Theorem.{exact-all, is-accepted, number-is, pri
 asked-accepted : (c : Call) (a : Asked) (t : Terminal) → c .given ≡ t → Promised c → c .asked ≡ a → c .answer .number ≡ 0 → accepted t (request a (length (c .buffer))) ≡ true
 asked-accepted c a t g p f e = (λ i. accepted (sym g i) (request (sym f i) (length (c .buffer)))) ∙ is-accepted c p e
 
-left-served : (c : Call) (t : Terminal) → c .given ≡ t → Promised c → c .left ≡ served t (requestOf c)
+pub left-served : (c : Call) (t : Terminal) → c .given ≡ t → Promised c → c .left ≡ served t (requestOf c)
 left-served c t g p = left-is c p ∙ ap (λ (x : Terminal). served x (requestOf c)) g
 
 flow-of : {t : Terminal} {cs : List Call} {bs : List ℕ} → Made t cs → Stream cs bs → Flow t (requests cs) bs
@@ -51,7 +51,7 @@ flow-of {t} (next {c = c} {cs = cs} g p r) (skips {bs = bs} e s) =
     Flow.skips n (subst (λ (x : Terminal). Flow x (requests cs) bs) (left-served c t g p ∙ refused-leaves t (requestOf c) n) (flow-of r s))
 
 -- the answers and the printed parts are those of the rules
-summed-is : {t : Terminal} {cs : List Call} → Made t cs → summed cs ≡ answersOver t (requests cs)
+pub summed-is : {t : Terminal} {cs : List Call} → Made t cs → summed cs ≡ answersOver t (requests cs)
 unfolding summed answersOver
 summed-is none = refl
 summed-is {t} (next {c = c} {cs = cs} g p r) =
@@ -61,7 +61,7 @@ pub part-is : (c : Call) → Promised c → partOf c ≡ printedBy (c .given) (r
 unfolding written
 part-is c p = ap (take (c .answer .printed)) (p .printer-is) ∙ take-at (printedBy (c .given) (requestOf c)) _ (c .answer .printed) (printed-in c p .0)
 
-parts-are : {t : Terminal} {cs : List Call} → Made t cs → partsOf cs ≡ printedOver t (requests cs)
+pub parts-are : {t : Terminal} {cs : List Call} → Made t cs → partsOf cs ≡ printedOver t (requests cs)
 unfolding partsOf printedOver
 parts-are none = refl
 parts-are {t} (next {c = c} {cs = cs} g p r) =
@@ -134,11 +134,6 @@ flow-sized : {t : Terminal} {qs : List Request} {bs : List ℕ} → Flow t qs bs
 flow-sized {t} (Flow.closes {room = room} a) = accepted-sized t (request closing room) a refl
 flow-sized {t} (Flow.goes {m = m} {room = room} a s) = accepted-sized t (request (piece m) room) a refl
 flow-sized (Flow.skips a s) = flow-sized s
-
-message-accepted : (t : Terminal) (bs : List ℕ) (room : ℕ) → sized t ≡ true → Sound (t .state .settings) → t .state .settings .held ≡ 0 → length bs ≤ 4096 → accepted t (request (message bs) room) ≡ true
-unfolding accepted reasons allFree soundIn noneWaits
-message-accepted t bs room z s q l =
-    and-both (sized t) _ z (and-both (short bs) _ (le-leb _ _ l) (and-both (soundIn t) _ (true-sound (t .state .settings) s) (and-both (eqb (t .state .settings .held) 0) true (eq-eqb _ _ q) refl)))
 
 pub as-message : AsMessage
 unfolding readsBy itemBytes startOf after takenBy waitsAfter countAfter

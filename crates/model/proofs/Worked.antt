@@ -1,6 +1,6 @@
 -- The tables of examples worked out: the bays', P10's and P11's among them, all under one statement that antt computes, the lists of calls of P1, P2, P5, P9
--- and P11 under another, both by the quick forms (Quickly); one run of P1's by the definitions themselves; P9's openings; and P11's dots, those that stay and
--- the sizes of their store.
+-- and P11 under another, both by the quick forms (Quickly); one run of P1's by the definitions themselves; P9's openings; P11's dots, those that stay and
+-- the sizes of their store; and P6's packs, by the definitions.
 use mathlib.Core.Path.{_≡_, refl}
 use mathlib.Core.Bool.{true}
 use mathlib.Core.List.{_++_}
@@ -19,13 +19,18 @@ use Rattle.model.specs.Rules.{applyItem, awaited, blankFrom, centred, cl
 use Rattle.model.specs.Dot.{acted, dotAt, weight, withDot}
 use Rattle.model.specs.Strokes.{drawn, flat, lineDot, lined as stroke, longer, maskBit, offsetAt, placed as strokePlaced, shorter, stepped}
 use Rattle.model.specs.Items.{applyAll, copies, countedAll, happened, lined, readsOf, texted}
-use Rattle.model.specs.Calls.{accepted, allFree, answerOf, countable, eventsBy, eventsIn, firstOf, itemBytes, besideItems, keyable, noneWaits, numberOf, printedBy, readsBy, readsIn, reasons, served, soundIn, shownAfter, sized, startOf, takenBy, takenIn}
+use Rattle.model.specs.Calls.{accepted, allFree, answerOf, countable, eventsBy, eventsIn, firstOf, itemBytes, besideItems, keyable, noneWaits, numberOf, printedBy, readsBy, readsIn, reasons, served, soundIn, shownAfter, sized, startOf, takenBy, takenIn, knownIn, packable, recordOf, shortIn}
 use Rattle.model.specs.Examples.{added, allHold, allRight, holds, isRight, marked, parameters, unmarked}
 use Rattle.model.specs.Runs.{allRun, keyLines, streams, turnsHold}
 use Rattle.model.specs.LineRuns.{logicalLines}
 use Rattle.model.specs.Opening.{openedBy, openingNumber, ruled}
 use Rattle.model.specs.WrapRuns.{lateWraps, openings}
 use Rattle.model.specs.CurveRuns.{curveRuns, dotsKept, dotsSized, loadCurve}
+use Rattle.model.specs.Records.{all?, bodyIn, kindIn, lacking, lengthIn, numberIn, recordIn, recordsAfter, uncut?}
+use Rattle.model.specs.Packs.{bodiesOf, known?, readsEach, recordFrom}
+use Rattle.model.specs.Claims.{claimedBy, claims}
+use Rattle.model.specs.Demand.{claimed}
+use Rattle.model.specs.PackRuns.{allPacked, packClaims, packNumbers, packRuns, recordsHold}
 use Rattle.model.proofs.Quickly.{allQuick, answered, below, byRows, copiedBy, left, overlaid, quickRight, quickRuns, quickTurns, refusedRight, row, rowsFrom, servedRight}
 
 pub examples : allQuick (marked ++ (unmarked ++ (added ++ (parameters ++ loadCurve)))) ≡ true
@@ -52,3 +57,15 @@ kept = refl
 pub stores : dotsSized ≡ true
 unfolding dotsSized openedBy openingNumber sized firstOf reasons numberOf ruled soundIn noneWaits sound? second? aloneRanges screens inRanges? passes member linesOf columnsOf placeOf textRows height keyRanges plainRanges arrayRanges insideRanges shapeRanges otherRanges inside? zeros? line? unfinished? needed markOf marked? marks? countable
 stores = refl
+
+pub packed : allPacked packRuns ≡ true
+unfolding copySizeOf dotCopy pictureCopy withDots dotsCleared weight dotAt withDot acted longer shorter flat offsetAt strokePlaced lineDot maskBit stepped drawn stroke idle? judgedRanges screens aloneRanges second? padded lined texted joined onPart blanked scrolledUp scrolledDown put member passes inRanges? firstBad linesOf columnsOf placeOf textRows height base size lineAt cellAt keyRanges plainRanges arrayRanges insideRanges shapeRanges otherRanges inside? zeros? line? markOf marked? marks? sound? windowAt halves sides textAt under covered pictureAt picture painting copiedRows copied find rowOf modeRowOf afterMode afterEscape needed unfinished? gathered remaining kindOf decoded ended itemOf byteOf legal? badOf allowed fitting withSettings withCells withLayer placed emptied shownAt unmark mark stored onLines listed remarked lifted down toColumn runningOn runsOn onward right awaited topped held centred nearest missed tracked trackedFar printed unmarkedFrom cleared control blankFrom running endOf erased marksUp marksDown endUnmarked shifted modeSet flagged displaying keyLine withKeys withKindPatterns obeyed applyItem readsOf happened applyAll copies countedAll itemBytes sized soundIn firstOf allFree reasons numberOf accepted noneWaits countable keyable besideItems startOf takenBy takenIn readsBy readsIn eventsBy eventsIn shownAfter served answerOf printedBy numberIn lengthIn kindIn bodyIn recordIn recordsAfter lacking uncut? all? bodiesOf known? packable knownIn shortIn readsEach recordFrom recordOf holds allHold recordsHold allPacked packRuns
+packed = refl
+
+pub pack-numbers : packNumbers ≡ true
+unfolding packNumbers sized firstOf reasons numberOf soundIn noneWaits sound? second? aloneRanges screens inRanges? passes member linesOf columnsOf placeOf textRows height keyRanges plainRanges arrayRanges insideRanges shapeRanges otherRanges inside? zeros? line? unfinished? needed markOf marked? marks? numberIn lengthIn kindIn bodyIn recordIn recordsAfter lacking uncut? all? known? packable knownIn shortIn
+pack-numbers = refl
+
+pub pack-claims : packClaims ≡ true
+unfolding copySizeOf dotCopy pictureCopy withDots dotsCleared weight dotAt withDot acted longer shorter flat offsetAt strokePlaced lineDot maskBit stepped drawn stroke idle? judgedRanges screens aloneRanges second? padded lined texted joined onPart blanked scrolledUp scrolledDown put member passes inRanges? firstBad linesOf columnsOf placeOf textRows height base size lineAt cellAt keyRanges plainRanges arrayRanges insideRanges shapeRanges otherRanges inside? zeros? line? markOf marked? marks? sound? windowAt halves sides textAt under covered pictureAt picture painting copiedRows copied find rowOf modeRowOf afterMode afterEscape needed unfinished? gathered remaining kindOf decoded ended itemOf byteOf legal? badOf allowed fitting withSettings withCells withLayer placed emptied shownAt unmark mark stored onLines listed remarked lifted down toColumn runningOn runsOn onward right awaited topped held centred nearest missed tracked trackedFar printed unmarkedFrom cleared control blankFrom running endOf erased marksUp marksDown endUnmarked shifted modeSet flagged displaying keyLine withKeys withKindPatterns obeyed applyItem readsOf happened applyAll copies countedAll itemBytes sized soundIn firstOf allFree reasons numberOf accepted noneWaits countable keyable besideItems startOf takenBy takenIn readsBy readsIn eventsBy eventsIn shownAfter served answerOf printedBy numberIn lengthIn kindIn bodyIn recordIn recordsAfter lacking uncut? all? bodiesOf known? packable knownIn shortIn readsEach claims claimedBy claimed packClaims
+pack-claims = refl

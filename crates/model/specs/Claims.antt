@@ -3,7 +3,7 @@
 use mathlib.Core.Path.{_≡_}
 use Prim.Native.Nat.{ℕ, _+_, _-_, _*_, _≤_, _<_}
 use mathlib.Core.Bool.{Bool, true, false, cond, _&&_, _||_}
-use mathlib.Core.List.{List, [], _∷_}
+use mathlib.Core.List.{List, [], _∷_, _++_}
 use lib.ListN.{length, getD}
 use lib.Dec.{eqb, ltb}
 use Rattle.model.specs.declared.Settings.{Settings}
@@ -17,8 +17,10 @@ use Rattle.model.specs.Picture.{pictureAt}
 use Rattle.model.specs.Reading.{Read, remaining}
 use Rattle.model.specs.Line.{heldIn}
 use Rattle.model.specs.Sequences.{codeOf}
-use Rattle.model.specs.Items.{Event, itemRead, lineLeft, keySet}
-use Rattle.model.specs.Calls.{Terminal, Asked, message, piece, closing, keyText, paints?, Request, accepted}
+use Rattle.model.specs.Bytes.{joined}
+use Rattle.model.specs.Packs.{bodiesOf, some?}
+use Rattle.model.specs.Items.{Event, itemRead, lineLeft, keySet, bytesRead}
+use Rattle.model.specs.Calls.{Terminal, Asked, message, piece, closing, keyText, pack, Request, accepted}
 
 -- a line and a column of screen k (0 or 1)
 pub record On (s : Settings) (k l c : ℕ) : Type 0 where
@@ -53,12 +55,19 @@ abbrev pub InOrder : ℕ → List Read → Type 0
 InOrder at [] = Unit {0}
 InOrder at (r ∷ rs) = (r .at ≡ at) × ((1 ≤ length (r .bytes)) × InOrder (at + length (r .bytes)) rs)
 
--- P1, the bytes that wait after an accepted call: of a message none, since it is refused while bytes wait; a key call (P2) leaves them
+-- P6, items body by body: those of each body are its bytes, cut, one behind the other from offset 0
+pub data InBodies : List (List ℕ) → List Read → Type 0 where
+  noBody : InBodies [] []
+  oneBody : {m : List ℕ} {ms : List (List ℕ)} (rs ss : List Read) → joined (bytesRead rs) ≡ m → InOrder 0 rs → InBodies ms ss → InBodies (m ∷ ms) (rs ++ ss)
+
+-- P1, the bytes that wait after an accepted call: of a message or a pack (P6) none, since it is refused while bytes wait; a key call (P2) leaves
+-- them
 unfoldable pub waitsAfter : Settings → Asked → List ℕ
 waitsAfter s (message m) = []
 waitsAfter s (piece m) = remaining (heldIn s) m
 waitsAfter s closing = []
 waitsAfter s (keyText k x) = heldIn s
+waitsAfter s (pack p) = []
 
 -- and the stream's byte count
 unfoldable pub countAfter : Settings → Asked → ℕ
@@ -66,6 +75,7 @@ countAfter s (message m) = s .count
 countAfter s (piece m) = s .count + length m
 countAfter s closing = 0
 countAfter s (keyText k x) = s .count
+countAfter s (pack p) = s .count
 
 -- "Row r, column c is byte 80(r−1)+c−1 of the shown screen": all 640 places show the picture of what stands
 pub record Shown (t : Terminal) : Type 0 where
@@ -81,10 +91,26 @@ ShownIn places t =
 abbrev pub aboveRow8 : ℕ → Bool
 aboveRow8 p = ltb p 560
 
--- P2, "until the next accepted message, piece or closing nothing is claimed of row 8": the places that are claimed after a call, from those
--- before it. Of an accepted call that paints all, of an accepted key call no more of row 8; a refused call leaves what was claimed
+-- the places that are claimed after an accepted call, from those before it: all, where it paints. P2, "until the next accepted message, piece or closing
+-- nothing is claimed of row 8": of a key call no more of that row. P6, an empty pack "does nothing": what was claimed
+unfoldable pub claims : Asked → (ℕ → Bool) → ℕ → Bool
+claims (message m) places p = true
+claims (piece m) places p = true
+claims closing places p = true
+claims (keyText k x) places p = places p && aboveRow8 p
+claims (pack b) places p = some? (bodiesOf b) || places p
+
+-- and after any call: a refused one leaves what was claimed
 unfoldable pub claimedBy : Terminal → Request → (ℕ → Bool) → ℕ → Bool
-claimedBy t q places p = cond (accepted t q) (paints? (q .asked) || (places p && aboveRow8 p)) (places p)
+claimedBy t q places p = cond (accepted t q) (claims (q .asked) places p) (places p)
+
+-- P2: a call after which less may be claimed
+abbrev pub unclaims? : Asked → Bool
+unclaims? (message m) = false
+unclaims? (piece m) = false
+unclaims? closing = false
+unclaims? (keyText k x) = true
+unclaims? (pack p) = false
 
 -- "the window is lines top to top+H−1": the cursor's line lies in it, "on the selected screen"
 pub record InWindow (st : State) : Type 0 where

@@ -1,7 +1,8 @@
 -- Document 01, "Lists of messages": demand 3, a single claim about a whole list of calls; document 02, P1: "pieces and closings stand in its
--- lists with messages, an accepted one counting as an accepted message"; P2: "The new call may stand in demand 3's lists".
+-- lists with messages, an accepted one counting as an accepted message"; P2: "The new call may stand in demand 3's lists"; P6: "In demand 3's
+-- lists an accepted pack stands for its messages, a refused one for none".
 use mathlib.Core.Path.{_≡_}
-use Prim.Native.Nat.{ℕ, suc, _≤_, _<_}
+use Prim.Native.Nat.{ℕ, suc, _-_, _≤_, _<_}
 use mathlib.Core.Bool.{Bool, true, false, cond}
 use mathlib.Core.List.{List, [], _∷_, _++_, map}
 use lib.ListN.{length, getD, take}
@@ -11,9 +12,10 @@ use Rattle.model.specs.State.{State}
 use Rattle.model.specs.Line.{heldIn}
 use Rattle.model.specs.Sound.{Sound}
 use Rattle.model.specs.Items.{Event, itemRead, texted, applyAll, blankAnswer, bytesRead}
-use Rattle.model.specs.Calls.{Terminal, message, keyText, paints?, sentBy, startOf, Request, Call, requestOf, Promised, short, firstOf, ownReasons, numberOf, answerOf, printedBy, readsIn, eventsIn, served}
+use Rattle.model.specs.Packs.{bodiesOf}
+use Rattle.model.specs.Calls.{Terminal, Asked, message, keyText, pack, packed?, packedBy, paints?, sentBy, startOf, Request, request, Call, requestOf, Promised, short, firstOf, ownReasons, numberOf, accepted, answerOf, recordOf, printedBy, readsIn, eventsIn, served}
 use Rattle.model.specs.Opening.{OpeningPromised}
-use Rattle.model.specs.Claims.{Standing, InOrder, waitsAfter, countAfter, Shown, ShownIn, aboveRow8, claimedBy, InWindow, setsMode, movesWindow, refusedEvent, mustFollow, Unchanged, SameWindow}
+use Rattle.model.specs.Claims.{Standing, InOrder, InBodies, unclaims?, waitsAfter, countAfter, Shown, ShownIn, aboveRow8, claimedBy, InWindow, setsMode, movesWindow, refusedEvent, mustFollow, Unchanged, SameWindow}
 
 -- "Each call gets the settings and these three stores as the call before left them", P11: and the dots, and keeps its promise
 pub data Made : Terminal → List Call → Type 0 where
@@ -70,14 +72,28 @@ pub data Nth : ℕ → List Call → Call → Type 0 where
   first : {c : Call} {cs : List Call} → Nth 0 (c ∷ cs) c
   later : {n : ℕ} {b c : Call} {cs : List Call} → Nth n cs c → Nth (suc n) (b ∷ cs) c
 
--- no key call is accepted among calls i to n − 1: every accepted call paints
+-- no key call is accepted among calls i to n − 1
 abbrev pub NoKey : List Call → ℕ → ℕ → Type 0
-NoKey cs i n = (j : ℕ) (c : Call) → i ≤ j → j < n → Nth j cs c → c .answer .number ≡ 0 → paints? (c .asked) ≡ true
+NoKey cs i n = (j : ℕ) (c : Call) → i ≤ j → j < n → Nth j cs c → c .answer .number ≡ 0 → unclaims? (c .asked) ≡ false
 
 -- what happens in a whole list, one call's items, line and key text after the other's: "across calls too"
 unfoldable pub eventsOver : Terminal → List Request → List Event
 eventsOver t [] = []
 eventsOver t (q ∷ qs) = eventsIn t q ++ eventsOver (served t q) qs
+
+-- P6: messages sent one by one, "each having the room left over"
+unfoldable pub oneByOne : Terminal → List (List ℕ) → ℕ → List Request
+oneByOne t [] room = []
+oneByOne t (m ∷ ms) room = let q = request (message m) room in q ∷ oneByOne (served t q) ms (room - answerOf t q .printed)
+
+-- what a call stands for: "an accepted pack stands for its messages, a refused one for none"; any other call for itself
+unfoldable pub standsFor : Terminal → Request → List Request
+standsFor t q = cond (packed? (q .asked)) (cond (accepted t q) (oneByOne t (packedBy (q .asked)) (q .room)) []) (q ∷ [])
+
+-- a list with each pack replaced by its messages
+unfoldable pub unpacked : Terminal → List Request → List Request
+unpacked t [] = []
+unpacked t (q ∷ qs) = standsFor t q ++ unpacked (served t q) qs
 
 -- read past the end of a list of events; no claim reaches it
 abbrev pub noEvent : Event
@@ -121,14 +137,19 @@ pub record Demand3 (t : Terminal) (cs : List Call) : Type 0 where
       → (c .left ≡ c .given) × (c .answer ≡ blankAnswer (c .answer .number) 0) × (c .printer ≡ c .buffer)
   -- "and a refusal changes nothing"
   pub refusals : (n : ℕ) → n < itemCount t cs → refusedEvent (event t cs n) ≡ true → before t cs (suc n) ≡ before t cs n
+  -- P6, the record of a pack's first refusal; 0 of any other call
+  pub records : (n : ℕ) (c : Call) → Nth n cs c → c .in-record ≡ recordOf (stood t cs n) (requestOf c)
   -- "every byte of the message belongs to exactly one item", or waits: the bytes that waited and those sent are an accepted call's items, each
   -- behind the one before, and the bytes that wait then; all that were sent are taken
-  pub once : (n : ℕ) (c : Call) → Nth n cs c → c .answer .number ≡ 0
+  pub once : (n : ℕ) (c : Call) → Nth n cs c → c .answer .number ≡ 0 → packed? (c .asked) ≡ false
       → (heldIn (stood t cs n .state .settings) ++ sentBy (c .asked) ≡ joined (bytesRead (readsIn (stood t cs n) (requestOf c))) ++ heldIn (c .left .state .settings))
       × (InOrder (startOf (stood t cs n .state .settings) (c .asked)) (readsIn (stood t cs n) (requestOf c))) × (c .answer .taken ≡ length (sentBy (c .asked)))
   -- a whole message is read while none waits: its items are the message, cut, from offset 0
   pub whole : (n : ℕ) (c : Call) → Nth n cs c → c .answer .number ≡ 0 → (m : List ℕ) → c .asked ≡ message m
       → (joined (bytesRead (readsIn (stood t cs n) (requestOf c))) ≡ m) × (InOrder 0 (readsIn (stood t cs n) (requestOf c))) × (c .answer .taken ≡ length m)
+  -- P6, of an accepted pack, body by body: every byte of a body belongs to exactly one item, and the offsets are "in that body"
+  pub once-each : (n : ℕ) (c : Call) → Nth n cs c → c .answer .number ≡ 0 → (p : List ℕ) → c .asked ≡ pack p
+      → (InBodies (bodiesOf p) (readsIn (stood t cs n) (requestOf c))) × (c .answer .taken ≡ length (joined (bodiesOf p)))
   -- "the waiting bytes and the count moving as said here"
   pub line : (n : ℕ) (c : Call) → Nth n cs c → c .answer .number ≡ 0
       → (heldIn (c .left .state .settings) ≡ waitsAfter (stood t cs n .state .settings) (c .asked)) × (c .left .state .settings .count ≡ countAfter (stood t cs n .state .settings) (c .asked))
@@ -137,9 +158,15 @@ pub record Demand3 (t : Terminal) (cs : List Call) : Type 0 where
   -- P2, an accepted key call: "it sets the texts and reads nothing", and paints nothing
   pub key-sets : (n : ℕ) (c : Call) → Nth n cs c → c .answer .number ≡ 0 → (k : ℕ) (x : List ℕ) → c .asked ≡ keyText k x
       → (c .left ≡ record { state = texted k x (c .given .state); shown = c .given .shown }) × (readsIn (stood t cs n) (requestOf c) ≡ []) × (c .answer ≡ blankAnswer 0 0) × (c .printer ≡ c .buffer)
+  -- P6, "In demand 3's lists an accepted pack stands for its messages, a refused one for none": the list with each pack replaced so leaves the same,
+  -- and the same happens in it, so that a stretch runs through a pack
+  pub packs : (n : ℕ) → n ≤ length cs → let qs = requests (take n cs) in (left t (take n cs) ≡ stands t (unpacked t qs)) × (eventsOver t qs ≡ eventsOver t (unpacked t qs))
+  -- "An empty pack that passes 1, 3 and 16 does nothing"
+  pub empty-pack : (n : ℕ) (c : Call) → Nth n cs c → c .answer .number ≡ 0 → c .asked ≡ pack []
+      → (c .left ≡ c .given) × (c .answer ≡ blankAnswer 0 0) × (c .in-record ≡ 0) × (c .printer ≡ c .buffer)
   -- from an accepted opening on, all 640 places show the picture of what stands, while no key call is accepted
   pub opened-shown : Opening t → (n : ℕ) → n ≤ length cs → NoKey cs 0 n → Shown (left t (take n cs))
-  -- from the first accepted message, piece or closing on, too; and after a key call from the next one on
+  -- from the first accepted message, piece, closing or pack with a message on, too; and after a key call from the next one on
   pub message-shown : (i : ℕ) (c : Call) → Nth i cs c → c .answer .number ≡ 0 → paints? (c .asked) ≡ true → (n : ℕ) → i < n → n ≤ length cs → NoKey cs (suc i) n → Shown (left t (take n cs))
   -- and rows 1 to 7 whatever key calls are accepted
   pub opened-rows : Opening t → (n : ℕ) → n ≤ length cs → ShownIn aboveRow8 (left t (take n cs))
@@ -150,8 +177,8 @@ pub record Demand3 (t : Terminal) (cs : List Call) : Type 0 where
   pub dots-stay : (n : ℕ) → n < itemCount t cs → (before t cs n .settings .mode ≡ 3 → ⊥) → setsMode (event t cs n) ≡ false
       → before t cs (suc n) .dots ≡ before t cs n .dots
   -- FROM AN ACCEPTED OPENING, OR FROM SOUND SETTINGS
-  -- no call is refused but by 2, a message or a piece over 4,096 bytes, by 15, a piece past the limit, by 16, a message while bytes wait,
-  -- and by 17, a key number outside 1 to 10 or a text not of 8 bytes
+  -- no call is refused but by 2, a message or a piece over 4,096 bytes, by 15, a piece past the limit, by 16, a message or a pack while bytes
+  -- wait, by 17, a key number outside 1 to 10 or a text not of 8 bytes, and a pack by 19, 20, 21 and 2
   pub numbered : Start t → (n : ℕ) (c : Call) → Nth n cs c → c .answer .number ≡ firstOf (ownReasons (stood t cs n .state .settings) (c .asked))
   -- before and after every item: the settings sound, each cursor and window inside its screen (P11: in mode 3 screen 1's alone), the screens' cells
   -- apart and among the 3,840

@@ -12,11 +12,14 @@ pub mod Judging
 pub mod Rules
 pub mod OnScreen
 pub mod Items
+pub mod Records
+pub mod Packs
 pub mod Calls
 pub mod Opening
 pub mod Claims
 pub mod Demand
 pub mod Stream
+pub mod Sending
 pub mod Parameters
 pub mod Examples
 pub mod Runs
@@ -25,3 +28,4 @@ pub mod WrapRuns
 pub mod Dot
 pub mod Strokes
 pub mod CurveRuns
+pub mod PackRuns

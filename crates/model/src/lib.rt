@@ -1,7 +1,7 @@
 // The types of the terminal. What they mean, and every rule, is in specs/.
 
 // "Cells: 3,840 bytes. Layer: 1,280 bytes. Shown screen: 640": the layer's first half marks the places of the shown screen, the second has
-// their codes. P11: "a dot store of 3,840 bytes". A printed copy of the picture takes 656 bytes, and a message has at most 4,096.
+// their codes. P11: "a dot store of 3,840 bytes". A printed copy of the picture takes 656 bytes, a message has at most 4,096 and a pack at most 60,000.
 pub const CELLS: usize = 3840;
 
 pub const LAYER: usize = 1280;
@@ -13,6 +13,8 @@ pub const SHOWN: usize = 640;
 pub const COPY: usize = 656;
 
 pub const MESSAGE: usize = 4096;
+
+pub const PACK: usize = 60000;
 
 // Of one screen: cursor line, cursor column and window top, each from 1; and whether the cursor waits in the last column (1).
 #[repr(C)]
@@ -199,7 +201,7 @@ pub enum Item {
     Refused { number: u8, parameter: u8 },
 }
 
-// The answer of the message, piece, closing and key calls.
+// The answer of the message, piece, closing, key and pack calls.
 #[repr(C)]
 pub struct Answer {
     pub number: u8,
@@ -217,6 +219,14 @@ pub struct Answer {
 pub struct Outcome {
     pub settings: Settings,
     pub answer: Answer,
+}
+
+// What the pack call returns: beside the summed answer the record of its first refusal, counted from 1; 0 if there is none.
+#[repr(C)]
+pub struct PackOutcome {
+    pub settings: Settings,
+    pub answer: Answer,
+    pub record: u32,
 }
 
 // What the opening call returns.

@@ -61,6 +61,6 @@ module _ (s : Settings) (cells layer dots shown : List ℕ) (size : length (s .w
     unfolding itemBytes startOf waitsAfter countAfter takenBy
     closing-served z answer r e f =
         subst (λ (l : List ℕ). Promised (call closing t [] answer (terminal r cells′ layer′ dots′ shown′) l)) nothing
-        (quiet-served s cells layer dots shown size good closing (closing-number t) (heldIn s) (omega (arith, few)) [] b s′ cells′ layer′ dots′ shown′ p w refl z
+        (quiet-served s cells layer dots shown size good closing (closing-number t) (heldIn s) (omega (arith, few)) [] b s′ cells′ layer′ dots′ shown′ p w refl refl z
         (sym (closed-read (heldIn s) (closing-sound .unfinished))) answer r
         (e ∙ ap (λ (n : ℕ). countedFrom (s .count - n) 0 b) (sym (held-is s cells layer dots shown size good))) [] 0 refl refl f)

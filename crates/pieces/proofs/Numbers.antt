@@ -8,7 +8,7 @@ use Rattle.model.specs.declared.Answer.{Answer}
 use Rattle.model.specs.Bytes.{written}
 use Rattle.model.specs.Reading.{uncut}
 use Rattle.model.specs.Items.{blankAnswer, lined}
-use Rattle.model.specs.Calls.{Asked, Promised, Request, Terminal, accepted, called, closing, countable, firstOf, itemBytes, message, noneWaits, numberOf, paints?, piece, reason, reasons, request, short, sized, soundIn, startOf, takenBy}
+use Rattle.model.specs.Calls.{Asked, Promised, Request, Terminal, accepted, called, closing, countable, firstOf, itemBytes, message, noneWaits, numberOf, packed?, paints?, piece, reason, reasons, request, short, sized, soundIn, startOf, takenBy}
 use Rattle.model.specs.Claims.{countAfter, waitsAfter}
 use Rattle.model.proofs.CallLaws.{accepted-number, answer-number, left-is, refused-answer, refused-leaves, refused-number, refused-prints}
 use Rattle.model.proofs.Offsets.{further}
@@ -60,7 +60,7 @@ module _ (t : Terminal) (a : Asked) (only : firstOf (reasons t a) ≡ oneOrThree
       let num : numberOf q r ≡ firstOf (reasons t a) = sym (ap (λ (x : Answer). x .number) (w .answer-is) ∙ answer-number q r) ∙ number-is in
       promised-none (call a t buffer b left p) (refused-number t (request a (length buffer)) (λ k. z (number-is ∙ k)))
       (e (left-is (called xs q buffer b l p) w ∙ refused-leaves q r no)) (w .answer-is ∙ refused-answer q r no ∙ ap (λ (k : ℕ). blankAnswer k 0) num)
-      (w .printer-is ∙ ap (λ (ys : List ℕ). written ys buffer) (refused-prints q r no))
+      (w .printer-is ∙ ap (λ (ys : List ℕ). written ys buffer) (refused-prints q r no)) refl
 
   -- served: what is asked is accepted
   pub accepted-with : b .number ≡ 0 → accepted t (request a (length buffer)) ≡ true
@@ -68,8 +68,8 @@ module _ (t : Terminal) (a : Asked) (only : firstOf (reasons t a) ≡ oneOrThree
   accepted-with z = accepted-number t (request a (length buffer)) (sym number-is ∙ z)
 
   -- and one part is all of it
-  pub served-with : paints? a ≡ true → b .number ≡ 0 → (n : ℕ) → q .state ≡ lined [] n (t .state) → itemBytes (t .state .settings) a ≡ uncut xs
+  pub served-with : paints? a ≡ true → packed? a ≡ false → b .number ≡ 0 → (n : ℕ) → q .state ≡ lined [] n (t .state) → itemBytes (t .state .settings) a ≡ uncut xs
       → (answer : Answer) (left : Terminal) → answer ≡ taking (takenBy a) (further (startOf (t .state .settings) a) b)
       → left .state ≡ lined (waitsAfter (t .state .settings) a) (countAfter (t .state .settings) a) (l .state) → left .shown ≡ l .shown → Promised (call a t buffer answer left p)
-  served-with paints z n e cut answer left f g h =
-      promised-one t a paints buffer xs cut (accepted-with z) n b l p (part-of n xs (t .state) buffer b l p q e w z) answer left f g h
+  served-with paints plain z n e cut answer left f g h =
+      promised-one t a paints plain buffer xs cut (accepted-with z) n b l p (part-of n xs (t .state) buffer b l p q e w z) answer left f g h

@@ -2,7 +2,7 @@
 -- of whole items, is a part of what the piece or the closing promises; one part, or two one behind the other, is all of it.
 use mathlib.Core.Path.{_∙_, _≡_, ap, refl, subst, sym}
 use Prim.Native.Nat.{_+_, _-_, ℕ}
-use mathlib.Core.Bool.{Bool, _&&_, true}
+use mathlib.Core.Bool.{Bool, _&&_, cond, false, true}
 use mathlib.Core.List.{List, [], _++_, _∷_}
 use lib.ListN.{drop, length}
 use Rattle.model.specs.declared.Answer.{Answer}
@@ -17,11 +17,12 @@ use Rattle.model.specs.Sound.{aloneRanges, arrayRanges, inside?, insideRanges, 
 use Rattle.model.specs.Picture.{covered, halves, painting, picture, pictureAt, sides, textAt, under, windowAt}
 use Rattle.model.specs.Reading.{Read, gathered, remaining, uncut}
 use Rattle.model.specs.Rules.{withSettings}
+use Rattle.model.specs.Packs.{readsEach}
 use Rattle.model.specs.Items.{applyAll, blankAnswer, copies, countedAll, eventsOf, lined, readsOf}
-use Rattle.model.specs.Calls.{Asked, Call, Promised, Request, Terminal, accepted, answerOf, besideItems, called, firstOf, itemBytes, message, numberOf, paints?, piece, printedBy, readsBy, reasons, request, served, startOf, takenBy}
+use Rattle.model.specs.Calls.{Asked, Call, Promised, Request, Terminal, accepted, answerOf, besideItems, called, firstOf, itemBytes, message, numberOf, packed?, packedBy, paints?, piece, printedBy, readsBy, reasons, request, served, startOf, takenBy}
 use Rattle.model.specs.Claims.{countAfter, waitsAfter}
 use Rattle.model.specs.Stream.{together}
-use Rattle.model.proofs.CallLaws.{accepted-answer, accepted-number, accepted-painted, accepted-prints, answer-number, left-is, refused-number}
+use Rattle.model.proofs.CallLaws.{accepted-answer, accepted-number, accepted-painted, accepted-prints, answer-number, left-is, plain-record, refused-number}
 use Rattle.model.proofs.LineAfter.{leaves, leaves-lined}
 use Rattle.model.proofs.Lined.{applied-lined, copies-lined, reads-lined}
 use Rattle.model.proofs.Offsets.{further}
@@ -29,9 +30,9 @@ use Rattle.model.proofs.Parts.{itemsOf, later-counts, later-prints, later-state
 use Rattle.model.proofs.Printing.{printed-is}
 use Rattle.model.proofs.Promises.{promised-by, promised-none}
 
--- a call of any kind, from its parts
+-- a call of any kind but a pack, from its parts
 abbrev pub call : Asked → Terminal → List ℕ → Answer → Terminal → List ℕ → Call
-call a given buffer answer left printer = record { asked = a; given = given; left = left; answer = answer; buffer = buffer; printer = printer }
+call a given buffer answer left printer = record { asked = a; given = given; left = left; answer = answer; in-record = 0; buffer = buffer; printer = printer }
 
 -- what a message call of the bytes xs gave where none waited and the count was n: the items of xs from what stands, st, whatever waits there
 pub record Part (n : ℕ) (xs : List ℕ) (st : State) (buffer : List ℕ) (a : Answer) (l : Terminal) (p : List ℕ) : Type 0 where
@@ -81,8 +82,8 @@ painting-lined : (w : List ℕ) (n : ℕ) (st : State) → painting (lined w n s
 unfolding painting picture pictureAt covered under textAt halves sides windowAt cellAt lineAt base columnsOf placeOf textRows lined withSettings
 painting-lined w n st = refl
 
--- what one part is all of: a call whose items are the bytes xs, cut
-module _ (t : Terminal) (a : Asked) (paints : paints? a ≡ true) (buffer : List ℕ) (xs : List ℕ) (cut : itemBytes (t .state .settings) a ≡ uncut xs) (ok : accepted t (request a (length buffer)) ≡ true) where
+-- what one part is all of: a call, no pack, whose items are the bytes xs, cut
+module _ (t : Terminal) (a : Asked) (paints : paints? a ≡ true) (plain : packed? a ≡ false) (buffer : List ℕ) (xs : List ℕ) (cut : itemBytes (t .state .settings) a ≡ uncut xs) (ok : accepted t (request a (length buffer)) ≡ true) where
   abbrev s : Settings
   s = t .state .settings
 
@@ -91,7 +92,9 @@ module _ (t : Terminal) (a : Asked) (paints : paints? a ≡ true) (buffer : List
 
   one-read : readsBy t (request a (length buffer)) ≡ readsOf (uncut xs) start (t .state) (length buffer)
   unfolding readsBy
-  one-read = ap (λ (l : List (List ℕ)). readsOf l start (t .state) (length buffer)) cut
+  one-read =
+      ap (λ (b : Bool). cond b (readsEach (packedBy a) (t .state) (length buffer)) (readsOf (itemBytes s a) start (t .state) (length buffer))) plain
+      ∙ ap (λ (l : List (List ℕ)). readsOf l start (t .state) (length buffer)) cut
 
   one-state : served t (request a (length buffer)) .state ≡ lined (waitsAfter s a) (countAfter s a) (stateOf xs (t .state) (length buffer))
   one-state =
@@ -116,7 +119,7 @@ module _ (t : Terminal) (a : Asked) (paints : paints? a ≡ true) (buffer : List
       promised-by (call a t buffer answer left p) ok paints (made ∙ sym one-state)
       (g ∙ w .shown-is ∙ sym (ap painting f ∙ painting-lined (waitsAfter s a) (countAfter s a) (l .state)))
       (e ∙ ap (λ (x : Answer). taking (takenBy a) (further start x)) (w .answer-is) ∙ sym (one-answer (length xs)))
-      (w .printer-is ∙ ap (λ (ys : List ℕ). written ys buffer) (sym one-prints))
+      (w .printer-is ∙ ap (λ (ys : List ℕ). written ys buffer) (sym one-prints)) (sym (plain-record t (request a (length buffer)) plain))
 
 -- what two parts are all of: a piece whose items are those of xs and then those of ys
 module _ (t : Terminal) (m : List ℕ) (buffer : List ℕ) (xs ys : List ℕ) (cut : gathered (heldIn (t .state .settings)) m ≡ uncut xs ++ uncut ys) (ok : accepted t (request (piece m) (length buffer)) ≡ true) where
@@ -146,13 +149,13 @@ module _ (t : Terminal) (m : List ℕ) (buffer : List ℕ) (xs ys : List ℕ) (c
       (g ∙ w .shown-is ∙ sym (ap painting f ∙ painting-lined w′ k (l₂ .state)))
       (e ∙ (λ i. taking (length m) (together (further from (v .answer-is i)) (further (from + length xs) (second i)))) ∙ sym (piece-answer t m (length buffer) xs ys cut ok (length xs) (length ys)))
       (ap (λ (l : List ℕ). p₁ ++ l) (w .printer-is ∙ ap (λ (r : ℕ). written (printsIn ys st₁ r) (drop (length p₁) buffer)) size) ∙ written-twice p₁ (printsIn ys st₁ room₂) buffer
-      ∙ ap (λ (zs : List ℕ). written zs buffer) (sym (piece-prints t m (length buffer) xs ys cut ok)))
+      ∙ ap (λ (zs : List ℕ). written zs buffer) (sym (piece-prints t m (length buffer) xs ys cut ok))) (sym (plain-record t (request (piece m) (length buffer)) refl))
 
 -- refused by its number: all as it came
 pub promised-not : (a : Asked) (t : Terminal) (buffer : List ℕ) (n : ℕ) (answer : Answer) → n ≡ firstOf (reasons t a) → (n ≡ 0 → ⊥) → answer ≡ blankAnswer n 0 → Promised (call a t buffer answer t buffer)
 unfolding numberOf
 promised-not a t buffer n answer e z w =
-    promised-none (call a t buffer answer t buffer) (refused-number t (request a (length buffer)) (λ k. z (e ∙ k))) refl (w ∙ ap (λ (k : ℕ). blankAnswer k 0) e) refl
+    promised-none (call a t buffer answer t buffer) (refused-number t (request a (length buffer)) (λ k. z (e ∙ k))) refl (w ∙ ap (λ (k : ℕ). blankAnswer k 0) e) refl refl
 
 -- soundness apart from the line: two sound lines, and the same settings otherwise
 pub sound-either : (s : Settings) (w : List ℕ) (h n : ℕ) (w′ : List ℕ) (h′ n′ : ℕ) → length w ≡ 12 → length w′ ≡ 12 → line? w h n ≡ true → line? w′ h′ n′ ≡ true → sound? (withLine s w h n) ≡ sound? (withLine s w′ h′ n′)

@@ -77,7 +77,7 @@ module _ (s : Settings) (m cells layer dots shown buffer : List ℕ) (size : len
   unfolding itemBytes takenBy startOf waitsAfter countAfter
   one-served small b s′ cells′ layer′ dots′ shown′ p w z answer r e f =
       let t : Terminal = terminal s cells layer dots shown in
-      quiet-served s cells layer dots shown size (h .line) (piece m) (piece-number t m (h .few) (h .counts)) (take end bytes) (omega (arith, length-take end bytes, x .low)) buffer b s′ cells′ layer′ dots′ shown′ p w refl z cut answer r
+      quiet-served s cells layer dots shown size (h .line) (piece m) (piece-number t m (h .few) (h .counts)) (take end bytes) (omega (arith, length-take end bytes, x .low)) buffer b s′ cells′ layer′ dots′ shown′ p w refl refl z cut answer r
       (e ∙ ap (λ (j : ℕ). countedFrom (s .count - j) (length m) b) (sym (x .held))) rest (s .count + length m) rest-is refl f
 
 -- a long piece: 52 bytes of it are in the array, and it goes on from where their whole items end

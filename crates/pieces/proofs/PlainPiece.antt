@@ -107,7 +107,7 @@ module _ {s : Settings} {m : List ℕ} {end : ℕ} (x : Plain s m end) where
         → Promised (pieced m t buffer answer (terminal r cells′ layer′ dots′ shown′) p)
     unfolding itemBytes countAfter takenBy lined withSettings
     plain-served z answer r f g =
-        served-with t (piece m) only t front refl refl small quiet buffer b l p w refl z (s .count) (as-quiet z) (ap (λ (v : List ℕ). gathered v m) nothing ∙ cut)
+        served-with t (piece m) only t front refl refl small quiet buffer b l p w refl refl z (s .count) (as-quiet z) (ap (λ (v : List ℕ). gathered v m) nothing ∙ cut)
         answer (terminal r cells′ layer′ dots′ shown′) (f ∙ ap (λ (n : ℕ). taking (length m) (further n b)) start-is)
         ((λ i. state (g i) cells′ layer′ dots′) ∙ (λ i. lined (waits i) (s .count + length m) (state s′ cells′ layer′ dots′))) refl
 

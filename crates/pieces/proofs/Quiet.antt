@@ -2,7 +2,7 @@
 use mathlib.Core.Path.{_∙_, _≡_, refl, subst}
 use Prim.Native.Nat.{_≤_, ℕ}
 use native.Mathlib.Omega.{arith}
-use mathlib.Core.Bool.{true}
+use mathlib.Core.Bool.{false, true}
 use mathlib.Core.List.{List, []}
 use lib.ListN.{length, replicate}
 use borrow.Author.Tests.{le-leb}
@@ -13,7 +13,7 @@ use Rattle.model.specs.Line.{LineSound, heldIn, line?, padded}
 use Rattle.model.specs.Reading.{uncut}
 use Rattle.model.specs.Rules.{withSettings}
 use Rattle.model.specs.Items.{lined}
-use Rattle.model.specs.Calls.{Asked, Promised, Terminal, accepted, called, firstOf, itemBytes, noneWaits, paints?, reasons, request, sized, soundIn, startOf, takenBy, terminal}
+use Rattle.model.specs.Calls.{Asked, Promised, Terminal, accepted, called, firstOf, itemBytes, noneWaits, packed?, paints?, reasons, request, sized, soundIn, startOf, takenBy, terminal}
 use Rattle.model.specs.Claims.{countAfter, waitsAfter}
 use Rattle.model.proofs.Gathering.{none-unfinished}
 use Rattle.model.proofs.LineLaws.{held-length, line-true, sound-padded, true-line}
@@ -73,10 +73,10 @@ module _ (s : Settings) (cells layer dots shown : List ℕ) (size : length (s .w
     pub quiet-accepted : b .number ≡ 0 → accepted t (request a (length buffer)) ≡ true
     quiet-accepted = accepted-with t a only q xs same-sized same-sound (le-leb (length xs) 4096 few) none buffer b (terminal s′ cells′ layer′ dots′ shown′) p w
 
-    pub quiet-served : paints? a ≡ true → b .number ≡ 0 → itemBytes s a ≡ uncut xs → (answer : Answer) (r : Settings) → answer ≡ countedFrom (startOf s a) (takenBy a) b
+    pub quiet-served : paints? a ≡ true → packed? a ≡ false → b .number ≡ 0 → itemBytes s a ≡ uncut xs → (answer : Answer) (r : Settings) → answer ≡ countedFrom (startOf s a) (takenBy a) b
         → (rest : List ℕ) (n : ℕ) → rest ≡ waitsAfter s a → n ≡ countAfter s a → r ≡ withLine s′ (padded rest) (length rest) n
         → Promised (call a t buffer answer (terminal r cells′ layer′ dots′ shown′) p)
     unfolding lined withSettings
-    quiet-served paints z cut answer r e rest n f g h =
-        served-with t a only q xs same-sized same-sound (le-leb (length xs) 4096 few) none buffer b (terminal s′ cells′ layer′ dots′ shown′) p w paints z (s .count) quiet-state cut answer (terminal r cells′ layer′ dots′ shown′) e
+    quiet-served paints plain z cut answer r e rest n f g h =
+        served-with t a only q xs same-sized same-sound (le-leb (length xs) 4096 few) none buffer b (terminal s′ cells′ layer′ dots′ shown′) p w paints plain z (s .count) quiet-state cut answer (terminal r cells′ layer′ dots′ shown′) e
         (λ i. state ((h ∙ (λ j. withLine s′ (padded (f j)) (length (f j)) (g j))) i) cells′ layer′ dots′) refl

@@ -25,11 +25,11 @@ handed-back c p =
     rw (le-leb (c .answer .printed) (length (c .printer)) fits, n, p .printer-is) (take-append-seam ys (drop (length ys) (c .buffer)))
 
 -- so a call whose line is said is a call played, with the sum over its printer bytes
-pub plays-of : {asked : Asked} {t : Terminal} {buffer printer cells layer dots shown : List ℕ} {out : Outcome} {q r : Played}
-    → Promised (callOf asked t buffer (out .answer) (terminal (out .settings) cells layer dots shown) printer) → Told q out printer r
+pub plays-of : {asked : Asked} {t : Terminal} {buffer printer cells layer dots shown : List ℕ} {n : ℕ} {out : Outcome} {q r : Played}
+    → Promised (callOf asked t buffer (out .answer) n (terminal (out .settings) cells layer dots shown) printer) → Told q out printer r
     → Plays asked t buffer q r (terminal (r .settings) cells layer dots shown) printer
 plays-of {q = q} p h = record {
-  plays = record { answer-is = refl; settings-are = h .settings-are ∙ p .settings-are; cells-are = p .cells-are; layer-is = p .layer-is; dots-are = p .dots-are; shown-is = p .shown-is; printer-is = p .printer-is };
+  plays = record { answer-is = refl; record-is = refl; settings-are = h .settings-are ∙ p .settings-are; cells-are = p .cells-are; layer-is = p .layer-is; dots-are = p .dots-are; shown-is = p .shown-is; printer-is = p .printer-is };
   sum-is = h .sum-is ∙ ap (adlerFrom (q .printer)) (handed-back _ p);
   room-is = h .room-is;
 }

@@ -5,7 +5,7 @@ use mathlib.Core.List.{List, []}
 use lib.ListN.{length}
 use Rattle.model.specs.declared.Answer.{Answer}
 use Rattle.model.specs.declared.Outcome.{Outcome}
-use Rattle.model.specs.Calls.{Asked, Call, KeyPromised, Promised, Terminal, answerOf, keyText, printedBy, request, terminal}
+use Rattle.model.specs.Calls.{Asked, Call, KeyPromised, Promised, Terminal, answerOf, keyText, printedBy, recordOf, request, terminal}
 use Rattle.model.specs.Opening.{OpeningPromised, firstPart, openingNumber, unopened}
 use Rattle.report.specs.Adler.{adlerFrom}
 use Rattle.recording.specs.declared.Played.{Played}
@@ -17,13 +17,13 @@ pub record Opens (rule : ℕ) (cells layer dots shown : List ℕ) (sum room : �
   pub sum-is : r .printer ≡ sum
   pub room-is : r .room ≡ room
 
--- a call: what is asked, what it was given (terminal, printer buffer), what it returns and leaves
-abbrev pub callOf : Asked → Terminal → List ℕ → Answer → Terminal → List ℕ → Call
-callOf asked given buffer answer left printer = record { asked = asked; given = given; left = left; answer = answer; buffer = buffer; printer = printer }
+-- a call: what is asked, what it was given (terminal, printer buffer), what it returns (an answer and, of a pack, a record) and leaves
+abbrev pub callOf : Asked → Terminal → List ℕ → Answer → ℕ → Terminal → List ℕ → Call
+callOf asked given buffer answer n left printer = record { asked = asked; given = given; left = left; answer = answer; in-record = n; buffer = buffer; printer = printer }
 
 -- a call on t with that printer buffer, from p to r: the sum over the printer bytes of all calls; the room stays
 pub record Plays (asked : Asked) (t : Terminal) (buffer : List ℕ) (p r : Played) (t′ : Terminal) (printer : List ℕ) : Type 0 where
-  pub plays : Promised (callOf asked t buffer (answerOf t (request asked (length buffer))) t′ printer)
+  pub plays : Promised (callOf asked t buffer (answerOf t (request asked (length buffer))) (recordOf t (request asked (length buffer))) t′ printer)
   pub sum-is : r .printer ≡ adlerFrom (p .printer) (printedBy t (request asked (length buffer)))
   pub room-is : r .room ≡ p .room
 

@@ -1,6 +1,6 @@
 // Recordings of calls, read record by record from standard input and played from an opening by rule 1: body length and kind, two bytes each,
-// little-endian, then the body. Kind 1 is a message, 2 a piece of a stream, 3 its closing, 4 a key text: the key's number, then the text; 7 is an
-// opening, whose body is the rule; 8 the printer room of the calls behind it, two bytes.
+// little-endian, then the body. Kind 1 is a message, 2 a piece of a stream, 3 its closing, 4 a key text: the key's number, then the text; 5 is a pack of
+// messages; 7 an opening, whose body is the rule; 8 the printer room of the calls behind it, two bytes.
 ghost use mathlib.Core.Path.{_≡_};
 ghost use mathlib.Core.List.{[]};
 ghost use Prim.Native.Nat.{_+_, _*_, _≤_};
@@ -110,7 +110,7 @@ fn ended(bad: bool) -> Next
 // printer room two.
 fn asks(kind: u16, length: u16) -> bool {
     match kind {
-        1 | 2 => true,
+        1 | 2 | 5 => true,
         3 => length == 0,
         4 => length >= 1,
         7 => length == 1,
@@ -119,7 +119,7 @@ fn asks(kind: u16, length: u16) -> bool {
     }
 }
 
-// What a record asks for, its line with that number; with number 0 it is done with no word. Other kinds than these six never come here, nor a body
+// What a record asks for, its line with that number; with number 0 it is done with no word. Other kinds than these seven never come here, nor a body
 // that is too short for its kind.
 pub fn play(
     number: u64,
@@ -150,6 +150,16 @@ pub fn play(
         ),
         3 => play_closing(number, played, cells, layer, shown, dots),
         4 => play_key_record(number, played, body),
+        5 => play_pack(
+            number,
+            played,
+            body,
+            cells,
+            layer,
+            shown,
+            dots,
+            &mut printer[start..end],
+        ),
         7 => play_opening_record(number, played, body, cells, layer, shown, dots),
         8 => play_room(number, played, body),
         _ => play_message(
@@ -238,6 +248,27 @@ pub fn play_piece(
     told(number, played, outcome, printer)
 }
 
+// One pack of messages, and its line: a message's, and the record of the first refusal.
+pub fn play_pack(
+    number: u64,
+    played: Played,
+    pack: &[u8],
+    cells: &mut [u8],
+    layer: &mut [u8],
+    shown: &mut [u8],
+    dots: &mut [u8],
+    printer: &mut [u8],
+) -> Played
+    ensures { λ r. ⌜ Plays (Asked.pack (now (pack .entry))) (terminal (played .settings) (now (cells .entry)) (now (layer .entry)) (now (dots .entry)) (now (shown .entry))) (now (printer .entry)) played r (terminal (r .settings) (now (cells .exit)) (now (layer .exit)) (now (dots .exit)) (now (shown .exit))) (now (printer .exit)) ⌝ }
+{
+    let before = played.settings;
+    let packed = packs::px8_pack(before, pack, cells, layer, shown, dots, printer);
+    let settings = packed.settings;
+    let answer = packed.answer;
+    say_pack(number, answer, packed.record);
+    summed(played, Outcome { settings, answer }, printer)
+}
+
 // The closing of a stream, and its line. It is lent no printer buffer.
 pub fn play_closing(
     number: u64,
@@ -321,9 +352,16 @@ fn room_of(body: &[u8]) -> usize {
 fn told(number: u64, played: Played, outcome: Outcome, printer: &[u8]) -> Played
     ensures { λ r. ⌜ Told played outcome (now (printer .entry)) r ⌝ }
 {
+    say_line(number, outcome.answer);
+    summed(played, outcome, printer)
+}
+
+// What a call left, and the sum over its printer bytes.
+fn summed(played: Played, outcome: Outcome, printer: &[u8]) -> Played
+    ensures { λ r. ⌜ Told played outcome (now (printer .entry)) r ⌝ }
+{
     let settings = outcome.settings;
     let answer = outcome.answer;
-    say_line(number, answer);
     let sum = report::adler32(played.printer, terminal::printed(printer, answer.printed));
     Played {
         settings,
@@ -347,10 +385,25 @@ fn say_line(number: u64, answer: Answer) {
     if number == 0 {
         return;
     }
+    say_counts(number, answer);
+    report::say(b"\n");
+}
+
+// The same with ` record N` at its end.
+fn say_pack(number: u64, answer: Answer, record: u32) {
+    if number == 0 {
+        return;
+    }
+    say_counts(number, answer);
+    report::say_number(b" record ", record as u64);
+    report::say(b"\n");
+}
+
+// A line's words, but for its end.
+fn say_counts(number: u64, answer: Answer) {
     report::say_number(b"", number);
     report::say(b" ");
     report::say_answer(answer);
     report::say_number(b" printed ", answer.printed as u64);
     report::say_byte(b" parameter ", answer.parameter);
-    report::say(b"\n");
 }

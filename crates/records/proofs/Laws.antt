@@ -1,17 +1,19 @@
 -- Laws of records: the walk over the bytes goes from record to record. `records-next`, `uncut-next`, `uncut-fits` and `body-length` are for
--- whoever steps over bytes that are not cut.
+-- whoever steps over bytes that are not cut; P6: the last module, for whoever walks over a pack by an index.
 use mathlib.Core.Path.{_∙_, _≡_, ap, refl, sym}
 use Prim.Native.Nat.{_+_, _*_, _-_, _<_, _≤_, suc, zero, ℕ}
 use native.Mathlib.Nat.{add-zero}
 use native.Mathlib.Omega.{arith}
-use mathlib.Core.Bool.{Bool, false, true}
-use mathlib.Core.List.{List, [], _∷_}
+use mathlib.Core.Bool.{Bool, _&&_, false, true}
+use mathlib.Core.List.{List, [], _∷_, map}
 use lib.ListN.{drop, drop-of-length-le, getD, length, length-drop, length-take, take}
 use lib.Seq.{drop-drop, getD-drop}
-use lib.Dec.{eqb, ltb}
+use lib.Dec.{eqb, leb, ltb}
 use borrow.Author.Tests.{eqb-false, eqb-true, ltb-false, ltb-true, ne-eqb}
 use Rattle.model.proofs.Tests.{differ}
-use Rattle.records.specs.Records.{Record, bodyIn, kindIn, lacking, lengthIn, numberIn, recordIn, recordsAfter, recordsOf, uncut?}
+use Rattle.model.specs.Calls.{short}
+use Rattle.model.specs.Packs.{bodiesOf, known?}
+use Rattle.model.specs.Records.{Record, all?, bodyIn, kindIn, lacking, lengthIn, numberIn, recordIn, recordsAfter, recordsOf, uncut?}
 
 number-two : (bs : List ℕ) → numberIn (take 2 bs) ≡ getD bs 0 0 + 256 * getD bs 1 0
 unfolding numberIn
@@ -109,3 +111,42 @@ module _ (bs : List ℕ) (at : ℕ) (inside : at ≤ length bs) where
       go : (b : Bool) → eqb at (length bs) ≡ b → b ≡ uncut? (drop at bs)
       go true e = let h : length bs ≤ at = omega (arith, eqb-true at (length bs) e) in rw (drop-of-length-le bs {i = at} h)
       go false e = sym (uncut-not (drop at bs) (omega (arith, size-at, eqb-false at (length bs) e)) (omega (arith, size-at)))
+
+-- P6: a pack at an index where a record begins, n its length: each test of the whole pack, and its bodies, by that record and what is behind it
+module _ (bs : List ℕ) (at n : ℕ) (size : n ≡ lengthIn (drop at bs)) where
+  some-at : at < length bs → 1 ≤ length (drop at bs)
+  some-at some = omega (arith, length-drop at bs)
+
+  records-at : at < length bs → recordsOf (drop at bs) ≡ recordIn (drop at bs) ∷ recordsOf (drop (at + (n + 4)) bs)
+  records-at some =
+      records-next (drop at bs) (some-at some) ∙ ap (λ (l : List ℕ). recordIn (drop at bs) ∷ recordsOf l) (ap (λ (k : ℕ). drop (k + 4) (drop at bs)) (sym size) ∙ drop-drop (n + 4) at bs)
+
+  pub all-at : (test : Record → Bool) → at < length bs → all? test (recordsOf (drop at bs)) ≡ (test (recordIn (drop at bs)) && all? test (recordsOf (drop (at + (n + 4)) bs)))
+  unfolding all?
+  all-at test some = ap (all? test) (records-at some)
+
+  pub known-at : known? (recordIn (drop at bs)) ≡ eqb (kindIn (drop at bs)) 1
+  unfolding known? recordIn
+  known-at = refl
+
+  pub short-at : at < length bs → at + (n + 4) ≤ length bs → short (recordIn (drop at bs) .body) ≡ leb n 4096
+  unfolding recordIn
+  short-at some fits =
+      let h : lengthIn (drop at bs) + 4 ≤ length (drop at bs) = omega (arith, length-drop at bs) in
+      ap (λ (k : ℕ). leb k 4096) (body-length (drop at bs) h ∙ sym size)
+
+  pub bodies-at : at < length bs → bodiesOf (drop at bs) ≡ take n (drop (at + 4) bs) ∷ bodiesOf (drop (at + (n + 4)) bs)
+  unfolding bodiesOf recordIn bodyIn
+  bodies-at some =
+      let own : bodyIn (drop at bs) ≡ take n (drop (at + 4) bs) = ap (λ (k : ℕ). take k (drop 4 (drop at bs))) (sym size) ∙ ap (take n) (drop-drop 4 at bs) in
+      ap (map (λ (r : Record). r .body)) (records-at some) ∙ ap (λ (m : List ℕ). m ∷ bodiesOf (drop (at + (n + 4)) bs)) own
+
+-- and at its end
+module _ (bs : List ℕ) (at : ℕ) (over : length bs ≤ at) where
+  pub all-over : (test : Record → Bool) → all? test (recordsOf (drop at bs)) ≡ true
+  unfolding all? recordsAfter
+  all-over test = ap (λ (l : List ℕ). all? test (recordsOf l)) (drop-of-length-le bs {i = at} over)
+
+  pub bodies-over : bodiesOf (drop at bs) ≡ []
+  unfolding bodiesOf recordsAfter
+  bodies-over = ap bodiesOf (drop-of-length-le bs {i = at} over)

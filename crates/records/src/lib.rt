@@ -3,7 +3,7 @@
 ghost use mathlib.Core.Path.{_≡_};
 ghost use Prim.Native.Nat.{_+_, _*_, _≤_};
 ghost use lib.ListN.{length, drop};
-ghost use Rattle.records.specs.Records.{lengthIn, kindIn, uncut?};
+ghost use Rattle.model.specs.Records.{lengthIn, kindIn, uncut?};
 
 // Two bytes, little-endian.
 pub fn little(low: u8, high: u8) -> u16

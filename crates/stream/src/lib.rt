@@ -1,5 +1,5 @@
 // A piece of a stream and the closing, for a board's firmware in C or Rust: structures by value, slices as pointer and length; c/px8.h says it for C.
-// They are made of message calls, and stand apart from the crate `board`: an archive has one copy of the message loop, and the loop that px8_message goes
+// They are made of message calls, and stand apart from the crate `board`: an archive object has one copy of the message loop, and the loop that px8_message goes
 // through is compiled for that call alone.
 ghost use mathlib.Core.Path.{_≡_};
 ghost use Prim.Native.Nat.{_<_, _≤_};

@@ -10,7 +10,7 @@ use lib.Dec.{eqb, leb, ltb}
 use borrow.Author.Tests.{leb-true, ltb-false, ltb-true}
 use Rattle.model.specs.declared.Keys.{Keys}
 use Rattle.model.proofs.Tests.{and-left, and-right, cond-at}
-use Rattle.records.specs.Records.{numberIn}
+use Rattle.model.specs.Records.{numberIn}
 use Rattle.traces.specs.declared.Stroke.{Stroke}
 use Rattle.traces.specs.Strokes.{rising?}
 use Rattle.traces.specs.Codes.{Code, bytesOf, countBelow, endOf, ends?, everyFrom, firstRepeat, repeatCount, sent, sentAt, sentBy}

@@ -12,7 +12,7 @@ use Rattle.model.specs.Bytes.{onPart, put, written}
 use Rattle.model.specs.Sound.{keyRanges, plainRanges, sound?}
 use Rattle.model.specs.Calls.{Reason, allFree, firstOf, reason}
 use Rattle.model.proofs.SoundLaws.{sound-true}
-use Rattle.records.specs.Records.{all?, recordsOf, uncut?}
+use Rattle.model.specs.Records.{all?, recordsOf, uncut?}
 use Rattle.traces.specs.Strokes.{rising?, stroke?, strokesIn}
 use Rattle.traces.specs.Codes.{Code, codesBytes, sent}
 use Rattle.traces.specs.Call.{RepeatsPromised, checks, fits?, listed, reasons, sentIn, short?}

@@ -9,7 +9,7 @@ use lib.Seq.{drop-drop, getD-drop, getD-take, take-take}
 use lib.Dec.{eqb}
 use borrow.Author.Tests.{eqb-true, le-leb, lt-leb}
 use Rattle.model.proofs.Tests.{and-left, and-right}
-use Rattle.records.specs.Records.{all?, bodyIn, kindIn, lengthIn, numberIn, recordIn, recordsAfter, recordsOf, uncut?}
+use Rattle.model.specs.Records.{all?, bodyIn, kindIn, lengthIn, numberIn, recordIn, recordsAfter, recordsOf, uncut?}
 use Rattle.records.proofs.Laws.{body-length, records-next, two-at, uncut-fits, uncut-next}
 use Rattle.traces.specs.declared.Stroke.{Stroke}
 use Rattle.traces.specs.Strokes.{rising?, stroke?, strokeOf, strokesIn}

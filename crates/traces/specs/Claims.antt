@@ -5,7 +5,7 @@ use Prim.Native.Nat.{ℕ, _+_, _*_, _<_, _≤_}
 use mathlib.Core.Bool.{true}
 use mathlib.Core.List.{List, [], _∷_}
 use Rattle.model.specs.declared.Keys.{Keys}
-use Rattle.records.specs.Records.{numberIn}
+use Rattle.model.specs.Records.{numberIn}
 use Rattle.traces.specs.declared.Stroke.{Stroke}
 use Rattle.traces.specs.Strokes.{rising?}
 use Rattle.traces.specs.Codes.{Code, bytesOf, repeatCount, sent}

@@ -6,7 +6,7 @@ use mathlib.Core.List.{List, _∷_}
 use lib.ListN.{length, drop}
 use Rattle.model.specs.declared.Keys.{Keys}
 use Rattle.model.specs.Bytes.{put}
-use Rattle.records.specs.Records.{recordsOf, all?, uncut?}
+use Rattle.model.specs.Records.{recordsOf, all?, uncut?}
 use Rattle.traces.specs.declared.Stroke.{Stroke}
 use Rattle.traces.specs.Strokes.{strokesIn, stroke?}
 use Rattle.traces.specs.Codes.{sent, codesBytes}

@@ -5,7 +5,7 @@ use mathlib.Core.Bool.{Bool, true, _&&_, _||_}
 use mathlib.Core.List.{List, [], _∷_, map}
 use lib.ListN.{length, getD, take}
 use lib.Dec.{eqb, leb}
-use Rattle.records.specs.Records.{Record, numberIn, recordsOf}
+use Rattle.model.specs.Records.{Record, numberIn, recordsOf}
 use Rattle.traces.specs.declared.Stroke.{Stroke}
 
 -- "kind 1 press and kind 2 release, body a four-byte little-endian tick .. and a key byte"

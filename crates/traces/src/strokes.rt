@@ -4,7 +4,7 @@ ghost use mathlib.Core.Bool.{true};
 ghost use Prim.Native.Nat.{_+_, _<_, _≤_};
 ghost use lib.ListN.{length, drop};
 ghost use Rattle.model.specs.Calls.{firstOf};
-ghost use Rattle.records.specs.Records.{lengthIn, recordIn, recordsOf, all?, uncut?};
+ghost use Rattle.model.specs.Records.{lengthIn, recordIn, recordsOf, all?, uncut?};
 ghost use Rattle.traces.specs.Strokes.{strokeOf, strokesIn, stroke?, rising?};
 ghost use Rattle.traces.specs.Call.{checks};
 ghost use Rattle.traces.specs.Stepping.{Whole, Tested, StrokeRead};

@@ -29,8 +29,8 @@
 //!   line (16 of 4,096 bytes), sent in turn.
 //!
 //! The lines of two screens side by side say their input in `screens`, those
-//! of a stream's pieces and closings in `streams`, those of traces of keys in
-//! `traces`, those of sequences written in `writes`.
+//! of a stream's pieces and closings in `streams`, those of packs in `packs`, those
+//! of traces of keys in `traces`, those of sequences written in `writes`.
 //!
 //! A run sends them often enough to last some milliseconds. Each run starts
 //! from the same settings and stores; within a run nothing is cleared. The
@@ -45,6 +45,7 @@
 //! `mixed`, nor modes 1 and 2. Its runs are as long in time, not in messages.
 
 mod input;
+mod packs;
 mod screens;
 mod side;
 mod streams;
@@ -79,6 +80,7 @@ fn main() -> ExitCode {
         println!("bench {name} ours {ours:.1} plain {plain:.1} ratio {:.2}", ours / plain);
     }
     streams::bench(&word);
+    packs::bench(&word);
     traces::bench(&word);
     writes::bench(&word);
     ExitCode::SUCCESS

@@ -37,6 +37,16 @@ pub trait Calls: Clone {
         dots: &mut [u8],
     ) -> (Self::Settings, bool);
 
+    /// A pack, as a message.
+    fn pack(
+        settings: Self::Settings,
+        pack: &[u8],
+        cells: &mut [u8],
+        layer: &mut [u8],
+        shown: &mut [u8],
+        dots: &mut [u8],
+    ) -> (Self::Settings, bool);
+
     /// A closing, as an empty message.
     fn closing(
         settings: Self::Settings,
@@ -79,6 +89,18 @@ impl Calls for Board {
         dots: &mut [u8],
     ) -> (px8::Settings, bool) {
         let (after, answer) = px8::piece(settings, piece, cells, layer, shown, dots, &mut []);
+        (after, answer.number == 0 && answer.refused == 0)
+    }
+
+    fn pack(
+        settings: px8::Settings,
+        pack: &[u8],
+        cells: &mut [u8],
+        layer: &mut [u8],
+        shown: &mut [u8],
+        dots: &mut [u8],
+    ) -> (px8::Settings, bool) {
+        let (after, answer, _) = px8::pack(settings, pack, cells, layer, shown, dots, &mut []);
         (after, answer.number == 0 && answer.refused == 0)
     }
 
@@ -129,6 +151,18 @@ impl Calls for Plain {
         (after, answer.number == 0 && answer.refused == 0)
     }
 
+    fn pack(
+        settings: tuned::Settings,
+        pack: &[u8],
+        cells: &mut [u8],
+        layer: &mut [u8],
+        shown: &mut [u8],
+        dots: &mut [u8],
+    ) -> (tuned::Settings, bool) {
+        let (after, answer, _) = tuned::pack(settings, pack, cells, layer, shown, dots, &mut []);
+        (after, answer.number == 0 && answer.refused == 0)
+    }
+
     fn closing(
         settings: tuned::Settings,
         cells: &mut [u8],
@@ -168,6 +202,13 @@ impl<C: Calls> Side<C> {
     pub fn piece(&mut self, piece: &[u8]) {
         let Side { settings, cells, layer, shown, dots, .. } = self;
         let (after, clean) = C::piece(*settings, piece, cells, layer, shown, dots);
+        self.settings = after;
+        self.clean &= clean;
+    }
+
+    pub fn pack(&mut self, pack: &[u8]) {
+        let Side { settings, cells, layer, shown, dots, .. } = self;
+        let (after, clean) = C::pack(*settings, pack, cells, layer, shown, dots);
         self.settings = after;
         self.clean &= clean;
     }

@@ -10,6 +10,7 @@ mod keyline;
 mod late;
 mod lines;
 mod list;
+mod packs;
 mod parameters;
 mod streams;
 
@@ -19,6 +20,7 @@ use self::keyline::KeyLine;
 use self::late::Late;
 use self::lines::Lines;
 use self::list::{CLASSES, JUDGED};
+use self::packs::Packs;
 use self::parameters::Parameters;
 use self::streams::Streams;
 use crate::generate::dots::MODE_3_FAULTS;
@@ -49,6 +51,7 @@ pub struct Coverage {
     lines: Lines,
     late: Late,
     dots: Dots,
+    packs: Packs,
     /// cells, layer and dots
     stores: [Vec<u8>; 3],
 }
@@ -83,7 +86,7 @@ impl Coverage {
             }
         }
         coverage.expect_ends();
-        for call in ["opening", "message", "piece", "closing"] {
+        for call in ["opening", "message", "piece", "closing", "pack"] {
             for store in STORE_NAMES {
                 for size in ["empty", "short", "long"] {
                     coverage.sizes.insert(format!("{call}, {store} {size}"), 0);
@@ -143,7 +146,7 @@ impl Coverage {
     }
 
     /// Counts a call that is done.
-    pub fn call(&mut self, call: &Call, settings: &Settings, answer: &Answer) {
+    pub fn call(&mut self, call: &Call, settings: &Settings, answer: &Answer, record: u32) {
         self.streams.call(call, settings, answer);
         if answer.number == 3 {
             let (name, _) = call.settings.expect("only broken settings are unsound");
@@ -157,6 +160,10 @@ impl Coverage {
             }
             Kind::Piece => self.count_sizes("piece", call.sizes),
             Kind::Closing => self.count_sizes("closing", call.sizes),
+            Kind::Pack => {
+                self.packs.call(call, settings, answer, record);
+                self.count_sizes("pack", call.sizes);
+            }
             // it reads nothing
             Kind::KeyText(number) => return self.key_line.key_text(number, call, settings, answer),
             // counted at the list's start
@@ -228,17 +235,31 @@ impl Coverage {
         let mut printer = vec![0; call.room];
         let mut standing =
             Standing { settings: *settings, cells, layer, dots, printer: &mut printer, printed: 0 };
-        // closing has no message, and a message no bytes that wait
-        let bytes = [waits(settings), &call.message].concat();
-        let mut offset = 0;
         let mut refusals = Vec::new();
+        for bytes in parts(call, settings) {
+            self.walk_part(call, settings, &bytes, &mut standing, &mut refusals);
+        }
+        self.key_line.painted(&standing);
+        self.parameters.several(&refusals);
+        self.stores = stores;
+    }
+
+    fn walk_part(
+        &mut self,
+        call: &Call,
+        settings: &Settings,
+        bytes: &[u8],
+        standing: &mut Standing,
+        refusals: &mut Vec<(u8, u8)>,
+    ) {
+        let mut offset = 0;
         while offset < bytes.len() {
             let rest = &bytes[offset..];
             if call.kind == Kind::Piece && unfinished(rest) {
                 break;
             }
             let (item, length) = read(rest, &standing.settings, call.room - standing.printed);
-            let before = Before::of(&standing);
+            let before = Before::of(standing);
             standing.apply(&item);
             if call.kind == Kind::Piece && offset == 0 {
                 self.finished(&item, settings);
@@ -248,16 +269,13 @@ impl Coverage {
                 self.named(number, parameter, &rest[1..length], call.room, &before);
                 refusals.push((number, parameter));
             } else {
-                self.accepted_item(&item, length, call.room, &before, &standing);
+                self.accepted_item(&item, length, call.room, &before, standing);
             }
             offset += length;
         }
         if call.kind == Kind::Piece {
             self.streams.waits(&bytes[offset..], offset, settings);
         }
-        self.key_line.painted(&standing);
-        self.parameters.several(&refusals);
-        self.stores = stores;
     }
 
     /// The first item of a piece.
@@ -340,8 +358,21 @@ impl Coverage {
         lines.extend(self.lines.lines());
         lines.extend(self.late.lines());
         lines.extend(self.dots.lines());
+        lines.extend(self.packs.lines());
         lines.extend(self.unsound.iter().map(|(name, &count)| (format!("unsound: {name}"), count)));
         lines.extend(self.sizes.iter().map(|(name, &count)| (format!("size: {name}"), count)));
         lines
+    }
+}
+
+/// The bytes that an accepted call reads, each part by itself: closing has no
+/// message, a message no bytes that wait, and a pack is many messages.
+fn parts(call: &Call, settings: &Settings) -> Vec<Vec<u8>> {
+    match call.kind {
+        Kind::Pack => {
+            let records = reference::records::records(&call.message).expect("an accepted pack is whole");
+            records.into_iter().map(|(_, body)| body.to_vec()).collect()
+        }
+        _ => vec![[waits(settings), &call.message].concat()],
     }
 }

@@ -8,12 +8,14 @@
 //! - `lines`: lines that run on
 //! - `late`: the late wrap
 //! - `dots`: mode 3
+//! - `packs`: packs of messages
 
 pub mod dots;
 mod keyline;
 pub mod late;
 pub mod lines;
 mod messages;
+pub mod packs;
 pub mod sequences;
 mod settings;
 pub mod streams;
@@ -33,6 +35,7 @@ pub enum Kind {
     Message,
     Piece,
     Closing,
+    Pack,
     /// with the key's number
     KeyText(usize),
     /// with the rule; a list has it only at its start
@@ -40,7 +43,7 @@ pub enum Kind {
 }
 
 /// A call: settings of its own if it breaks some, sizes of its stores, the
-/// message, the piece or the text, and the printer room.
+/// message, the piece, the pack or the text, and the printer room.
 pub struct Call {
     pub kind: Kind,
     pub settings: Option<(&'static str, Settings)>,
@@ -51,20 +54,27 @@ pub struct Call {
 
 /// `line` is what is still to come of the stream; a piece is its first part.
 pub fn call(random: &mut Random, settings: &Settings, line: &mut Vec<u8>) -> Call {
-    let kind = if random.one_in(10) { keyline::kind(random) } else { streams::kind(random, settings) };
+    let kind = match random.below(20) {
+        0..=1 => keyline::kind(random),
+        2..=4 => Kind::Pack,
+        _ => streams::kind(random, settings),
+    };
     let message = match kind {
         Kind::Message => message(random, settings),
         Kind::Piece => streams::piece(random, settings, line),
+        Kind::Pack => packs::pack(random, settings),
         Kind::Closing | Kind::Opening(_) => Vec::new(),
         Kind::KeyText(_) => keyline::text(random),
     };
     // a message that is too long is more often refused for more than that
-    let (often_broken, often_sized) = if message.len() > 4096 { (3, 4) } else { (12, 25) };
+    let long = message.len() > if kind == Kind::Pack { 60_000 } else { 4096 };
+    let (often_broken, often_sized) = if long { (3, 4) } else { (12, 25) };
     let broken = random.one_in(often_broken).then(|| unsound(random, settings));
     // a key text has no store
     let stores = !matches!(kind, Kind::KeyText(_));
     let sizes = if stores && random.one_in(often_sized) { wrong_sizes(random) } else { SIZES };
-    let room = if matches!(kind, Kind::Message | Kind::Piece) { room(random, settings.mode) } else { 0 };
+    let prints = matches!(kind, Kind::Message | Kind::Piece | Kind::Pack);
+    let room = if prints { room(random, settings.mode) } else { 0 };
     Call { kind, settings: broken, sizes, message, room }
 }
 
@@ -93,7 +103,7 @@ fn room(random: &mut Random, mode: u8) -> usize {
         2 => 656,
         3 => 1311,
         4 => 1312,
-        5 => random.pick(&[1, 657, 1313, 1967, 1968, 6560]),
+        5 => random.pick(&[1, 657, 1313, 1967, 1968, 2623, 2624, 6560]),
         _ => random.below(2100),
     }
 }

@@ -74,6 +74,19 @@ pub trait Terminal {
         dots: &mut [u8],
     ) -> (Settings, Answer);
 
+    /// Behind the answer the record of the first refusal.
+    #[allow(clippy::too_many_arguments)]
+    fn pack(
+        &mut self,
+        settings: Settings,
+        pack: &[u8],
+        cells: &mut [u8],
+        layer: &mut [u8],
+        shown: &mut [u8],
+        dots: &mut [u8],
+        printer: &mut [u8],
+    ) -> (Settings, Answer, u32);
+
     fn key_text(&mut self, settings: Settings, number: usize, text: &[u8]) -> (Settings, Answer);
 
     fn printed<'a>(&mut self, buffer: &'a [u8], count: usize) -> &'a [u8];
@@ -87,6 +100,7 @@ pub struct Functions {
     pub message: MessageCall,
     pub piece: MessageCall,
     pub closing: ClosingCall,
+    pub pack: PackCall,
     pub key_text: KeyTextCall,
     pub printed: for<'a> fn(&'a [u8], usize) -> &'a [u8],
 }
@@ -95,6 +109,8 @@ pub type OpeningCall = fn(usize, &mut [u8], &mut [u8], &mut [u8], &mut [u8]) -> 
 pub type MessageCall =
     fn(Settings, &[u8], &mut [u8], &mut [u8], &mut [u8], &mut [u8], &mut [u8]) -> (Settings, Answer);
 pub type ClosingCall = fn(Settings, &mut [u8], &mut [u8], &mut [u8], &mut [u8]) -> (Settings, Answer);
+pub type PackCall =
+    fn(Settings, &[u8], &mut [u8], &mut [u8], &mut [u8], &mut [u8], &mut [u8]) -> (Settings, Answer, u32);
 pub type KeyTextCall = fn(Settings, usize, &[u8]) -> (Settings, Answer);
 
 pub const REFERENCE: Functions = Functions {
@@ -103,6 +119,7 @@ pub const REFERENCE: Functions = Functions {
     message: reference::message,
     piece: reference::piece,
     closing: reference::closing,
+    pack: reference::pack,
     key_text: reference::key_text,
     printed: reference::printed,
 };
@@ -113,6 +130,7 @@ pub const TUNED: Functions = Functions {
     message: tuned::message,
     piece: tuned::piece,
     closing: tuned::closing,
+    pack: tuned::pack,
     key_text: tuned::key_text,
     printed: tuned::printed,
 };
@@ -170,6 +188,19 @@ impl Terminal for Functions {
         dots: &mut [u8],
     ) -> (Settings, Answer) {
         (self.closing)(settings, cells, layer, shown, dots)
+    }
+
+    fn pack(
+        &mut self,
+        settings: Settings,
+        pack: &[u8],
+        cells: &mut [u8],
+        layer: &mut [u8],
+        shown: &mut [u8],
+        dots: &mut [u8],
+        printer: &mut [u8],
+    ) -> (Settings, Answer, u32) {
+        (self.pack)(settings, pack, cells, layer, shown, dots, printer)
     }
 
     fn key_text(&mut self, settings: Settings, number: usize, text: &[u8]) -> (Settings, Answer) {

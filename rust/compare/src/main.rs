@@ -101,6 +101,21 @@ impl Terminal for Guarded {
         guarded(settings, || self.0.closing(settings, cells, layer, shown, dots))
     }
 
+    fn pack(
+        &mut self,
+        settings: Settings,
+        pack: &[u8],
+        cells: &mut [u8],
+        layer: &mut [u8],
+        shown: &mut [u8],
+        dots: &mut [u8],
+        printer: &mut [u8],
+    ) -> (Settings, Answer, u32) {
+        let call = || self.0.pack(settings, pack, cells, layer, shown, dots, printer);
+        let fallen = (settings, Answer { number: 255, ..Answer::default() }, 0);
+        catch_unwind(AssertUnwindSafe(call)).unwrap_or(fallen)
+    }
+
     fn key_text(&mut self, settings: Settings, number: usize, text: &[u8]) -> (Settings, Answer) {
         guarded(settings, || self.0.key_text(settings, number, text))
     }

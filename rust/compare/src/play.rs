@@ -160,7 +160,7 @@ impl Game<'_> {
         Ok(())
     }
 
-    /// A message, a piece, a closing or a key text.
+    /// A message, a piece, a closing, a pack or a key text.
     fn one_call(&mut self) -> Found {
         let call = generate::call(&mut self.random, &self.sides[0].settings, &mut self.line);
         self.calls += 1;
@@ -197,26 +197,21 @@ impl Game<'_> {
             made(self.left, call, settings, left, &mut printer),
             made(self.right, call, settings, right, &mut other_printer),
         ];
-        let (after, answer) = answers[0];
-        if answer != answers[1].1 {
-            return Err(format!("answer: {answer:?} and {:?}", answers[1].1));
-        }
-        if after != answers[1].0 {
-            return Err(format!("settings after: {after:?} and {:?}", answers[1].0));
-        }
+        let (after, answer, record) = answers[0];
+        same_answers(&answers)?;
         for (store, name) in generate::STORE_NAMES.iter().enumerate() {
             same(name, &left[store], &right[store])?;
         }
         same("printer", &printer, &other_printer)?;
         self.printer_call(&printer, &other_printer, answer.printed)?;
         if let Some(coverage) = &mut self.coverage {
-            coverage.call(call, &settings, &answer);
+            coverage.call(call, &settings, &answer, record);
         }
         if answer.number == 0 {
             self.sides[0].settings = after;
             self.sides[1].settings = after;
             match call.kind {
-                Kind::Message | Kind::KeyText(_) | Kind::Opening(_) => {}
+                Kind::Message | Kind::Pack | Kind::KeyText(_) | Kind::Opening(_) => {}
                 Kind::Piece => drop(self.line.drain(..call.message.len())),
                 Kind::Closing => self.line.clear(),
             }
@@ -249,24 +244,41 @@ fn opening(terminal: &mut dyn Terminal, rule: usize, stores: &mut [Vec<u8>; 4]) 
     terminal.opening(rule, cells, layer, shown, dots)
 }
 
+/// Makes a call; a record only a pack gives.
 fn made(
     terminal: &mut dyn Terminal,
     call: &Call,
     settings: Settings,
     stores: &mut [Vec<u8>; 4],
     printer: &mut [u8],
-) -> (Settings, Answer) {
+) -> (Settings, Answer, u32) {
     let [cells, layer, shown, dots] = stores;
-    match call.kind {
+    let (after, answer) = match call.kind {
         Kind::Message => terminal.message(settings, &call.message, cells, layer, shown, dots, printer),
         Kind::Piece => terminal.piece(settings, &call.message, cells, layer, shown, dots, printer),
         Kind::Closing => terminal.closing(settings, cells, layer, shown, dots),
+        Kind::Pack => return terminal.pack(settings, &call.message, cells, layer, shown, dots, printer),
         Kind::KeyText(number) => terminal.key_text(settings, number, &call.message),
         Kind::Opening(rule) => {
             let (settings, number) = terminal.opening(rule, cells, layer, shown, dots);
             (settings, Answer { number, ..Answer::default() })
         }
+    };
+    (after, answer, 0)
+}
+
+/// Settings, answer and record of both sides.
+fn same_answers([left, right]: &[(Settings, Answer, u32); 2]) -> Result<(), String> {
+    if left.1 != right.1 {
+        return Err(format!("answer: {:?} and {:?}", left.1, right.1));
     }
+    if left.2 != right.2 {
+        return Err(format!("record: {} and {}", left.2, right.2));
+    }
+    if left.0 != right.0 {
+        return Err(format!("settings after: {:?} and {:?}", left.0, right.0));
+    }
+    Ok(())
 }
 
 fn resized(stores: &[Vec<u8>; 4], sizes: [usize; 4]) -> [Vec<u8>; 4] {

@@ -16,7 +16,7 @@ pub const CLASSES: &[&str] = &[
     "empty stream", "no piece at all", "one piece", "several pieces", "pieces of one byte", "an empty piece",
     "a piece ends inside a sequence", "a piece ends after 27, 209", "closed on 27, 209", "closed by 12",
     "longer than a message", "a refusal", "a refusal in a later piece", "copies in several pieces", "scarce room and a refusal: nothing said",
-    "refused between: 1", "refused between: 2", "refused between: 3", "refused between: 16", "refused between: 17",
+    "refused between: 1", "refused between: 2", "refused between: 3", "refused between: 16", "refused between: 17", "refused between: 20",
 ];
 
 /// What stands, and what came of all calls together.
@@ -158,7 +158,7 @@ impl Stream<'_> {
         let before = self.run.clone();
         let Run { settings, stores: [cells, layer, shown, dots], .. } = &mut self.run;
         let (terminal, unsound) = (&mut *self.terminal, Settings { step: 0, ..*settings });
-        let (given, (after, answer), class) = match random.below(5) {
+        let (given, (after, answer), class) = match random.below(6) {
             0 => (
                 *settings,
                 terminal.closing(*settings, &mut cells[1..], layer, shown, dots),
@@ -175,6 +175,10 @@ impl Stream<'_> {
                 "refused between: 3",
             ),
             3 => (*settings, terminal.key_text(*settings, 0, &[65; 8]), "refused between: 17"),
+            4 => {
+                let cut = terminal.pack(*settings, &[65], cells, layer, shown, dots, &mut []);
+                (*settings, (cut.0, cut.1), "refused between: 20")
+            }
             _ if settings.held == 0 => return Ok(()),
             _ => (
                 *settings,

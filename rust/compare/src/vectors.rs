@@ -15,14 +15,14 @@
 //!   empty body. Kind 5: a key text call; the body is the key's number, eight
 //!   bytes, little-endian, and the text. Kind 6: an opening call on the stores
 //!   as they stand; the body is the rule, eight bytes, little-endian, and what
-//!   it returns is used from then on. `vectors --every N` leaves out the cases
-//!   that have these.
+//!   it returns is used from then on. Kind 7: a pack call. `vectors --every N`
+//!   leaves out the cases that have these.
 //!
 //! The text (`vectors`) has for each case, in order:
 //! - a line `case NAME`,
 //! - a line `K answer A taken T accepted C refused R first F at O printed P
-//!   parameter N` for each call, K from 1; for a key text and an opening only
-//!   `K answer A`,
+//!   parameter N` for each call, K from 1, with ` record J` behind it for a pack; for
+//!   a key text and an opening only `K answer A`,
 //! - what stands after the last call: the settings' ten lines, the line of
 //!   sums (Adler-32; printer: over the printer bytes of all calls of the
 //!   case) and the eight rows, as `replay` prints them.
@@ -33,15 +33,17 @@ mod keyline;
 mod late;
 mod layer;
 mod lines;
+mod packs;
 mod parameters;
 mod ranges;
 mod refusals;
 mod scenes;
 mod streams;
 
+use crate::generate::packs::put;
 use crate::generate::Kind;
 use crate::{Terminal, REFERENCE};
-use reference::text::{numbered_answer, record, short_answer, Session, MESSAGE, REPLAY_ROOM};
+use reference::text::{numbered_answer, pack_answer, record, short_answer, Session, MESSAGE, REPLAY_ROOM};
 use reference::Answer;
 
 pub const NEW_CASE: u16 = 0;
@@ -50,6 +52,7 @@ pub const PIECE: u16 = 3;
 pub const CLOSING: u16 = 4;
 pub const KEY_TEXT: u16 = 5;
 pub const OPENING: u16 = 6;
+pub const PACK: u16 = 7;
 
 pub struct Case {
     pub name: String,
@@ -109,6 +112,7 @@ pub fn cases() -> Vec<Case> {
     lines::cases(&mut cases);
     late::cases(&mut cases);
     dots::cases(&mut cases);
+    packs::cases(&mut cases);
     cases.0
 }
 
@@ -128,6 +132,7 @@ pub fn recording(cases: &[Case]) -> Vec<u8> {
                 Kind::Message => put(&mut bytes, MESSAGE, message),
                 Kind::Piece => put(&mut bytes, PIECE, message),
                 Kind::Closing => put(&mut bytes, CLOSING, message),
+                Kind::Pack => put(&mut bytes, PACK, message),
                 Kind::KeyText(key) => {
                     let number = (*key as u64).to_le_bytes();
                     put(&mut bytes, KEY_TEXT, &[&number, &message[..]].concat());
@@ -137,12 +142,6 @@ pub fn recording(cases: &[Case]) -> Vec<u8> {
         }
     }
     bytes
-}
-
-fn put(bytes: &mut Vec<u8>, kind: u16, body: &[u8]) {
-    bytes.extend((body.len() as u16).to_le_bytes());
-    bytes.extend(kind.to_le_bytes());
-    bytes.extend(body);
 }
 
 /// Plays a recording with the reference; none if a record is bad.
@@ -170,23 +169,32 @@ pub fn play_on(terminal: &mut dyn Terminal, recording: &[u8]) -> Option<String> 
                 let (eight, words) = body.split_first_chunk()?;
                 let given = u64::from_le_bytes(*eight) as usize;
                 let kind = if kind == OPENING { Kind::Opening(given) } else { Kind::KeyText(given) };
-                let answer = call_on(terminal, session.as_mut()?, kind, words, room);
+                let (answer, _) = call_on(terminal, session.as_mut()?, kind, words, room);
                 text += &short_answer(number, answer.number);
             }
             _ => {
-                let kind = match kind {
-                    MESSAGE => Kind::Message,
-                    PIECE => Kind::Piece,
-                    CLOSING if body.is_empty() => Kind::Closing,
-                    _ => return None,
-                };
+                let kind = counting(kind, body)?;
                 number += 1;
-                let answer = call_on(terminal, session.as_mut()?, kind, body, room);
-                text += &numbered_answer(number, &answer);
+                let (answer, record) = call_on(terminal, session.as_mut()?, kind, body, room);
+                text += &match kind {
+                    Kind::Pack => pack_answer(number, &answer, record),
+                    _ => numbered_answer(number, &answer),
+                };
             }
         }
     }
     Some(text + &session.map_or(String::new(), |session| session.text()))
+}
+
+/// A call whose answer counts; none of another kind or body.
+fn counting(kind: u16, body: &[u8]) -> Option<Kind> {
+    match kind {
+        MESSAGE => Some(Kind::Message),
+        PIECE => Some(Kind::Piece),
+        CLOSING if body.is_empty() => Some(Kind::Closing),
+        PACK => Some(Kind::Pack),
+        _ => None,
+    }
 }
 
 fn open_on(terminal: &mut dyn Terminal) -> Session {
@@ -206,13 +214,19 @@ fn call_on(
     kind: Kind,
     bytes: &[u8],
     room: usize,
-) -> Answer {
+) -> (Answer, u32) {
     let mut printer = vec![0; room];
     let Session { settings, cells, layer, shown, dots, printed, .. } = session;
+    let mut record = 0;
     let (after, answer) = match kind {
         Kind::Message => terminal.message(*settings, bytes, cells, layer, shown, dots, &mut printer),
         Kind::Piece => terminal.piece(*settings, bytes, cells, layer, shown, dots, &mut printer),
         Kind::Closing => terminal.closing(*settings, cells, layer, shown, dots),
+        Kind::Pack => {
+            let served = terminal.pack(*settings, bytes, cells, layer, shown, dots, &mut printer);
+            record = served.2;
+            (served.0, served.1)
+        }
         Kind::KeyText(number) => terminal.key_text(*settings, number, bytes),
         Kind::Opening(rule) => {
             let (settings, number) = terminal.opening(rule, cells, layer, shown, dots);
@@ -221,5 +235,5 @@ fn call_on(
     };
     *settings = after;
     printed.extend_from_slice(terminal.printed(&printer, answer.printed));
-    answer
+    (answer, record)
 }

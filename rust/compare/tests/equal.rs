@@ -86,14 +86,20 @@ fn tuned_equals_the_reference_on_the_named_cases() {
 
 type Side = (Settings, [Vec<u8>; 4]);
 
-fn play_one(terminal: &Functions, side: &mut Side, call: &(Kind, usize, Vec<u8>)) -> (Answer, Vec<u8>) {
+fn play_one(terminal: &Functions, side: &mut Side, call: &(Kind, usize, Vec<u8>)) -> (Answer, u32, Vec<u8>) {
     let (kind, room, bytes) = call;
     let (settings, [cells, layer, shown, dots]) = side;
     let mut printer = vec![7; *room];
+    let mut record = 0;
     let (after, answer) = match kind {
         Kind::Message => (terminal.message)(*settings, bytes, cells, layer, shown, dots, &mut printer),
         Kind::Piece => (terminal.piece)(*settings, bytes, cells, layer, shown, dots, &mut printer),
         Kind::Closing => (terminal.closing)(*settings, cells, layer, shown, dots),
+        Kind::Pack => {
+            let served = (terminal.pack)(*settings, bytes, cells, layer, shown, dots, &mut printer);
+            record = served.2;
+            (served.0, served.1)
+        }
         Kind::KeyText(number) => (terminal.key_text)(*settings, *number, bytes),
         Kind::Opening(rule) => {
             let (settings, number) = (terminal.opening)(*rule, cells, layer, shown, dots);
@@ -101,5 +107,5 @@ fn play_one(terminal: &Functions, side: &mut Side, call: &(Kind, usize, Vec<u8>)
         }
     };
     *settings = after;
-    (answer, printer)
+    (answer, record, printer)
 }

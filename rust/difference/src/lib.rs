@@ -72,6 +72,21 @@ impl Terminal for Board {
         (settings_from_board(&after), answer_from_board(&answer))
     }
 
+    fn pack(
+        &mut self,
+        settings: Settings,
+        pack: &[u8],
+        cells: &mut [u8],
+        layer: &mut [u8],
+        shown: &mut [u8],
+        dots: &mut [u8],
+        printer: &mut [u8],
+    ) -> (Settings, Answer, u32) {
+        let given = settings_to_board(&settings);
+        let (after, answer, record) = px8::pack(given, pack, cells, layer, shown, dots, printer);
+        (settings_from_board(&after), answer_from_board(&answer), record)
+    }
+
     fn key_text(&mut self, settings: Settings, number: usize, text: &[u8]) -> (Settings, Answer) {
         let (after, answer) = px8::key_text(settings_to_board(&settings), number, text);
         (settings_from_board(&after), answer_from_board(&answer))

@@ -26,7 +26,7 @@ fn symbols() -> Vec<(String, char)> {
     text.lines().filter_map(symbol).collect()
 }
 
-/// The archive has three objects with much code in common: the calls are all
+/// The archive has four objects with much code in common: the calls are all
 /// that is global in them, each once, so that none uses another's copy.
 #[test]
 fn only_the_calls_are_exported() {
@@ -41,6 +41,7 @@ fn only_the_calls_are_exported() {
         "px8_key_text",
         "px8_message",
         "px8_opening",
+        "px8_pack",
         "px8_piece",
         "px8_printed",
         "px8_write",

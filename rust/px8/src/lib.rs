@@ -3,7 +3,7 @@
 //!
 //! [`Terminal`] owns its stores and is what most programs want; [`Stream`]
 //! takes a serial line into it through [`std::io::Write`], cut at any byte.
-//! [`opening`], [`message`], [`piece`], [`closing`], [`key_text`] and
+//! [`opening`], [`message`], [`piece`], [`closing`], [`pack`], [`key_text`] and
 //! [`printed`] are the library's own calls, on slices of any length; a wrong
 //! length is a refusal and never a fault. [`compare`], [`first_difference`] and [`differences`] lay
 //! two shown screens side by side. [`key_repeats`] works out from a trace which
@@ -24,6 +24,7 @@
 //! ```
 
 mod calls;
+mod packs;
 mod screens;
 mod sequence;
 mod stream;
@@ -32,6 +33,7 @@ mod types;
 mod writer;
 
 pub use calls::{closing, key_repeats, key_text, message, opening, piece, printed};
+pub use packs::{pack, packed, PackReply};
 pub use screens::{compare, differences, first_difference};
 pub use sequence::{Dot, Sequence};
 pub use stream::{Refused, Stream};

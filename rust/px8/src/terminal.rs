@@ -1,10 +1,11 @@
 //! A terminal that owns its stores.
 
 use crate::calls;
+use crate::packs::{self, PackReply};
 use crate::sequence::Sequence;
 use crate::stream::Stream;
 use crate::types::{Answer, Settings, CELLS, COPY, LAYER, MESSAGE_MOST, ROWS, SHOWN, WIDTH};
-use crate::types::{DOTS, DOT_COLUMNS, DOT_ROW, DOT_ROWS};
+use crate::types::{DOTS, DOT_COLUMNS, DOT_ROW, DOT_ROWS, PACK_MOST};
 use crate::writer::{Unwritten, Writer};
 
 /// A terminal with its settings and stores.
@@ -100,7 +101,7 @@ impl Terminal {
     /// assert!(reply.printed[px8::COPY..].starts_with(b"tare "));
     /// ```
     pub fn message(&mut self, message: &[u8]) -> Reply {
-        self.message_with_room(message, self.room_for(message))
+        self.message_with_room(message, self.room_for(message, MESSAGE_MOST))
     }
 
     /// Reads a message with just so much printer room.
@@ -140,7 +141,7 @@ impl Terminal {
     /// assert_eq!(terminal.to_string(), "1 38\n2\n3\n4     ,500\n5\n6\n7\n8\n");
     /// ```
     pub fn piece(&mut self, piece: &[u8]) -> Reply {
-        self.piece_with_room(piece, self.room_for(piece))
+        self.piece_with_room(piece, self.room_for(piece, MESSAGE_MOST))
     }
 
     /// Reads a piece with just so much printer room.
@@ -195,8 +196,47 @@ impl Terminal {
         answer
     }
 
+    /// Reads many messages in one call, with printer room for every copy that they
+    /// ask for. It is as if each had been a message of its own; either all are taken
+    /// or, where the answer has a number, none.
+    ///
+    /// ```
+    /// let mut terminal = px8::Terminal::open();
+    /// let loads = [38_500, 40_120, 39_880];
+    /// let reply = terminal.pack(loads.map(|load| format!("{load} kg\r\n")));
+    /// assert!(reply.answer.is_clean());
+    /// assert_eq!(terminal.to_string(), "1 38500 kg\n2 40120 kg\n3 39880 kg\n4\n5\n6\n7\n8\n");
+    /// ```
+    pub fn pack<M: AsRef<[u8]>>(&mut self, messages: impl IntoIterator<Item = M>) -> PackReply {
+        self.pack_bytes(&packs::packed(messages))
+    }
+
+    /// Reads a pack as the office sends it, with printer room for every copy.
+    ///
+    /// ```
+    /// let mut terminal = px8::Terminal::open();
+    /// let reply = terminal.pack_bytes(&[2, 0, 1, 0, b'3', b'8', 1, 0, 1, 0, b't']);
+    /// assert_eq!((reply.answer.taken, reply.record), (3, 0));
+    /// assert!(terminal.to_string().starts_with("1 38t\n"));
+    /// assert_eq!(terminal.pack_bytes(&[2, 0, 1, 0, b'3']).answer.number, px8::CUT_RECORD);
+    /// ```
+    pub fn pack_bytes(&mut self, pack: &[u8]) -> PackReply {
+        self.pack_with_room(pack, self.room_for(pack, PACK_MOST))
+    }
+
+    /// Reads a pack with just so much printer room for all of it.
+    pub fn pack_with_room(&mut self, pack: &[u8], room: usize) -> PackReply {
+        let mut printer = vec![0; room];
+        let Terminal { settings, cells, layer, shown, dots } = self;
+        let (after, answer, record) = packs::pack(*settings, pack, cells, layer, shown, dots, &mut printer);
+        self.settings = after;
+        printer.truncate(answer.printed);
+        PackReply { answer, record, printed: printer }
+    }
+
     /// Sets the text of a key, 1 to 10: eight codes for the key line, which row
-    /// 8 is after 27, 211, 0. It is shown by the next message, piece or closing.
+    /// 8 is after 27, 211, 0. It is shown by the next message, piece, closing
+    /// or pack that has a record.
     /// The answer has [`SERVED`](crate::SERVED), [`UNSOUND`](crate::UNSOUND) or
     /// [`BAD_KEY_TEXT`](crate::BAD_KEY_TEXT), and nothing else.
     ///
@@ -340,10 +380,9 @@ impl Terminal {
 
     /// Room for every copy that these bytes can ask for behind those that wait: an
     /// ESC 80 takes two bytes of its own, so there are no more copies than places
-    /// where these two stand together. A message or piece that is too long prints
-    /// nothing.
-    fn room_for(&self, bytes: &[u8]) -> usize {
-        if bytes.len() > MESSAGE_MOST {
+    /// where these two stand together. What is longer than `most` prints nothing.
+    fn room_for(&self, bytes: &[u8], most: usize) -> usize {
+        if bytes.len() > most {
             return 0;
         }
         let line = [self.settings.waiting(), bytes].concat();

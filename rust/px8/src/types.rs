@@ -21,6 +21,8 @@ pub const DOT_ROWS: usize = 64;
 pub const DOT_COLUMNS: usize = 480;
 /// The longest message that is taken, and the longest piece of a stream.
 pub const MESSAGE_MOST: usize = 4096;
+/// The longest pack that is taken.
+pub const PACK_MOST: usize = 60_000;
 /// Bytes of a printed copy: 8 rows of 80, each followed by 13 and 10. In mode 3 it
 /// has [`DOTS`]; see [`Settings::copy_size`].
 pub const COPY: usize = ROWS * (WIDTH + 2);
@@ -45,15 +47,15 @@ pub const COUNT_MOST: u32 = 1_000_000_000;
 pub const SERVED: u8 = 0;
 /// A store is not of its size; the whole call is refused.
 pub const STORE_SIZE: u8 = 1;
-/// The message or piece is longer than [`MESSAGE_MOST`]; the whole call is
-/// refused.
+/// The message, the piece or a message of the pack is longer than
+/// [`MESSAGE_MOST`]; the whole call is refused.
 pub const TOO_LONG: u8 = 2;
 /// A setting is outside its range; the whole call is refused.
 pub const UNSOUND: u8 = 3;
 /// The piece would take the stream's count past [`COUNT_MOST`]; the whole call
 /// is refused.
 pub const STREAM_TOO_LONG: u8 = 15;
-/// A message while bytes of a stream wait; the whole call is refused.
+/// A message or pack while bytes of a stream wait; the whole call is refused.
 pub const BYTES_WAIT: u8 = 16;
 /// The key is not 1 to [`KEYS`], or its text not of [`KEY_TEXT`] bytes; the
 /// whole call is refused.
@@ -77,11 +79,14 @@ pub const CUT: u8 = 12;
 /// with less than [`DOTS`].
 pub const NO_ROOM: u8 = 13;
 
+/// The pack is longer than [`PACK_MOST`]; the call is refused.
+pub const PACK_TOO_LONG: u8 = 19;
 /// The trace is longer than 60,000 bytes; the call is refused.
 pub const TRACE_TOO_LONG: u8 = 19;
-/// A record of the trace is cut; the call is refused.
+/// A record of the pack or trace is cut; the call is refused.
 pub const CUT_RECORD: u8 = 20;
-/// A record of the trace is of another kind or length; the call is refused.
+/// A record of the pack is of another kind, or one of the trace of another kind or
+/// length; the call is refused.
 pub const UNKNOWN_RECORD: u8 = 21;
 /// A tick of the trace falls; the call is refused.
 pub const TICK_FALLS: u8 = 24;
@@ -250,16 +255,17 @@ impl Settings {
     }
 }
 
-/// The answer to a message, a piece, a closing or a key text.
+/// The answer to a message, a piece, a closing, a pack or a key text.
 #[repr(C)]
 #[derive(Clone, Copy, Debug, PartialEq, Eq)]
 pub struct Answer {
     /// [`SERVED`], or why the whole call was refused: 1, 2, 3 or 16 a message;
-    /// 1, 2, 3 or 15 a piece; 1 or 3 a closing; 3 or 17 a key text. Sequences
-    /// may be refused in a call that was served: see [`Answer::is_clean`].
+    /// 1, 2, 3 or 15 a piece; 1 or 3 a closing; 1, 19, 20, 21, 2, 3 or 16 a pack;
+    /// 3 or 17 a key text. Sequences may be refused in a call that was served: see
+    /// [`Answer::is_clean`].
     pub number: u8,
-    /// Bytes taken: all of the message or piece, if served; a closing and a key
-    /// text take none.
+    /// Bytes taken: all of the message or piece, if served, of a pack the bodies; a
+    /// closing and a key text take none.
     pub taken: u32,
     /// Sequences accepted.
     pub accepted: u32,
@@ -271,8 +277,8 @@ pub struct Answer {
     /// [`OUT_OF_RANGE`]: the byte after the sequence's second one is 1, and
     /// where only the sum of two is too large it is the later. Else 0.
     pub parameter: u8,
-    /// Where its ESC stands, from 0: in the message, or for a piece and a
-    /// closing in the stream. 0 if there is none.
+    /// Where its ESC stands, from 0: in the message, also of a pack, or for a piece
+    /// and a closing in the stream. 0 if there is none.
     pub offset: u32,
     /// Bytes of printed copies, [`COPY`] each, in mode 3 [`DOTS`].
     pub printed: usize,

@@ -176,7 +176,7 @@ pub fn printed(buffer: &[u8], count: usize) -> &[u8] {
 }
 
 /// "1 covers the dot store".
-fn sizes_right(cells: &[u8], layer: &[u8], shown: &[u8], dots: &[u8]) -> bool {
+pub fn sizes_right(cells: &[u8], layer: &[u8], shown: &[u8], dots: &[u8]) -> bool {
     cells.len() == CELLS && layer.len() == LAYER && shown.len() == SHOWN && dots.len() == DOTS
 }
 

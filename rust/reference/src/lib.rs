@@ -10,6 +10,8 @@
 //! - `apply`: what each item does to what stands
 //! - `picture`: the picture, the shown screen, the printed copy
 //! - `calls`: the calls
+//! - `records`: the records of a pack and of a trace
+//! - `pack`: many messages in one call
 //! - `text`: the words of the programs `show`, `replay` and `picture`
 //! - `glass`: the words of the program `glass`
 //! - `lengths`: the words of the program `lengths`
@@ -25,8 +27,10 @@ pub mod differences;
 pub mod dots;
 pub mod glass;
 pub mod lengths;
+pub mod pack;
 pub mod picture;
 pub mod read;
+pub mod records;
 pub mod repeats;
 pub mod settings;
 pub mod sound;
@@ -35,6 +39,7 @@ pub mod text;
 pub mod write;
 
 pub use calls::{closing, key_text, message, opening, piece, printed};
+pub use pack::pack;
 pub use picture::picture;
 pub use settings::{Answer, Keys, Place, Settings};
 pub use sound::sound;

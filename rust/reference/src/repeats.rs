@@ -1,6 +1,7 @@
 //! Document 02, P13: the codes that held keys send, worked out from a trace
 //! by letting the clock run tick by tick; and the words of `repeats`.
 
+use super::records;
 use super::settings::Settings;
 use super::sound::sound;
 use std::fmt::Write;
@@ -49,7 +50,7 @@ fn records(settings: &Settings, trace: &[u8]) -> Result<Vec<Record>, u8> {
     if trace.len() > LONGEST_TRACE {
         return Err(19);
     }
-    let bodies = bodies(trace).ok_or(20)?;
+    let bodies = records::records(trace).ok_or(20)?;
     let mut records = Vec::new();
     for (kind, body) in bodies {
         let (PRESS | RELEASE, &[a, b, c, d, key]) = (kind, body) else { return Err(21) };
@@ -59,23 +60,6 @@ fn records(settings: &Settings, trace: &[u8]) -> Result<Vec<Record>, u8> {
         return Err(24);
     }
     Ok(records)
-}
-
-/// Kind and body of every record, in P6's form: "a two-byte length of the
-/// body, a two-byte kind, both little-endian, then the body"; none if the
-/// last one is cut.
-fn bodies(mut rest: &[u8]) -> Option<Vec<(u16, &[u8])>> {
-    let mut bodies = Vec::new();
-    while !rest.is_empty() {
-        let [low, high, kind_low, kind_high, after @ ..] = rest else { return None };
-        let length = usize::from(u16::from_le_bytes([*low, *high]));
-        if after.len() < length {
-            return None;
-        }
-        bodies.push((u16::from_le_bytes([*kind_low, *kind_high]), &after[..length]));
-        rest = &after[length..];
-    }
-    Some(bodies)
 }
 
 /// The keyboard at a tick: the key that repeats and the ticks until it is

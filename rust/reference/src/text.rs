@@ -1,6 +1,7 @@
 //! The words of the programs `show` and `replay`, and the image of `picture`.
 
 use super::calls::{closing, key_text, message, opening, piece};
+use super::pack::pack;
 use super::picture::place;
 use super::settings::{mark_of, Answer, Settings};
 use super::settings::{CELLS, COPY, DOTS, LAYER, MOST_LINES, OPENING, ROWS, SHOWN, WIDTH};
@@ -18,6 +19,7 @@ pub const MESSAGE: u16 = 1;
 pub const PIECE: u16 = 2;
 pub const CLOSING: u16 = 3;
 pub const KEY_TEXT: u16 = 4;
+pub const PACK: u16 = 5;
 pub const OPENING_CALL: u16 = 7;
 pub const ROOM: u16 = 8;
 
@@ -76,6 +78,16 @@ impl Session {
         answer
     }
 
+    /// Messages in one call, and the record of the first refusal.
+    pub fn pack(&mut self, bytes: &[u8], room: usize) -> (Answer, u32) {
+        let mut printer = vec![0; room];
+        let Session { settings, cells, layer, shown, dots, .. } = self;
+        let (settings, answer, record) = pack(*settings, bytes, cells, layer, shown, dots, &mut printer);
+        self.settings = settings;
+        self.printed.extend_from_slice(&printer[..answer.printed]);
+        (answer, record)
+    }
+
     pub fn key_text(&mut self, number: usize, text: &[u8]) -> Answer {
         let (settings, answer) = key_text(self.settings, number, text);
         self.settings = settings;
@@ -98,6 +110,10 @@ impl Session {
             (MESSAGE, _) => self.play(body, self.room),
             (PIECE, _) => self.piece(body, self.room),
             (CLOSING, []) => self.closing(),
+            (PACK, _) => {
+                let (answer, record) = self.pack(body, self.room);
+                return Some(pack_answer(number, &answer, record));
+            }
             (KEY_TEXT, [key, text @ ..]) => {
                 let answer = self.key_text(usize::from(*key), text);
                 return Some(short_answer(number, answer.number));
@@ -206,6 +222,11 @@ pub fn answer_text(answer: &Answer) -> String {
 pub fn numbered_answer(number: usize, answer: &Answer) -> String {
     let Answer { printed, parameter, .. } = answer;
     format!("{number} {} printed {printed} parameter {parameter}\n", answer_text(answer))
+}
+
+/// A pack's line in a replay: a message's, and the record.
+pub fn pack_answer(number: usize, answer: &Answer, record: u32) -> String {
+    format!("{} record {record}\n", numbered_answer(number, answer).trim_end())
 }
 
 /// The line of a key text and of an opening in a replay: they count nothing.

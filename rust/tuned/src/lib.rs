@@ -8,6 +8,7 @@
 
 mod dots;
 mod engine;
+mod packs;
 pub mod repeats;
 pub mod screens;
 mod sequences;
@@ -15,6 +16,7 @@ mod streams;
 pub mod writes;
 
 use engine::{Engine, Stores};
+pub use packs::pack;
 pub use reference::{Answer, Keys, Place, Settings};
 pub use streams::{closing, piece};
 

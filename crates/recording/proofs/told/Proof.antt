@@ -1,18 +1,7 @@
--- `told` meets its contract: the sum is over the part that the printer call hands back.
-use mathlib.Core.Path.{_∙_, ap, refl}
+-- `told` meets its contract: it hands on what `summed` does.
 use borrow.Author.Needs.{needs}
-use Rattle.report.specs.Adler.{adlerFrom}
 use Rattle.recording.proofs.told.Statement.{statement}
 use Rattle.recording.proofs.told.Tie as tie
 
-returns : tie.Need-returns
-returns c = record { settings-are = refl; sum-is = c .adler32 .ensures ∙ ap (adlerFrom _) (c .before .printed .ensures .part-is); room-is = refl }
-
 pub told-spec : {M : Type 1} → statement M
-told-spec =
-    tie.close
-    (tie.spec
-    (λ c κs. search needs)
-    (λ c κs. search needs)
-    (λ c κs. search needs)
-    returns)
+told-spec = tie.close (tie.spec (λ c κs. search needs) (λ c κs. search needs) (λ c. c .summed .ensures))

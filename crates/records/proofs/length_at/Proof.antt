@@ -1,6 +1,6 @@
 -- `length_at`: the first two bytes.
 use mathlib.Core.Path.{_∙_, sym}
-use Rattle.records.specs.Records.{lengthIn}
+use Rattle.model.specs.Records.{lengthIn}
 use Rattle.records.proofs.Laws.{two-at}
 use borrow.Author.Needs.{needs}
 use Rattle.records.proofs.length_at.Statement.{statement}

@@ -3,7 +3,7 @@ use mathlib.Core.Path.{_∙_, _≡_, refl, sym}
 use Prim.Native.Nat.{_-_, _≤_}
 use native.Mathlib.Omega.{arith}
 use lib.ListN.{drop, length}
-use Rattle.records.specs.Records.{uncut?}
+use Rattle.model.specs.Records.{uncut?}
 use Rattle.records.proofs.Laws.{uncut-end, uncut-past, uncut-short}
 use borrow.Author.Needs.{needs}
 use Rattle.records.proofs.uncut.Statement.{statement}

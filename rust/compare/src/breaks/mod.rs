@@ -9,6 +9,7 @@
 //! - `lines`: lines that run on
 //! - `late`: the late wrap
 //! - `dots`: mode 3
+//! - `packs`: packs of messages
 //! - `screens`: the comparison of two screens
 //! - `traces`: key repeats
 //! - `writes`: the sequences written
@@ -17,6 +18,7 @@ mod dots;
 mod keyline;
 mod late;
 mod lines;
+mod packs;
 mod parameters;
 mod scope;
 mod screens;
@@ -45,6 +47,7 @@ pub const BREAKS: &[&[Break]] = &[
     lines::BREAKS,
     late::BREAKS,
     dots::BREAKS,
+    packs::BREAKS,
 ];
 
 /// The broken copies of the comparison of two screens.

@@ -45,11 +45,11 @@ pub const BREAKS: &[Break] = &[
     entry("19-judged-before-3", "repeats.rs",
         "return Err(3);",
         "return Err(if trace.len() > LONGEST_TRACE { 19 } else { 3 });"),
-    entry("21-judged-before-20", "repeats.rs",
-        "bodies.push((u16::from_le_bytes([*kind_low, *kind_high]), &after[..length]));",
-        "bodies.push((u16::from_le_bytes([*kind_low, *kind_high]), &after[..length]));
+    entry("21-judged-before-20", "records.rs",
+        "records.push((u16::from_le_bytes([*kind_low, *kind_high]), &after[..length]));",
+        "records.push((u16::from_le_bytes([*kind_low, *kind_high]), &after[..length]));
         if length != 5 || *kind_low == 0 || *kind_low > 2 {
-            return Some(bodies);
+            return Some(records);
         }"),
     entry("24-judged-before-21", "repeats.rs",
         "else { return Err(21) };",

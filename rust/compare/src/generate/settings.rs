@@ -30,6 +30,13 @@ pub fn height(mode: u8, display: u8) -> usize {
 
 /// Arbitrary sound settings.
 pub fn settings(random: &mut Random) -> Settings {
+    let two = of_two_screens(random);
+    let whole = if random.one_in(4) { in_mode_3(random, &two) } else { two };
+    with_stream(random, whole)
+}
+
+/// Of modes 0 to 2, without a stream.
+fn of_two_screens(random: &mut Random) -> Settings {
     let (mode, lines, columns) = measures(random);
     let display = random.byte() & 1;
     let height = height(mode, display);
@@ -47,7 +54,7 @@ pub fn settings(random: &mut Random) -> Settings {
     random.fill(&mut patterns);
     let mut texts = [0; 80];
     random.fill(&mut texts);
-    let whole = Settings {
+    Settings {
         mode,
         lines1: lines[0],
         lines2: lines[1],
@@ -68,9 +75,7 @@ pub fn settings(random: &mut Random) -> Settings {
         marks: marks(random, lines),
         rule,
         ..OPENING
-    };
-    let whole = if random.one_in(4) { in_mode_3(random, &whole) } else { whole };
-    with_stream(random, whole)
+    }
 }
 
 fn measures(random: &mut Random) -> (u8, [u8; 2], [u8; 2]) {
@@ -147,9 +152,15 @@ pub fn unsound(random: &mut Random, sound: &Settings) -> (&'static str, Settings
         break_mode_3(random, name, &mut settings);
         return (name, settings);
     }
+    let name = broken_field(random, &mut settings);
+    (name, settings)
+}
+
+/// One of the fields, by its name.
+fn broken_field(random: &mut Random, settings: &mut Settings) -> &'static str {
     let (name, field) = random.pick(&FIELDS);
-    let beyond = beyond(name, &settings);
-    let value = field(&mut settings);
+    let beyond = beyond(name, settings);
+    let value = field(settings);
     *value = match random.below(4) {
         0 => value.wrapping_add(1),
         1 => random.byte(),
@@ -169,7 +180,7 @@ pub fn unsound(random: &mut Random, sound: &Settings) -> (&'static str, Settings
         }
         settings.marks = [0; 96];
     }
-    (name, settings)
+    name
 }
 
 /// The least number of lines, which does not hang on the key line.

@@ -4,7 +4,7 @@ use Prim.Native.Nat.{_-_, _≤_}
 use native.Mathlib.Omega.{arith}
 use mathlib.Core.Bool.{true}
 use lib.ListN.{drop, length}
-use Rattle.records.specs.Records.{all?, recordsOf, uncut?}
+use Rattle.model.specs.Records.{all?, recordsOf, uncut?}
 use Rattle.traces.specs.Strokes.{stroke?}
 use Rattle.traces.proofs.Stepping.{all-end}
 use borrow.Author.Needs.{needs}
