@@ -1,5 +1,5 @@
--- The loop's invariant over its own variables, and its turns: a run of printed bytes, another item of the selected screen, an idle item that does not
--- stay there, and one that is obeyed. Each takes what the functions that the turn calls ensure. What stands is the settings with the place and the marks
+-- The loop's invariant over its own variables, and its turns: a run of printed bytes, another item of the selected screen, and one that does not stay
+-- there. Each takes what the functions that the turn calls ensure. What stands is the settings with the place and the marks
 -- that are kept beside them.
 use mathlib.Core.Path.{_∙_, _≡_, ap, refl, subst, sym}
 use Prim.Native.Nat.{_+_, _-_, _^_, _<_, _≤_, ℕ}
@@ -42,13 +42,13 @@ use Rattle.screen.proofs.Carried.{carried-here, framed-here, same-here}
 use Rattle.screen.proofs.Frames.{limits-are}
 use Rattle.serving.specs.declared.Counts.{Counts}
 use Rattle.serving.specs.Counting.{Countable, answerAt, countsWith, noCounts}
-use Rattle.serving.specs.Acting.{Applied, Applying, Moves, Offered, applied, bareThen, dotsThen, idleItem?, printed?}
+use Rattle.serving.specs.Acting.{Applied, Applying, Moves, Offered, applied, bareThen, dotsThen, printed?}
 use Rattle.serving.specs.Serves.{Servable, Serves}
 use Rattle.serving.proofs.Going.{Going, finish, start, turn}
 use Rattle.store.proofs.Laws.{put-none}
 use Rattle.serving.proofs.Runs.{begins, run}
 use Rattle.serving.proofs.Layers.{bare-left}
-use Rattle.serving.proofs.Wiping.{away-spares, idle-leaves, printed-spares, stays-dots}
+use Rattle.serving.proofs.Wiping.{away-spares, printed-spares, stays-dots}
 
 -- an item of the selected screen is no copy
 stays-unprinted : (i : Item) (st : State) → staysOnScreen? i ≡ true → copyOf i st ≡ []
@@ -220,18 +220,15 @@ module _ (m cells₀ layer₀ dots₀ printer₀ : List ℕ) (s₀ : Settings) w
               short = g .short;
             }
 
-        -- one that is done by what it did there, and prints nothing
-        over : printed? (r .item) ≡ false → rule st ≡ state (withHere s (v .place) marks₁) cells₁ layer₁ dots₁ → Ready f (v .place) cells₁ layer₁ → copyOf (r .item) st ≡ [] → Next (v .at)
-        over n e a q =
-            let l : rule st .layer ≡ layer₁ = ap (λ (x : State). x .layer) e in
-            let known : b ≡ true → layer₁ ≡ replicate 1280 0 =
-            λ x. sym l ∙ bare-left (r .item) (f .bare) (λ o. getD m o 0) st (sym bare-here ∙ x) (λ y. ((λ off. g .ready .layer-are .empty y), (λ on. l ∙ a .layer-are .empty y))) in
-            subst Next (sym (d .next n)) (obeyed (framed-bared b (g .framed)) (ready-bared b a known) (sym e) (unprinted q) k)
-
+        -- another item of the selected screen
         moved : printed? (r .item) ≡ false → staysOnScreen? (r .item) ≡ true → Next (v .at)
         moved n h =
             let a = d .acts n h (λ o. getD m o 0) in
-            over n (redotted (rule st) (carried-here dots (g .framed) a) (sym (stays-dots (λ o. getD m o 0) (r .item) st h) ∙ sym wiped)) (a .ready) (stays-unprinted (r .item) st h)
+            let e = redotted (rule st) (carried-here dots (g .framed) a) (sym (stays-dots (λ o. getD m o 0) (r .item) st h) ∙ sym wiped) in
+            let l : rule st .layer ≡ layer₁ = ap (λ (x : State). x .layer) e in
+            let known : b ≡ true → layer₁ ≡ replicate 1280 0 =
+            λ x. sym l ∙ bare-left (r .item) (f .bare) (λ o. getD m o 0) st (sym bare-here ∙ x) (λ y. ((λ off. g .ready .layer-are .empty y), (λ on. l ∙ a .ready .layer-are .empty y))) in
+            subst Next (sym (d .next n)) (obeyed (framed-bared b (g .framed)) (ready-bared b (a .ready) known) (sym e) (unprinted (stays-unprinted (r .item) st h)) k)
 
         -- one that stays
         pub acted : staysOnScreen? (r .item) ≡ true → Next (v .at)
@@ -248,15 +245,7 @@ module _ (m cells₀ layer₀ dots₀ printer₀ : List ℕ) (s₀ : Settings) w
             go true e = d .run e .run .printing .some
             go false e = omega (arith, d .next e, w .some)
 
-        -- one that does not, and is idle
-        pub idled : staysOnScreen? (r .item) ≡ false → idleItem? (f .mode) (r .item) ≡ true → Next (v .at)
-        idled h i =
-            let e = d .rests h in
-            let o : dots₁ ≡ dots = y ∙ away-spares (f .mode) (r .item) dots h in
-            let z = idle-leaves (λ o. getD m o 0) (r .item) st (subst (λ (n : ℕ). idleItem? n (r .item) ≡ true) in-mode i) in
-            over (away (r .item) h) (sym ((λ i. state (withHere s (e .0 i) (e .1 .1 .1 i)) (e .1 .0 i) (e .1 .1 .0 i) (o i)) ∙ z .0)) (rw (e .0, e .1 .0, e .1 .1 .0) (g .ready)) (z .1)
-
-        -- one that is not idle: the place and the marks go back into the settings
+        -- one that does not: the place and the marks go back into the settings
         module _ (h : staysOnScreen? (r .item) ≡ false) {ps : List Place} (back : ps ≡ set (s .places) (s .selected) (v .place)) where
           abbrev stood : State
           stood = state (withMarks (withPlaces s ps) marks₁) cells₁ layer₁ dots₁
@@ -268,11 +257,10 @@ module _ (m cells₀ layer₀ dots₀ printer₀ : List ℕ) (s₀ : Settings) w
               let o : dots₁ ≡ dots = y ∙ away-spares (f .mode) (r .item) dots h in
               λ i. state (withMarks (withPlaces s (j i)) (e .1 .1 .1 i)) (e .1 .0 i) (e .1 .1 .0 i) (o i)
 
-          pub applying : idleItem? (f .mode) (r .item) ≡ false → Applying (withMarks (withPlaces s ps) marks₁) (r .item) m cells₁ layer₁ dots₁ printer (c .printed)
-          applying i = record {
+          pub applying : Applying (withMarks (withPlaces s ps) marks₁) (r .item) m cells₁ layer₁ dots₁ printer (c .printed)
+          applying = record {
             good = subst Good (sym same) (g .going .good);
             legal = subst (λ (x : State). legalItem? (r .item) (limitsOf (x .settings)) ≡ true) (sym same) legal;
-            awake = subst (λ (n : ℕ). idleItem? n (r .item) ≡ false) in-mode i;
             rows = w .rows-inside;
             roomy = roomy-here;
           }

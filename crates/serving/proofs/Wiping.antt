@@ -1,4 +1,4 @@
--- P11: which dots an item of the selected screen leaves, and that an idle item does nothing.
+-- P11: which dots an item of the selected screen leaves, and that an idle sequence does nothing.
 use mathlib.Core.Path.{_∙_, _≡_, ap, refl, sym}
 use Prim.Native.Nat.{ℕ}
 use mathlib.Core.Bool.{Bool, _&&_, cond, false, true}
@@ -23,11 +23,11 @@ use Rattle.model.proofs.DotsStay.{control-dots, printed-dots, screen-dots}
 use Rattle.model.proofs.Cases.{none-passes}
 use Rattle.model.proofs.Item.{the-type as item-type}
 use Rattle.model.proofs.Sequence.{the-type}
-use Rattle.model.proofs.Tests.{and-left, and-right, cond-at, differ}
+use Rattle.model.proofs.Tests.{and-left, and-right, by-test, cond-at, differ}
 use Rattle.settings.specs.Obey.{settled}
 use Rattle.reader.proofs.JudgingLaws.{no-copy-idle}
 use Rattle.screen.proofs.Sequences.{never-idle}
-use Rattle.serving.specs.Acting.{applied, clears?, dotsThen, idleItem?, printed?}
+use Rattle.serving.specs.Acting.{applied, clears?, dotsThen, printed?}
 
 -- an item that stays; an idle one is no 42
 pub stays-dots : (m : ℕ → ℕ) (i : Item) (st : State) → staysOnScreen? i ≡ true → dotsThen (st .settings .mode) i (st .dots) ≡ applyItem m i st .dots
@@ -56,13 +56,10 @@ away-spares mode (Control c) dots h = absurd (differ h)
 away-spares mode (Sequence q) dots h = ap (λ (b : Bool). cond b (cond (eqb mode 3) (replicate 3840 0) dots) dots) (ne-eqb (codeOf q) 42 (λ e. differ (ap (λ (c : ℕ). member c onScreenCodes) (sym e) ∙ h)))
 away-spares mode (Refused n p) dots h = refl
 
--- an idle item leaves what stands, and prints nothing
-pub idle-leaves : (m : ℕ → ℕ) (i : Item) (st : State) → idleItem? (st .settings .mode) i ≡ true → (st ≡ applyItem m i st) × (copyOf i st ≡ [])
-unfolding applyItem
-idle-leaves m (Printed b) st h = absurd (differ (sym h))
-idle-leaves m (Control c) st h = absurd (differ (sym h))
-idle-leaves m (Sequence q) st h = (rw h, ap (λ (b : Bool). cond b (copied st) []) (no-copy-idle (st .settings .mode) (codeOf q) h))
-idle-leaves m (Refused n p) st h = absurd (differ (sym h))
+-- an idle sequence leaves what stands, and prints nothing
+pub idle-leaves : (m : List ℕ) (q : Seq) (st : State) → idle? (st .settings .mode) (codeOf q) ≡ true → (st ≡ applied m (Sequence q) st) × (copyOf (Sequence q) st ≡ [])
+unfolding applied applyItem
+idle-leaves m q st h = (rw h (by-test (λ (b : Bool). st ≡ cond b st st) (onScreen? q) refl refl), ap (λ (b : Bool). cond b (copied st) []) (no-copy-idle (st .settings .mode) (codeOf q) h))
 
 -- what a sequence that is not idle settles is what it does
 pub awake-settled : (m : List ℕ) (q : Seq) (st : State) → idle? (st .settings .mode) (codeOf q) ≡ false → settled m q st ≡ applied m (Sequence q) st
@@ -70,12 +67,6 @@ unfolding settled applied applyItem
 awake-settled m q st a = ap (λ (b : Bool). cond (onScreen? q) st (cond b st (obeyed (λ o. getD m o 0) q st))) (sym a)
 
 -- what the last arms know of an item or a sequence
-pub other-awake : (mode : ℕ) (i : Item) → OneOf (0 ∷ 1 ∷ 3 ∷ []) (tagOf item-type i) → false ≡ idleItem? mode i
-other-awake mode (Printed b) o = refl
-other-awake mode (Control c) o = refl
-other-awake mode (Sequence q) o = absurd (miss (0 ∷ 1 ∷ 3 ∷ []) 2 tt o)
-other-awake mode (Refused n p) o = refl
-
 pub other-spares : (i : Item) → OneOf (0 ∷ 3 ∷ []) (tagOf item-type i) → false ≡ clears? i
 other-spares (Printed b) o = refl
 other-spares (Control c) o = absurd (miss (0 ∷ 3 ∷ []) 1 tt o)

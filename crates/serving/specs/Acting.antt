@@ -32,13 +32,6 @@ printed? (Control c) = false
 printed? (Sequence q) = false
 printed? (Refused n p) = false
 
--- P11: an item that is idle in a mode
-abbrev pub idleItem? : ℕ → Item → Bool
-idleItem? mode (Printed b) = false
-idleItem? mode (Control c) = false
-idleItem? mode (Sequence q) = idle? mode (codeOf q)
-idleItem? mode (Refused n p) = false
-
 -- an item of the message m, at an offset, of so many bytes: its parameters are in their ranges, and a printed byte prints
 pub record Offered (m : List ℕ) (at size : ℕ) (i : Item) (l : Limits) : Type 0 where
   pub inside : at + size ≤ length m
@@ -83,11 +76,10 @@ bareThen mode (Refused n p) bare = bare
 unfoldable pub applied : List ℕ → Item → State → State
 applied m i st = cond (staysOnScreen? i) st (applyItem (λ o. getD m o 0) i st)
 
--- what stands is good, every parameter is in its range, the item is not idle, the eight rows of a pattern lie in the message, and a copy has room
+-- what stands is good, every parameter that is judged is in its range, the eight rows of a pattern lie in the message, and a copy has room
 pub record Applying (s : Settings) (i : Item) (m cells layer dots printer : List ℕ) (from : ℕ) : Type 0 where
   pub good : Good (state s cells layer dots)
   pub legal : legalItem? i (limitsOf s) ≡ true
-  pub awake : idleItem? (s .mode) i ≡ false
   pub rows : (c at : ℕ) → i ≡ Sequence (Pattern c at) → at + 8 ≤ length m
   pub roomy : from + printerBytes (s .mode) i ≤ length printer
 

@@ -11,7 +11,7 @@ ghost use lib.Dec.{eqb};
 ghost use Rattle.model.specs.Sequences.{codeOf};
 ghost use Rattle.reader.specs.Reading.{ReadAt};
 ghost use Rattle.screen.specs.Frame.{Ready, limitsIn};
-ghost use Rattle.serving.specs.Acting.{Offered, Moves, bareThen, clears?, dotsThen, idleItem?, Applying, Applied};
+ghost use Rattle.serving.specs.Acting.{Offered, Moves, bareThen, clears?, dotsThen, Applying, Applied};
 use crate::counting::is_copy;
 use model::Item;
 use model::Limits;
@@ -35,16 +35,6 @@ pub(crate) fn read_at(frame: Frame, room: usize, message: &[u8], at: usize) -> R
         height: frame.height,
     };
     reader::read_item(limits, room, message, at)
-}
-
-// Whether an item is idle in a mode.
-pub(crate) fn idle(mode: u8, item: Item) -> bool
-    ensures { λ r. ⌜ r ≡ idleItem? mode item ⌝ }
-{
-    match item {
-        Item::Sequence(q) => tables::idle(mode, q),
-        _ => false,
-    }
 }
 
 // Whether an item acts on the selected screen alone.
@@ -163,7 +153,7 @@ fn bare_then(mode: u8, q: Sequence, bare: bool) -> bool
     }
 }
 
-// "A refused sequence changes nothing but the counts and the first refusal": the accepted case is taken apart, else the settings
+// "A refused sequence changes nothing but the counts and the first refusal": the accepted case is taken apart, else, and where it is idle, the settings
 // are those that were given.
 pub(crate) fn apply(
     settings: Settings,
@@ -181,6 +171,9 @@ pub(crate) fn apply(
     let Item::Sequence(q) = item else {
         return settings;
     };
+    if tables::idle(settings.mode, q) {
+        return settings;
+    }
     print_copy(settings, q, cells, layer, dots, printer, from);
     if settings::is_pattern(q) {
         return settings::store_pattern(settings, q, message);

@@ -1,5 +1,5 @@
 // The message loop: items read one after the other, each obeyed, counted and, for a copy, printed; then the picture is painted. What is idle in the
-// mode is counted: of these the ones of the selected screen change nothing by themselves, and the others are skipped before anything looks at them.
+// mode is counted: of these the ones of the selected screen change nothing by themselves, and `apply` leaves the others.
 mod acting;
 mod counting;
 mod places;
@@ -17,7 +17,6 @@ ghost use Rattle.serving.specs.Serves.{Servable, Serves};
 use acting::act;
 use acting::apply;
 use acting::bare_after;
-use acting::idle;
 use acting::read_at;
 use acting::stays;
 use acting::wipe_after;
@@ -82,9 +81,6 @@ pub fn serve(
         frame.bare = bare_after(frame.mode, item, frame.bare);
         wipe_after(frame.mode, item, dots);
         if stays(item) {
-            continue;
-        }
-        if idle(frame.mode, item) {
             continue;
         }
         let places = placed(s, place);

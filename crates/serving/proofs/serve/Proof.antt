@@ -6,7 +6,7 @@ use native.Mathlib.Omega.{arith}
 use lib.ListN.{length}
 use borrow.Author.Needs.{needs}
 use Rattle.model.proofs.Keep.{chosen}
-use Rattle.serving.proofs.Turns.{Loop, acted, applying, begin, changed, countable, end, further, good, idled, marks-are, offered}
+use Rattle.serving.proofs.Turns.{Loop, acted, applying, begin, changed, countable, end, further, good, marks-are, offered}
 use Rattle.serving.proofs.serve.Statement.{statement}
 use Rattle.serving.proofs.serve.Tie as tie
 
@@ -58,54 +58,29 @@ loop-again c =
     acted _ _ _ _ _ _ (head .loop .inv) (read .before .loop-test .taken) (read .read-at .result) (read .read-at .ensures) (moved .act .ensures) (known .bare-after .ensures) (wiped .wipe-after .ensures) (counted .count .ensures)
     (sym (c .before .stays .ensures) ∙ c .if1 .taken)
 
--- one that does not, and is idle
-loop-less-2 : tie.Need-loop-less-2 Inv-loop μ-loop
-loop-less-2 c =
-    let wiped = c .before .before .before .before .before .before in
-    let known = wiped .before .before in
-    let moved = known .before .before .before .before .before .before .before in
-    let counted = moved .before .before .before .before in
-    let read = counted .before in
-    let head = read .before .before in
-    let more : head .loop .at < moved .act .result .at = further _ _ _ _ _ _ (head .loop .inv) (read .before .loop-test .taken) (read .read-at .result) (read .read-at .ensures) (moved .act .ensures) (known .bare-after .ensures) (wiped .wipe-after .ensures) (counted .count .ensures) in
-    omega (arith, more, read .before .loop-test .taken)
-
-loop-again-2 : tie.Need-loop-again-2 Inv-loop μ-loop
-loop-again-2 c =
-    let stays = c .before .before in
-    let wiped = c .before .before .before .before .before .before in
-    let known = wiped .before .before in
-    let moved = known .before .before .before .before .before .before .before in
-    let counted = moved .before .before .before .before in
-    let read = counted .before in
-    let head = read .before .before in
-    idled _ _ _ _ _ _ (head .loop .inv) (read .before .loop-test .taken) (read .read-at .result) (read .read-at .ensures) (moved .act .ensures) (known .bare-after .ensures) (wiped .wipe-after .ensures) (counted .count .ensures)
-    (sym (stays .before .stays .ensures) ∙ stays .if1 .left) (sym (c .before .idle .ensures) ∙ c .if2 .taken)
-
--- one that is not
+-- one that does not
 placed-requires : tie.Need-placed-requires Inv-loop μ-loop
-placed-requires c κs = chosen _ (c .before .before .before .before .before .before .before .before .before .before .before .before .before .before .before .before .before .before .before .before .before .before .loop .inv .going .good .sound)
+placed-requires c κs = chosen _ (c .before .before .before .before .before .before .before .before .before .before .before .before .before .before .before .before .before .before .before .before .loop .inv .going .good .sound)
 
 apply-requires : tie.Need-apply-requires Inv-loop μ-loop
 apply-requires c κs =
     let back = c .before .before .before .before in
-    let test = back .before in
-    let stays = test .before .before in
-    let wiped = c .before .before .before .before .before .before .before .before .before .before .before in
+    let stays = back .before in
+    let wiped = c .before .before .before .before .before .before .before .before .before in
     let known = wiped .before .before in
     let moved = known .before .before .before .before .before .before .before in
     let counted = moved .before .before .before .before in
     let read = counted .before in
     let head = read .before .before in
     applying _ _ _ _ _ _ (head .loop .inv) (read .before .loop-test .taken) (read .read-at .result) (read .read-at .ensures) (moved .act .ensures) (known .bare-after .ensures) (wiped .wipe-after .ensures) (counted .count .ensures)
-    (sym (stays .before .stays .ensures) ∙ stays .if1 .left) (back .placed .ensures) (sym (test .before .idle .ensures) ∙ test .if2 .left)
+    (sym (stays .before .stays .ensures) ∙ stays .if1 .left) (back .placed .ensures)
 
 selected-place-requires-2 : tie.Need-selected-place-requires-2 Inv-loop μ-loop
 selected-place-requires-2 c κs =
     let done = c .before .before .before .before .before .before .before .before in
     let back = done .before .before .before .before .before in
-    let stays = back .before .before .before in
-    let wiped = c .before .before .before .before .before .before .before .before .before .before .before .before .before .before .before .before .before .before .before .before in
+    let stays = back .before in
+    let wiped = c .before .before .before .before .before .before .before .before .before .before .before .before .before .before .before .before .before .before in
     let known = wiped .before .before in
     let moved = known .before .before .before .before .before .before .before in
     let counted = moved .before .before .before .before in
@@ -118,8 +93,8 @@ frame-of-requires-2 : tie.Need-frame-of-requires-2 Inv-loop μ-loop
 frame-of-requires-2 c κs =
     let done = c .before .before .before .before .before .before .before .before .before .before in
     let back = done .before .before .before .before .before in
-    let stays = back .before .before .before in
-    let wiped = c .before .before .before .before .before .before .before .before .before .before .before .before .before .before .before .before .before .before .before .before .before .before in
+    let stays = back .before in
+    let wiped = c .before .before .before .before .before .before .before .before .before .before .before .before .before .before .before .before .before .before .before .before in
     let known = wiped .before .before in
     let moved = known .before .before .before .before .before .before .before in
     let counted = moved .before .before .before .before in
@@ -128,9 +103,9 @@ frame-of-requires-2 c κs =
     good _ _ _ _ _ _ (head .loop .inv) (read .before .loop-test .taken) (read .read-at .result) (read .read-at .ensures) (moved .act .ensures) (known .bare-after .ensures) (wiped .wipe-after .ensures) (counted .count .ensures)
     (sym (stays .before .stays .ensures) ∙ stays .if1 .left) (back .placed .ensures) (done .apply .ensures) .sound
 
-loop-less-3 : tie.Need-loop-less-3 Inv-loop μ-loop
-loop-less-3 c =
-    let wiped = c .before .before .before .before .before .before .before .before .before .before .before .before .before .before .before .before .before .before .before .before .before .before .before in
+loop-less-2 : tie.Need-loop-less-2 Inv-loop μ-loop
+loop-less-2 c =
+    let wiped = c .before .before .before .before .before .before .before .before .before .before .before .before .before .before .before .before .before .before .before .before .before in
     let known = wiped .before .before in
     let moved = known .before .before .before .before .before .before .before in
     let counted = moved .before .before .before .before in
@@ -139,13 +114,13 @@ loop-less-3 c =
     let more : head .loop .at < moved .act .result .at = further _ _ _ _ _ _ (head .loop .inv) (read .before .loop-test .taken) (read .read-at .result) (read .read-at .ensures) (moved .act .ensures) (known .bare-after .ensures) (wiped .wipe-after .ensures) (counted .count .ensures) in
     omega (arith, more, read .before .loop-test .taken)
 
-loop-again-3 : tie.Need-loop-again-3 Inv-loop μ-loop
-loop-again-3 c =
+loop-again-2 : tie.Need-loop-again-2 Inv-loop μ-loop
+loop-again-2 c =
     let place = c .before .before in
     let done = place .before .before .before .before .before .before .before .before .before in
     let back = done .before .before .before .before .before in
-    let stays = back .before .before .before in
-    let wiped = c .before .before .before .before .before .before .before .before .before .before .before .before .before .before .before .before .before .before .before .before .before .before .before in
+    let stays = back .before in
+    let wiped = c .before .before .before .before .before .before .before .before .before .before .before .before .before .before .before .before .before .before .before .before .before in
     let known = wiped .before .before in
     let moved = known .before .before .before .before .before .before .before in
     let counted = moved .before .before .before .before in
@@ -199,15 +174,12 @@ serve-spec =
     (λ c κs. tt)
     loop-less
     loop-again
-    (λ c κs. tt)
-    loop-less-2
-    loop-again-2
     placed-requires
     apply-requires
     selected-place-requires-2
     frame-of-requires-2
-    loop-less-3
-    loop-again-3
+    loop-less-2
+    loop-again-2
     (λ c κs. omega (arith, c .before .loop .inv .going .reached, c .before .loop .inv .short))
     finish-requires
     same-length
