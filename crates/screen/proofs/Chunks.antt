@@ -1,5 +1,6 @@
 -- Bytes printed in the cursor's line short of its end, while the window stays: no cursor waits there under either rule, each byte is
--- stored, the cursor moves a column, and tracking does nothing. So they are all stored at once, and as many places emptied.
+-- stored, the cursor moves a column, and tracking does nothing. So they are all stored at once, and as many places emptied. The last of them
+-- may be that of the last column: it is stored with the others, and what comes of it is the step behind it.
 use mathlib.Core.Path.{_∙_, _≡_, refl, subst}
 use Prim.Native.Nat.{_+_, _<_, _≤_, suc, ℕ}
 use native.Mathlib.Numerals.{add-one}
@@ -16,7 +17,7 @@ use Rattle.screen.specs.declared.Frame.{Frame}
 use Rattle.screen.specs.Frame.{Ready}
 use Rattle.screen.specs.Acts.{Acts, Reads}
 use Rattle.screen.specs.Here.{cellIn, lost, shownHere}
-use Rattle.screen.specs.Run.{printedAll, unmarked}
+use Rattle.screen.specs.Run.{furtherBy, laidAll, printedAll, unmarked}
 use Rattle.screen.proofs.Acting.{likewise, stays, still, then, then-above}
 use Rattle.screen.proofs.Cells.{cell-room}
 use Rattle.screen.proofs.Steps.{cell-is, unmarked-layer}
@@ -55,6 +56,28 @@ module _ {f : Frame} where
       let y : cellIn f (putAt (p .line) (suc (p .column)) p) ≡ suc (cellIn f p) = omega (arith, h .stands .fits .column-low) in
       likewise (λ s ds e k. refl)
       (then v (chunk-acts xs (v .ready) refl (omega arith) (lost-next (suc (p .column)) j) (spot-next (h .stands .fits .column-low) i) (rw z at a) (rw y b) d))
+
+  -- the last one, stored
+  pub laid-one : (x : ℕ) {p r : Place} {c l c′ l′ : List ℕ} {n : ℕ} → Ready f p c l → Spot f p n → r ≡ furtherBy 0 p → c′ ≡ sets c (cellIn f p) (x ∷ []) → l′ ≡ unmarked n 1 l → Acts (stored x) f p r c l c′ l′
+  unfolding unmarked
+  laid-one x {p} {c = c} {l = l} {n = n} h i a b d =
+      let z : p .column ≡ p .column + 0 = omega arith in
+      let y : p ≡ furtherBy 0 p = λ o. record { line = p .line; column = z o; top = p .top; waiting = p .waiting } in
+      rw (a, b, d) (subst (λ (o : Place). Acts (stored x) f p o c l (set c (cellIn f p) x) (unmark n l)) y (stored-spot x h i))
+
+  -- and those before it
+  pub laid-acts : (x : ℕ) (xs : List ℕ) {p r : Place} {c l c′ l′ : List ℕ} {n : ℕ} → Ready f p c l → p .waiting ≡ 0 → p .column + length xs ≤ f .columns → (1 ≤ length xs → Reads lost f p false) → Spot f p n
+      → r ≡ furtherBy (length xs) p → c′ ≡ sets c (cellIn f p) (x ∷ xs) → l′ ≡ unmarked n (suc (length xs)) l → Acts (laidAll (x ∷ xs)) f p r c l c′ l′
+  unfolding laidAll unmarked
+  laid-acts x [] h w room j i a b d = likewise (λ s ds e k. refl) (then (awaited-still h (λ e. omega arith)) (laid-one x h i a b d))
+  laid-acts x (y ∷ ys) {p} {n = n} h w room j i a b d =
+      let seen = j (omega arith) in
+      let v = printed-spot x h w (omega arith) seen i in
+      let z : p .column + suc (length ys) ≡ suc (p .column) + length ys = omega arith in
+      let t : furtherBy (suc (length ys)) p ≡ furtherBy (length ys) (putAt (p .line) (suc (p .column)) p) = λ o. record { line = p .line; column = z o; top = p .top; waiting = w o } in
+      let u : cellIn f (putAt (p .line) (suc (p .column)) p) ≡ suc (cellIn f p) = omega (arith, h .stands .fits .column-low) in
+      likewise (λ s ds e k. refl)
+      (then v (laid-acts y ys (v .ready) refl (omega arith) (λ o. lost-next (suc (p .column)) seen) (spot-next (h .stands .fits .column-low) i) (a ∙ t) (rw u b) d))
 
   -- so a part of a message copied to where the cursor stands
   pub copied-acts : {p r : Place} {c l c′ l′ : List ℕ} {k n : ℕ} (m : List ℕ) (at count : ℕ) → Ready f p c l → 1 ≤ count → at + count ≤ length m → p .column + count ≤ f .columns → Reads lost f p false

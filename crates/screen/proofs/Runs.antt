@@ -8,8 +8,9 @@ use mathlib.Core.List.{List, [], _++_, _∷_}
 use lib.ListN.{drop, getD, length, length-drop, length-take, take}
 use lib.Dec.{ltb}
 use borrow.Author.Tests.{leb-true, ltb-false, ltb-true}
-use lib.Seq.{drop-cons, drop-drop, take-add}
+use lib.Seq.{drop-drop, sets, take-add}
 use Rattle.model.specs.declared.Place.{Place}
+use Rattle.model.specs.Bytes.{put}
 use Rattle.model.specs.State.{State, state}
 use Rattle.model.specs.Screens.{placeOf}
 use Rattle.model.specs.Rules.{awaited, printed, right, stored, tracked}
@@ -18,11 +19,16 @@ use Rattle.model.proofs.Tests.{and-left, and-right}
 use Rattle.screen.specs.declared.Frame.{Frame}
 use Rattle.screen.specs.declared.run.Run.{Run}
 use Rattle.screen.specs.Frame.{Ready}
-use Rattle.screen.specs.Acts.{ActsWith, withHere}
-use Rattle.screen.specs.Run.{Part, Printing, Ran, WholeRun, allPrint?, printedAll, prints?}
+use Rattle.screen.specs.Acts.{Acts, ActsAbove, ActsWith, Reads, withHere}
+use Rattle.screen.specs.Here.{cellIn, lost}
+use Rattle.screen.specs.Run.{Fitting, Part, Printing, Ran, Uncovers, WholeRun, allPrint?, furtherBy, laidAll, printedAll, prints?, unmarked}
 use Rattle.screen.proofs.Acting.{placed-there}
-use Rattle.screen.proofs.Carried.{likewise-with, still-with, then-with}
+use Rattle.screen.proofs.Carried.{likewise-with, still-with, then-above-with, then-with, unmarked-acts}
+use Rattle.screen.proofs.Cells.{cell-room}
+use Rattle.screen.proofs.Chunks.{laid-acts, laid-one}
 use Rattle.screen.proofs.Moves.{waits-not}
+use Rattle.screen.proofs.Rows.{put-sets}
+use Rattle.screen.proofs.Shown.{Spot, spot-of}
 
 -- bytes behind others
 printed-more : (xs ys : List ℕ) (st : State) → printedAll (xs ++ ys) st ≡ printedAll ys (printedAll xs st)
@@ -81,21 +87,29 @@ module _ (m : List ℕ) (at : ℕ) where
       go before true i = before j u (ltb-true j (at + n) i)
       go before false i = let z : at + n ≡ j = omega (arith, v, ltb-false j (at + n) i) in subst (λ (k : ℕ). prints? m k ≡ true) z (and-right (allPrint? m at n) (prints? m (at + n)) h)
 
-  pub all-printing : allPrint? m at 16 ≡ true → Printing m at (at + 16)
-  all-printing h = record { some = omega arith; inside = omega (arith, there m (at + 15) (each 16 h (at + 15) (omega arith) (omega arith))); print = each 16 h }
+  pub all-printing : (n : ℕ) → 1 ≤ n → allPrint? m at n ≡ true → Printing m at (at + n)
+  all-printing n some h = record { some = omega (arith, some); inside = omega (arith, some, there m (at + (n - 1)) (each n h (at + (n - 1)) (omega arith) (omega (arith, some)))); print = each n h }
 
-  pub too-few : length m - at < 16 → false ≡ allPrint? m at 16
-  too-few few = go (allPrint? m at 16) refl
+  pub too-few : (n : ℕ) → length m - at < n → false ≡ allPrint? m at n
+  too-few n few = go (allPrint? m at n) refl
     where
-      go : (b : Bool) → allPrint? m at 16 ≡ b → false ≡ allPrint? m at 16
-      go true e = absurd (omega (arith, few, all-printing e .inside))
+      go : (b : Bool) → allPrint? m at n ≡ b → false ≡ allPrint? m at n
+      go true e = absurd (omega (arith, few, all-printing n (omega (arith, few)) e .inside))
       go false e = sym e
 
--- P9: a step that waited may be made before the bytes are printed, if none waits behind it
-awaited-first : (bs : List ℕ) (st : State) → 1 ≤ length bs → awaited (awaited st) ≡ awaited st → printedAll bs st ≡ printedAll bs (awaited st)
-unfolding printedAll printed
+-- P9: a step that waited may be made before the bytes are laid down, if none waits behind it
+awaited-first : (bs : List ℕ) (st : State) → 1 ≤ length bs → awaited (awaited st) ≡ awaited st → laidAll bs st ≡ laidAll bs (awaited st)
+unfolding laidAll printed
 awaited-first [] st h e = absurd (omega (arith, h))
-awaited-first (b ∷ bs) st h e = ap (λ (x : State). printedAll bs (tracked (right (stored b x)))) (sym e)
+awaited-first (b ∷ []) st h e = ap (stored b) (sym e)
+awaited-first (b ∷ d ∷ bs) st h e = ap (λ (x : State). laidAll (d ∷ bs) (tracked (right (stored b x)))) (sym e)
+
+-- the rest of the last one's rule
+printed-laid : (bs : List ℕ) (st : State) → 1 ≤ length bs → printedAll bs st ≡ tracked (right (laidAll bs st))
+unfolding printedAll laidAll printed
+printed-laid [] st h = absurd (omega (arith, h))
+printed-laid (b ∷ []) st h = refl
+printed-laid (b ∷ d ∷ bs) st h = printed-laid (d ∷ bs) (tracked (right (stored b (awaited st)))) (omega arith)
 
 -- the bytes from an offset up to `at` were printed
 pub record Along (m : List ℕ) (f : Frame) (from : ℕ) (p : Place) (c l k : List ℕ) (at : ℕ) (q : Place) (c′ l′ k′ : List ℕ) : Type 0 where
@@ -107,31 +121,9 @@ module _ {m : List ℕ} {f : Frame} {p : Place} {c l k : List ℕ} where
   unfolding printedAll
   along-none from r n = record { low = omega arith; acts = let z : from - from ≡ 0 = omega arith in likewise-with (λ s ds e i j. rw z) (still-with r n) }
 
-  -- a part of one byte, of as many as stay in the line, behind the step that waited
-  module _ {at to : ℕ} {q : Place} {r : Run} {c₀ l₀ k₀ c₁ l₁ k₁ : List ℕ} (w : ActsWith awaited f p q c l k c₀ l₀ k₀) where
-    pub part-one : {b : ℕ} → at < to → to ≤ length m → r .at ≡ at + 1 → b ≡ getD m at 0 → ActsWith (λ (st : State). tracked (right (stored b st))) f q (r .place) c₀ l₀ k₀ c₁ l₁ k₁ → Part m at to f p r c l k c₁ l₁ k₁
-    unfolding printedAll printed
-    part-one h j e i a = record {
-      some = omega arith;
-      most = omega arith;
-      acts = let n : r .at - at ≡ 1 = omega (arith, e) in likewise-with (λ s ds x y z. rw (n, drop-cons m at 0 (omega arith))) (then-with w (rw i at a));
-    }
-
-    pub part-many : {n : ℕ} → 1 ≤ n → at + n ≤ to → to ≤ length m → r .at ≡ at + n → q .column < f .columns → ActsWith (printedAll (take n (drop at m))) f q (r .place) c₀ l₀ k₀ c₁ l₁ k₁ → Part m at to f p r c l k c₁ l₁ k₁
-    unfolding placeOf
-    part-many {n} h j i e g a =
-        let z : r .at - at ≡ n = omega (arith, e) in
-        let bs : List ℕ = take n (drop at m) in
-        let some : length bs ≡ n = simp (length-take, length-drop) (omega arith) in
-        record {
-          some = omega arith;
-          most = omega arith;
-          acts = rw z (likewise-with (λ s ds x y v.
-              let st : State = state (withHere s q k₀) c₀ l₀ ds in
-              let d : awaited (state s c l ds) ≡ st = w .does s ds x y v in
-              awaited-first bs (state s c l ds) (omega (arith, some)) (ap awaited d ∙ awaited-not st (ap (λ (o : Place). o .waiting) (placed-there q x) ∙ waits-not (w .ready .stands) g) ∙ sym d))
-              (then-with w a));
-        }
+  -- a part that stays in the line
+  pub part-many : {at to : ℕ} {r : Run} {c₁ l₁ : List ℕ} → length k ≡ 96 → at < to → r .at ≡ to → Acts (printedAll (take (to - at) (drop at m))) f p (r .place) c l c₁ l₁ → Part m at to f p r c l k c₁ l₁ k
+  part-many n h e a = record { some = omega (arith, h, e); most = omega (arith, e); acts = rw e (unmarked-acts n a) }
 
   pub along-part : {from at to : ℕ} {q : Place} {r : Run} {c₁ l₁ k₁ c₂ l₂ k₂ : List ℕ} → Along m f from p c l k at q c₁ l₁ k₁ → Part m at to f q r c₁ l₁ k₁ c₂ l₂ k₂ → Along m f from p c l k (r .at) (r .place) c₂ l₂ k₂
   along-part {from} {at} {r = r} a w = record {
@@ -141,3 +133,42 @@ module _ {m : List ℕ} {f : Frame} {p : Place} {c l k : List ℕ} where
 
   pub along-all : {at to : ℕ} {r : Run} {c₁ l₁ k₁ : List ℕ} → WholeRun m at to → r .at ≡ to → Along m f at p c l k (r .at) (r .place) c₁ l₁ k₁ → Ran m at f p r c l k c₁ l₁ k₁
   along-all {at} h e a = record { run = subst (WholeRun m at) (sym e) h; acts = a .acts }
+
+-- bytes laid down behind the step that waited
+module _ {f : Frame} {p q : Place} {c l k c₀ l₀ k₀ : List ℕ} (w : ActsWith awaited f p q c l k c₀ l₀ k₀) where
+  laid-behind : (bs : List ℕ) {n : ℕ} {s : Place} {c₁ l₁ : List ℕ} → 1 ≤ length bs → q .column + length bs ≤ f .columns + 1 → (2 ≤ length bs → Reads lost f q false) → Spot f q n
+      → s ≡ furtherBy (length bs - 1) q → c₁ ≡ sets c₀ (cellIn f q) bs → l₁ ≡ unmarked n (length bs) l₀ → ActsWith (laidAll bs) f p s c l k c₁ l₁ k₀
+  unfolding laidAll placeOf
+  laid-behind [] h g seen i a b d = absurd (omega (arith, h))
+  laid-behind (x ∷ []) h g seen i a b d = likewise-with (λ s ds u v o. refl) (then-with w (unmarked-acts (w .marks-are) (laid-one x (w .ready) i a b d)))
+  laid-behind (x ∷ y ∷ ys) h g seen i a b d =
+      let still = waits-not (w .ready .stands) (omega arith) in
+      let e : length (x ∷ y ∷ ys) - 1 ≡ length (y ∷ ys) = omega arith in
+      likewise-with (λ s ds u v o.
+      let st : State = state (withHere s q k₀) c₀ l₀ ds in
+      let t : awaited (state s c l ds) ≡ st = w .does s ds u v o in
+      awaited-first (x ∷ y ∷ ys) (state s c l ds) h (ap awaited t ∙ awaited-not st (ap (λ (z : Place). z .waiting) (placed-there q u) ∙ still) ∙ sym t))
+      (then-with w (unmarked-acts (w .marks-are) (laid-acts x (y ∷ ys) (w .ready) still (omega arith) (λ o. seen (omega arith)) i (rw e at a) b d)))
+
+  -- those of a message that the line has room for
+  module _ (m : List ℕ) (at to n : ℕ) (h : Fitting f q (to - at) n) (g : to ≤ length m) where
+    pub line-laid : {e : ℕ} {s : Place} {c₁ l₁ : List ℕ} → e ≡ cellIn f q → c₁ ≡ put e (take n (drop at m)) c₀ → Uncovers f q n l₀ l₁ → s ≡ furtherBy (n - 1) q
+        → ActsWith (laidAll (take n (drop at m))) f p s c l k c₁ l₁ k₀
+    line-laid i a d b =
+        let bs : List ℕ = take n (drop at m) in
+        let z : length bs ≡ n = simp (length-take, length-drop) (omega (arith, h .some, h .most)) in
+        laid-behind bs (omega (arith, z, h .some)) (omega (arith, z, h .room)) (λ o. h .seen (omega (arith, z, o))) (spot-of (d .shows)) (rw z b)
+        (rw (a, i) (put-sets (cellIn f q) bs c₀ (omega (arith, z, h .room, cell-room (w .ready .stands), w .ready .cells-are)))) (rw z (d .is))
+
+    -- and the step behind them
+    pub part-line : {s t : Place} {r : Run} {c₁ l₁ c₂ l₂ k₂ l₃ : List ℕ} → r .at ≡ at + n → ActsWith (laidAll (take n (drop at m))) f p s c l k c₁ l₁ k₀ → ActsWith right f s t c₁ l₁ k₀ c₂ l₂ k₂
+        → ActsAbove tracked f t (r .place) l₂ l₃ → Part m at to f p r c l k c₂ l₃ k₂
+    part-line {r = r} i a b d =
+        let z : r .at - at ≡ n = omega (arith, i) in
+        let bs : List ℕ = take n (drop at m) in
+        let some : length bs ≡ n = simp (length-take, length-drop) (omega (arith, h .some, h .most)) in
+        record {
+          some = omega (arith, i, h .some);
+          most = omega (arith, i, h .some, h .most);
+          acts = rw z (likewise-with (λ u ds x y v. printed-laid bs (state u c l ds) (omega (arith, some, h .some))) (then-above-with (then-with a b) d));
+        }

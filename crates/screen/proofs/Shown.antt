@@ -3,8 +3,10 @@ use mathlib.Core.Path.{_∙_, _≡_, ap, refl, sym}
 use Prim.Native.Nat.{_*_, _+_, _-_, _<_, _≤_, min, suc, ℕ}
 use native.Mathlib.Omega.{arith}
 use mathlib.Core.Bool.{Bool, _&&_, cond, false, true}
+use mathlib.Core.List.{List}
+use lib.ListN.{replicate}
 use lib.Dec.{eqb, leb, ltb}
-use borrow.Author.Tests.{le-leb, le-ltb, lt-leb, lt-ltb}
+use borrow.Author.Tests.{le-leb, le-ltb, lt-leb, lt-ltb, ltb-false, ltb-true}
 use Rattle.model.specs.declared.Place.{Place}
 use Rattle.model.specs.State.{State, putAt, state}
 use Rattle.model.specs.Screens.{height, here}
@@ -14,7 +16,9 @@ use Rattle.screen.specs.declared.Frame.{Frame}
 use Rattle.screen.specs.Frame.{Framed}
 use Rattle.screen.specs.Acts.{Reads, withPlace}
 use Rattle.screen.specs.Here.{shownHere}
+use Rattle.screen.specs.Run.{Uncovers}
 use Rattle.screen.proofs.Acting.{framed-placed, placed-there}
+use Rattle.screen.proofs.Rows.{unmarked-empty}
 
 -- line l under a window of top t over r rows: a where the rows show it, b where mode 1 shows it in the right half
 spot : Bool → ℕ → ℕ → ℕ → ℕ → ℕ → ℕ
@@ -89,3 +93,16 @@ spot-next {f} {p} {n} low h = record { is = further }
         let a : (p .line - p .top) * 80 + (suc (p .column) - 1) + f .shift ≡ suc ((p .line - p .top) * 80 + (p .column - 1) + f .shift) = omega (arith, low) in
         let b : (p .line - p .top - f .rows) * 80 + suc (p .column) + 40 ≡ suc ((p .line - p .top - f .rows) * 80 + p .column + 40) = omega arith in
         ap (min 640) (spot-is st e i) ∙ rw (a, b) (next-spot _ _ _ _ _ _) ∙ ap (λ (x : ℕ). min 640 (suc x)) (sym (spot-is s e′ i′)) ∙ omega (arith, k)
+
+-- an empty layer is uncovered as it stands, from wherever the cursor's cell is shown
+pub bare-uncovers : {f : Frame} {p : Place} {l : List ℕ} (n : ℕ) → l ≡ replicate 1280 0 → Uncovers f p n l l
+bare-uncovers {f} {p} {l} n k = go (ltb (p .line) (p .top)) (ltb (p .line - p .top) (f .rows)) (ltb (p .line - p .top) (f .height)) refl refl refl
+  where
+    from : (a : ℕ) → Reads shownHere f p a → Uncovers f p n l l
+    from a h = record { from = a; shows = h; is = sym (unmarked-empty n a l k) }
+
+    go : (a b d : Bool) → ltb (p .line) (p .top) ≡ a → ltb (p .line - p .top) (f .rows) ≡ b → ltb (p .line - p .top) (f .height) ≡ d → Uncovers f p n l l
+    go true b d e i j = from 640 (shown-above (ltb-true (p .line) (p .top) e))
+    go false true d e i j = from _ (shown-near (ltb-false (p .line) (p .top) e) (ltb-true (p .line - p .top) (f .rows) i) refl)
+    go false false true e i j = from _ (shown-far (ltb-false (p .line) (p .top) e) (ltb-false (p .line - p .top) (f .rows) i) (ltb-true (p .line - p .top) (f .height) j) refl)
+    go false false false e i j = from 640 (shown-below (ltb-false (p .line) (p .top) e) (ltb-false (p .line - p .top) (f .rows) i) (ltb-false (p .line - p .top) (f .height) j))

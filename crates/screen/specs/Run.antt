@@ -7,10 +7,11 @@ use lib.ListN.{length, getD, take, drop}
 use lib.Dec.{leb}
 use Rattle.model.specs.declared.Place.{Place}
 use Rattle.model.specs.State.{State}
-use Rattle.model.specs.Rules.{printed, unmark}
+use Rattle.model.specs.Rules.{awaited, printed, stored, unmark}
 use Rattle.screen.specs.declared.Frame.{Frame}
 use Rattle.screen.specs.declared.run.Run.{Run}
-use Rattle.screen.specs.Acts.{ActsWith}
+use Rattle.screen.specs.Acts.{ActsWith, Reads}
+use Rattle.screen.specs.Here.{lost, shownHere}
 
 -- bytes printed one after the other
 unfoldable pub printedAll : List ℕ → State → State
@@ -48,7 +49,30 @@ pub record Part (m : List ℕ) (at to : ℕ) (f : Frame) (p : Place) (r : Run) (
   pub most : r .at ≤ to
   pub acts : ActsWith (printedAll (take (r .at - at) (drop at m))) f p (r .place) cells layer marks cells′ layer′ marks′
 
+-- all of these bytes but the last are printed, and the last is only stored
+unfoldable pub laidAll : List ℕ → State → State
+laidAll [] st = st
+laidAll (b ∷ []) st = stored b (awaited st)
+laidAll (b ∷ d ∷ bs) st = laidAll (d ∷ bs) (printed b st)
+
+-- of n bytes the first r, at least one, have room in the cursor's line; more than one only while the window shows it
+pub record Fitting (f : Frame) (p : Place) (n r : ℕ) : Type 0 where
+  pub some : 1 ≤ r
+  pub most : r ≤ n
+  pub room : p .column + r ≤ f .columns + 1
+  pub seen : 2 ≤ r → Reads lost f p false
+
+-- the cursor so many columns further, and all else as it was
+abbrev pub furtherBy : ℕ → Place → Place
+furtherBy n p = record { line = p .line; column = p .column + n; top = p .top; waiting = p .waiting }
+
 -- "emptying writes 0 in both": so many places in a row
 unfoldable pub unmarked : ℕ → ℕ → List ℕ → List ℕ
 unmarked p zero l = l
 unmarked p (suc n) l = unmarked (suc p) n (unmark p l)
+
+-- the same from the place on that shows the cursor's cell
+pub record Uncovers (f : Frame) (p : Place) (n : ℕ) (layer layer′ : List ℕ) : Type 0 where
+  pub from : ℕ
+  pub shows : Reads shownHere f p from
+  pub is : layer′ ≡ unmarked from n layer

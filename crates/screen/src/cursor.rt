@@ -11,9 +11,10 @@ ghost use mathlib.Core.Path.{_≡_};
 ghost use lib.ListN.{length};
 ghost use Prim.Native.Nat.{_-_, _≤_, max};
 ghost use Rattle.model.specs.Rules.{awaited, stored, down, onward, right};
-ghost use Rattle.screen.specs.Frame.{Stands, Ready};
+ghost use Rattle.screen.specs.Frame.{LayerOf, Ready, Stands};
 ghost use Rattle.screen.specs.Acts.{Acts, ActsWith, Reads};
 ghost use Rattle.screen.specs.Here.{shownHere};
+ghost use Rattle.screen.specs.Run.{Uncovers};
 
 // The place that shows the cursor's cell, or 640 for none. Only in mode 1 is the window taller than the rows: the lines behind
 // those stand in the right half.
@@ -32,6 +33,18 @@ pub fn shown(frame: Frame, place: Place) -> usize
         return wide(row - frame.rows) * 80 + wide(place.column) + 40;
     }
     SHOWN
+}
+
+// The places that show so many cells from the cursor's on are emptied. Where the layer is known to be empty they are not looked for.
+pub(crate) fn uncover(frame: Frame, place: Place, count: usize, layer: &mut [u8])
+    requires { ⌜ Stands frame place ⌝ }
+    requires { ⌜ LayerOf frame (now layer) ⌝ }
+    ensures { λ _. ⌜ Uncovers frame place count (now (layer .entry)) (now (layer .exit)) ⌝ }
+{
+    if frame.bare {
+        return;
+    }
+    marks::empty_from(frame, shown(frame, place), count, layer);
 }
 
 // "Printing stores the byte, empties the layer at the place where the picture shows that cell."

@@ -58,14 +58,14 @@ fn scroll(
     }
 }
 
-// A lift: the whole screen goes up, and its marks with it.
+// A lift: the whole screen goes up, and its marks with it, which are moved first: it was a little quicker so.
 pub(crate) fn lift(frame: Frame, place: Place, cells: &mut [u8], layer: &mut [u8], marks: &mut [u8])
     requires { ⌜ Ready frame place (now cells) (now layer) ⌝ }
     requires { ⌜ length (now marks) ≡ 96 ⌝ }
     ensures { λ _. ⌜ ActsWith lifted frame place place (now (cells .entry)) (now (layer .entry)) (now (marks .entry)) (now (cells .exit)) (now (layer .exit)) (now (marks .exit)) ⌝ }
 {
-    scroll(frame, place, UP, 0, frame.lines, cells, layer);
     logical::carry(frame, UP, 0, frame.lines, marks);
+    scroll(frame, place, UP, 0, frame.lines, cells, layer);
 }
 
 // 144, 145: "marks move with lines; the blank line, the line above the region (if any) and the region's last two lines .. end unmarked".

@@ -1,6 +1,8 @@
 // A place of the selected screen made from another: the only functions that name every field of it.
 use model::Place;
 ghost use mathlib.Core.Path.{_≡_};
+ghost use Prim.Native.Nat.{_+_, _≤_};
+ghost use Rattle.screen.specs.Run.{furtherBy};
 ghost use Rattle.model.specs.State.{home, putAt, topAt, waitAt};
 
 // The cursor elsewhere, or put where it stands: it no longer waits.
@@ -12,6 +14,19 @@ pub(crate) fn put_at(place: Place, line: u8, column: u8) -> Place
         column: column,
         top: place.top,
         waiting: 0,
+    }
+}
+
+// The cursor so many columns further in its line; whether it waits is as it was.
+pub(crate) fn further(place: Place, count: u8) -> Place
+    requires { ⌜ place .column + count ≤ 255 ⌝ }
+    ensures { λ r. ⌜ r ≡ furtherBy count place ⌝ }
+{
+    Place {
+        line: place.line,
+        column: place.column + count,
+        top: place.top,
+        waiting: place.waiting,
     }
 }
 

@@ -1,25 +1,25 @@
-// A run of printed bytes: the cursor goes over them with no settings at hand, and as many as stay in its line are copied at once.
+// A run of printed bytes: the cursor goes over them with no settings at hand, and as many as its line has room for are copied at once.
 ghost use mathlib.Core.Path.{_≡_};
 ghost use Prim.Native.Nat.{_+_, _<_, _≤_};
 ghost use mathlib.Core.Bool.{false, true};
 ghost use lib.ListN.{drop, length, take};
-ghost use Rattle.screen.specs.Frame.{Ready};
+ghost use Rattle.screen.specs.Frame.{Ready, Stands};
 ghost use Rattle.screen.specs.Acts.{Acts, Reads};
 ghost use Rattle.screen.specs.Here.{lost};
-ghost use Rattle.screen.specs.Run.{Part, Ran, WholeRun, allPrint?, printedAll, prints?};
+ghost use Rattle.screen.specs.Run.{Fitting, Part, Ran, WholeRun, allPrint?, printedAll, prints?};
 use crate::Frame;
 use crate::cursor;
 use crate::least;
 use crate::lines;
-use crate::marks;
 use crate::places;
-use crate::print_here;
 use crate::wide;
 use crate::window;
 use model::Place;
 
-// Printable bytes are looked for in blocks of so many.
+// Printable bytes are looked for in blocks of so many, and behind one that prints in long blocks.
 const BLOCK: usize = 16;
+
+const LONG: usize = 128;
 
 // Where a run ends: the place, and the offset of the byte behind it.
 pub struct Run {
@@ -38,17 +38,17 @@ fn prints(message: &[u8], at: usize) -> bool
     }
 }
 
-// Whether BLOCK bytes are there, and all print. The loop never stops early, so that a compiler tests them all at once.
-fn block_prints(message: &[u8], at: usize) -> bool
+// Whether so many bytes are there, and all print. The loop never stops early, so that a compiler tests them all at once.
+fn block_prints(message: &[u8], at: usize, size: usize) -> bool
     requires { ⌜ at ≤ length (now message) ⌝ }
-    ensures { λ r. ⌜ r ≡ allPrint? (now (message .entry)) at 16 ⌝ }
+    ensures { λ r. ⌜ r ≡ allPrint? (now (message .entry)) at size ⌝ }
 {
-    if message.len() - at < BLOCK {
+    if message.len() - at < size {
         return false;
     }
     let mut all = true;
     let mut k = 0;
-    while k < BLOCK {
+    while k < size {
         all = all & (message[at + k] >= 32);
         k += 1;
     }
@@ -61,8 +61,11 @@ fn run_end(message: &[u8], at: usize) -> usize
     ensures { λ r. ⌜ WholeRun (now (message .entry)) at r ⌝ }
 {
     let mut i = at + 1;
-    while block_prints(message, i) {
+    while block_prints(message, i, BLOCK) {
         i += BLOCK;
+        while block_prints(message, i, LONG) {
+            i += LONG;
+        }
     }
     while prints(message, i) {
         i += 1;
@@ -87,13 +90,27 @@ fn print_chunk(
 {
     let from = lines::cell(frame, place);
     store::copy_in(cells, from, message, at, count);
-    marks::empty_from(frame, cursor::shown(frame, place), count, layer);
+    cursor::uncover(frame, place, count, layer);
     places::put_at(place, place.line, place.column + (count as u8))
 }
 
-// The bytes up to `end` as far as they stay in the cursor's line short of its last column, or one byte where the cursor or the
-// window is about to leave. A step that waited comes before either.
-fn print_part(
+// Of so many bytes, those that the cursor's line has room for, its last column with them; one where the window misses the cursor and is about
+// to move.
+fn fitting(frame: Frame, place: Place, count: usize) -> usize
+    requires { ⌜ Stands frame place ⌝ }
+    requires { ⌜ 1 ≤ count ⌝ }
+    ensures { λ r. ⌜ Fitting frame place count r ⌝ }
+{
+    if window::misses(frame, place) {
+        1
+    } else {
+        least(count, wide(frame.columns - place.column) + 1)
+    }
+}
+
+// Of the bytes up to `end` those that the cursor's line has room for, copied at once, behind a step that waited: only behind the last of them
+// the cursor may leave its line, and the window may move.
+fn print_line(
     frame: Frame,
     place: Place,
     message: &[u8],
@@ -109,18 +126,44 @@ fn print_part(
     ensures { λ r. ⌜ Part (now (message .entry)) at end frame place r (now (cells .entry)) (now (layer .entry)) (now (marks .entry)) (now (cells .exit)) (now (layer .exit)) (now (marks .exit)) ⌝ }
 {
     let first = cursor::awaited(frame, place, cells, layer, marks);
-    let count = least(end - at, wide(frame.columns - first.column));
-    if (count < 1) | window::misses(frame, first) {
-        let next = print_here(frame, first, message[at], cells, layer, marks);
-        Run {
-            place: next,
-            at: at + 1,
-        }
+    let count = fitting(frame, first, end - at);
+    let from = lines::cell(frame, first);
+    store::copy_in(cells, from, message, at, count);
+    cursor::uncover(frame, first, count, layer);
+    let last = places::further(first, (count - 1) as u8);
+    let right = cursor::right(frame, last, cells, layer, marks);
+    let next = window::track(frame, right, layer);
+    Run {
+        place: next,
+        at: at + count,
+    }
+}
+
+// The bytes up to `end` if they stay in the cursor's line short of its last column, where no cursor waits, and the window does not move; else
+// as many as the line has room for.
+fn print_part(
+    frame: Frame,
+    place: Place,
+    message: &[u8],
+    at: usize,
+    end: usize,
+    cells: &mut [u8],
+    layer: &mut [u8],
+    marks: &mut [u8],
+) -> Run
+    requires { ⌜ Ready frame place (now cells) (now layer) ⌝ }
+    requires { ⌜ length (now marks) ≡ 96 ⌝ }
+    requires { ⌜ (at < end) × (end ≤ length (now message)) ⌝ }
+    ensures { λ r. ⌜ Part (now (message .entry)) at end frame place r (now (cells .entry)) (now (layer .entry)) (now (marks .entry)) (now (cells .exit)) (now (layer .exit)) (now (marks .exit)) ⌝ }
+{
+    let count = end - at;
+    if (wide(frame.columns - place.column) < count) | window::misses(frame, place) {
+        print_line(frame, place, message, at, end, cells, layer, marks)
     } else {
-        let next = print_chunk(frame, first, message, at, count, cells, layer);
+        let next = print_chunk(frame, place, message, at, count, cells, layer);
         Run {
             place: next,
-            at: at + count,
+            at: end,
         }
     }
 }

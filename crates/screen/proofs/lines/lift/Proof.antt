@@ -9,9 +9,9 @@ pub lift-spec : {M : Type 1} → statement M
 lift-spec =
     tie.close
     (tie.spec
-    (λ c κs. (search needs, (omega arith, omega arith)))
     (λ c κs. ((omega arith, omega arith), search needs))
+    (λ c κs. (search needs, (omega arith, omega arith)))
     (λ c. search needs)
     (λ c. search needs)
     (λ c. search needs)
-    (λ c. lifted-acts (c .before .before .before .before .before .before .before .before .before .before .before .before .before .before .pre .1) (c .before .before .before .before .before .before .before .before .scroll .ensures) (c .before .before .carry .ensures)))
+    (λ c. lifted-acts (c .before .before .before .before .before .before .before .before .before .before .before .before .before .before .pre .1) (c .before .before .before .before .scroll .ensures) (c .before .before .before .before .before .before .before .before .before .carry .ensures)))

@@ -9,10 +9,10 @@ use Rattle.screen.proofs.run.block_prints.Statement.{statement}
 use Rattle.screen.proofs.run.block_prints.Tie as tie
 
 abbrev Inv-loop : tie.InvT-loop
-Inv-loop message at all₀ k₀ all k = (k ≤ 16) × (all ≡ allPrint? message at k)
+Inv-loop message at size all₀ k₀ all k = (k ≤ size) × (all ≡ allPrint? message at k)
 
 abbrev μ-loop : tie.MeasureT-loop
-μ-loop message at all₀ k₀ all k = 16 - k
+μ-loop message at size all₀ k₀ all k = size - k
 
 loop-holds : tie.Need-loop-holds Inv-loop μ-loop
 unfolding allPrint?
@@ -28,7 +28,7 @@ returns-2 : tie.Need-returns-2 Inv-loop μ-loop
 returns-2 c =
     let a = c .before .before .before .args in
     let l = c .before .loop in
-    let k : l .k ≡ 16 = omega arith in
+    let k : l .k ≡ a .size = omega arith in
     l .inv .1 ∙ ap (allPrint? (a .message .now) (a .at)) k
 
 pub block-prints-spec : {M : Type 1} → statement M
@@ -38,7 +38,7 @@ block-prints-spec =
     Inv-loop
     μ-loop
     (λ c. search needs)
-    (λ c. too-few _ _ (omega arith))
+    (λ c. too-few _ _ _ (omega arith))
     loop-holds
     (λ c. search needs)
     (λ c. search needs)

@@ -8,9 +8,11 @@ use Rattle.screen.proofs.run.print_chunk.Tie as tie
 
 returns : tie.Need-returns
 returns c =
-    let a = c .before .before .before .before .before .before .before .before .before .before .before .before .before .before .before .args in
-    let h = c .before .before .before .before .before .before .before .before .before .before .before .before .before .before .before .pre in
-    copied-acts (a .message .now) (a .at) (a .count) (h .0) (h .1 .1 .0) (h .1 .1 .1 .1) (h .1 .1 .1 .0) (h .1 .0) (c .before .before .before .before .before .before .before .before .before .before .before .cell .ensures) (c .before .before .before .before .before .before .before .before .before .copy-in .ensures) (c .before .before .before .before .before .before .shown .ensures) (c .before .before .before .before .empty-from .ensures) (c .put-at .ensures)
+    let entry = c .before .before .before .before .before .before .before .before .before .before .before .before .before .before in
+    let a = entry .args in
+    let h = entry .pre in
+    let u = c .before .before .before .before .uncover .ensures in
+    copied-acts (a .message .now) (a .at) (a .count) (h .0) (h .1 .1 .0) (h .1 .1 .1 .1) (h .1 .1 .1 .0) (h .1 .0) (c .before .before .before .before .before .before .before .before .before .before .cell .ensures) (c .before .before .before .before .before .before .before .before .copy-in .ensures) (u .shows) (u .is) (c .put-at .ensures)
 
 pub print-chunk-spec : {M : Type 1} → statement M
 print-chunk-spec =
@@ -18,7 +20,6 @@ print-chunk-spec =
     (tie.spec
     (λ c κs. search needs)
     (λ c κs. let entry = c .before .before .before .before .before in (omega (arith, cell-room (entry .pre .0 .stands)), search needs))
-    (λ c κs. search needs)
     (λ c κs. search needs)
     (λ c. search needs)
     (λ c. search needs)
