@@ -2,8 +2,8 @@
  * Holds the header and the archive together: every field of the settings is
  * set by a sequence, a piece or a key text of its own and read back through the
  * header's structures, as are the answer's fields; streams, the key line, long lines,
- * the late wrap, mode 3, packs and written sequences give what document 02 says of them, and
- * refused calls leave every byte alone.
+ * the late wrap, mode 3, packs, short messages and written sequences give what document 02
+ * says of them, and refused calls leave every byte alone.
  *
  *   gcc -std=c99 -o abi abi.c libboard.a && ./abi
  *
@@ -80,6 +80,11 @@ static px8_opened open_late(void)
 static px8_outcome send_message(px8_settings settings, const uint8_t *message, size_t length)
 {
     return px8_message(settings, message, length, STORES, at.printer, ROOM);
+}
+
+static px8_outcome send_short(px8_settings settings, const uint8_t *message, size_t length)
+{
+    return px8_message_short(settings, message, length, STORES, at.printer, ROOM);
 }
 
 static px8_outcome send_piece(px8_settings settings, const uint8_t *piece, size_t length)
@@ -617,6 +622,134 @@ static void empty_packs(void)
     check(all(at.shown, PX8_SHOWN, PX8_BLANK), "pack: painted");
 }
 
+/* ---- short messages ---- */
+
+/* Sends a short message to a terminal whose shown screen is all X: how many places of
+ * rows 1 to 7 it paints. It has to be served, and row 8 to be painted whole. */
+static int painted(px8_settings settings, const uint8_t *bytes, size_t length)
+{
+    px8_outcome out;
+    int n, count = 0;
+    memset(at.shown, 'X', PX8_SHOWN);
+    out = send_short(settings, bytes, length);
+    for (n = 0; n < PX8_AT(PX8_ROWS, 1); n++)
+        count += at.shown[n] != 'X';
+    if (out.answer.number != PX8_SERVED || out.answer.taken != length || !guards_stay() ||
+        !all(at.shown + PX8_AT(PX8_ROWS, 1), PX8_WIDTH, PX8_BLANK))
+        return -1;
+    return count;
+}
+
+/* A terminal just opened, its cursor and its window here. */
+static px8_settings open_at(uint8_t line, uint8_t column, uint8_t top)
+{
+    px8_settings settings;
+    fill_desk();
+    settings = open_desk().settings;
+    settings.places[0].line = line;
+    settings.places[0].column = column;
+    settings.places[0].top = top;
+    return settings;
+}
+
+#define PAINTED(settings, text) painted(settings, (const uint8_t *)(text), sizeof(text) - 1)
+#define HOME open_at(1, 1, 1)
+#define ROWS_1_TO_7 PX8_AT(PX8_ROWS, 1)
+
+static void short_messages(void)
+{
+    px8_settings s;
+    check(PAINTED(HOME, "A") == 1 && at.shown[0] == 'A', "short: one letter");
+    check(PAINTED(HOME, "A\10B") == 1 && at.shown[0] == 'B', "short: one place twice");
+    check(PAINTED(HOME, "\33=\"$AB") == 2 && memcmp(at.shown + PX8_AT(3, 5), "AB", 2) == 0,
+          "short: two places");
+    check(PAINTED(HOME, "\33%A") == 1 && at.shown[0] == 'A', "short: 37");
+    check(PAINTED(HOME, "") == 0, "short: row 8 alone");
+    check(PAINTED(HOME, "\n\n\n\n\n\n\n") == 0, "short: seven line steps");
+    check(PAINTED(HOME, "\n\n\n\n\n\n\n\n") == ROWS_1_TO_7, "short: the eighth moves the top");
+    check(PAINTED(open_at(24, 1, 17), "\n") == ROWS_1_TO_7, "short: a lift");
+    check(PAINTED(open_at(23, 80, 17), "A") == 1, "short: a step");
+    check(PAINTED(open_at(24, 80, 17), "A") == ROWS_1_TO_7, "short: a lift by printing");
+    check(PAINTED(open_at(9, 1, 10), "\r\n\n\n\n\n\n\n\n") == ROWS_1_TO_7, "short: a top that comes back");
+    s = open_at(1, 80, 1);
+    s.rule = 2;
+    s.places[0].waiting = 1;
+    check(PAINTED(s, "A") == 1 && at.shown[PX8_AT(2, 1)] == 'A', "short: the late step");
+    s = HOME;
+    s.secret = 1;
+    check(PAINTED(s, "AB") == 2 && all(at.shown, 2, PX8_BLANK), "short: secret");
+    check(PAINTED(HOME, "\33\33\33\321\2\33\320\0\7\10\33\322\11\1A") == 0, "short: refusals");
+    check(PAINTED(HOME, "\33P\33\62\33\225\1\33\326\1") == 0, "short: other sequences");
+}
+
+/* Each item after which all is painted, alone. */
+static void wide_items(void)
+{
+    check(PAINTED(HOME, "\14") == ROWS_1_TO_7, "short: code 12");
+    check(PAINTED(HOME, "\33*") == ROWS_1_TO_7, "short: 42");
+    check(PAINTED(HOME, "\33T") == ROWS_1_TO_7, "short: 84");
+    check(PAINTED(HOME, "\33Y") == ROWS_1_TO_7, "short: 89");
+    check(PAINTED(HOME, "\33{") == ROWS_1_TO_7, "short: 123");
+    check(PAINTED(HOME, "\33}") == ROWS_1_TO_7, "short: 125");
+    check(PAINTED(HOME, "\33\220\0\1") == ROWS_1_TO_7, "short: 144");
+    check(PAINTED(HOME, "\33\221\0\1") == ROWS_1_TO_7, "short: 145");
+    check(PAINTED(HOME, "\33\226") == ROWS_1_TO_7, "short: 150");
+    check(PAINTED(HOME, "\33\227") == ROWS_1_TO_7, "short: 151");
+    check(PAINTED(HOME, "\33\320\3") == ROWS_1_TO_7, "short: 208");
+    check(PAINTED(HOME, "\33\321\0") == ROWS_1_TO_7, "short: 209");
+    check(PAINTED(HOME, "\33\321") == ROWS_1_TO_7, "short: 209 at the end");
+    check(PAINTED(HOME, "\33\322\1\1A") == ROWS_1_TO_7, "short: 210");
+    check(PAINTED(HOME, "\33\323\1") == ROWS_1_TO_7, "short: 211");
+    check(PAINTED(HOME, "\33\324") == ROWS_1_TO_7, "short: 212");
+    check(PAINTED(HOME, "\33\325") == ROWS_1_TO_7, "short: 213");
+    check(PAINTED(HOME, "\33\327") == ROWS_1_TO_7, "short: 215");
+}
+
+/* From a shown screen that is painted both calls leave the same, byte for byte. */
+static void short_as_message(void)
+{
+    static const uint8_t bytes[] = {'3', '8', 27, 61, 33, 111, 'A', 'B', 27, 80, 27, 9, 8, 10, 13, 27, 210, 2, 2, 90, 27, 61, 33, 33, 'C'};
+    static desk left;
+    px8_outcome one, other;
+    size_t cut;
+    for (cut = 0; cut <= sizeof bytes; cut++) {
+        fill_desk();
+        one = send_message(open_desk().settings, bytes, cut);
+        one = send_message(one.settings, bytes + cut, sizeof bytes - cut);
+        left = at;
+        fill_desk();
+        other = send_short(open_desk().settings, bytes, cut);
+        other = send_short(other.settings, bytes + cut, sizeof bytes - cut);
+        check(memcmp(&left, &at, sizeof at) == 0 && same_settings(one.settings, other.settings) &&
+                  one.answer.number == other.answer.number && one.answer.taken == other.answer.taken &&
+                  one.answer.accepted == other.answer.accepted && one.answer.refused == other.answer.refused &&
+                  one.answer.first == other.answer.first && one.answer.offset == other.answer.offset &&
+                  one.answer.parameter == other.answer.parameter && one.answer.printed == other.answer.printed,
+              "short: as a message");
+    }
+}
+
+/* A stale screen stays so until all is painted; a key text is seen at once. */
+static void stale_screens(void)
+{
+    static const uint8_t text[PX8_KEY_TEXT] = {'T', 'A', 'R', 'E', ' ', ' ', ' ', ' '};
+    static const uint8_t key_line_on[] = {27, 211, 0};
+    px8_settings s;
+    fill_desk();
+    s = open_desk().settings;
+    memset(at.shown, 'X', PX8_SHOWN);
+    s = send_short(s, (const uint8_t *)"12", 2).settings;
+    s = send_short(s, (const uint8_t *)"34", 2).settings;
+    check(memcmp(at.shown, "1234X", 5) == 0 && all(at.shown + 4, ROWS_1_TO_7 - 4, 'X'), "short: stale");
+    s = send_message(s, NULL, 0).settings;
+    check(memcmp(at.shown, "1234 ", 5) == 0 && all(at.shown + 4, PX8_SHOWN - 4, PX8_BLANK), "short: painted");
+    s = send_message(s, key_line_on, sizeof key_line_on).settings;
+    s = px8_key_text(s, 1, text, PX8_KEY_TEXT).settings;
+    check(all(at.shown + PX8_AT(PX8_ROWS, 1), PX8_WIDTH, PX8_BLANK), "short: a key text not seen yet");
+    send_short(s, NULL, 0);
+    check(memcmp(at.shown + PX8_AT(PX8_ROWS, 1), text, PX8_KEY_TEXT) == 0 && guards_stay(), "short: a key text");
+}
+
 /* ---- mode 3 ---- */
 
 /* Mode 3, then the bytes; just these two bytes of the dots are not 0. */
@@ -1018,6 +1151,28 @@ static void check_refused_pack(px8_pack_outcome out, px8_settings given, uint8_t
 }
 
 /* 1, 19, 20, 21, 2, 3, 16, each over the whole pack. */
+static void refused_shorts(void)
+{
+    static uint8_t long_message[PX8_MESSAGE_MOST + 1];
+    static const uint8_t escape[] = {27};
+    const px8_settings waits = with_line(escape, 1, 1);
+    px8_settings unsound = waits;
+    unsound.step = 0;
+    memset(long_message, 'x', sizeof long_message);
+    fill_desk();
+    check_refused(px8_message_short(unsound, long_message, sizeof long_message, at.cells, PX8_CELLS, at.layer, PX8_LAYER,
+                                    at.shown, PX8_SHOWN - 1, at.dots, PX8_DOTS, at.printer, ROOM),
+                  unsound, PX8_STORE_SIZE, "refused: short message, shown screen too short");
+    check_refused(px8_message_short(unsound, NULL, 0, NULL, 0, NULL, 0, NULL, 0, NULL, 0, NULL, 0), unsound,
+                  PX8_STORE_SIZE, "refused: short message, null and 0");
+    check_refused(send_short(unsound, long_message, sizeof long_message), unsound, PX8_TOO_LONG,
+                  "refused: short message too long");
+    check_refused(send_short(unsound, long_message, PX8_MESSAGE_MOST), unsound, PX8_UNSOUND,
+                  "refused: short message, settings not sound");
+    check_refused(send_short(waits, long_message, 1), waits, PX8_BYTES_WAIT, "refused: short message, bytes wait");
+    check_refused(send_short(waits, NULL, 0), waits, PX8_BYTES_WAIT, "refused: empty short message, bytes wait");
+}
+
 static void refused_packs(void)
 {
     static uint8_t pack[PX8_PACK_MOST + 1];
@@ -1166,6 +1321,10 @@ static void empty_buffers(void)
     check(a.number == PX8_SERVED && a.taken == 0, "empty: message and printer buffer");
     a = px8_message(settings, bytes, sizeof bytes, STORES, NULL, 0).answer;
     check(a.refused == 1 && a.first == PX8_NO_ROOM && a.printed == 0, "empty: a copy refused");
+    a = px8_message_short(settings, NULL, 0, STORES, NULL, 0).answer;
+    check(a.number == PX8_SERVED && a.taken == 0, "empty: short message and printer buffer");
+    a = px8_message_short(settings, bytes, sizeof bytes, STORES, NULL, 0).answer;
+    check(a.refused == 1 && a.first == PX8_NO_ROOM && a.printed == 0, "empty: a short message's copy refused");
 }
 
 static int is_record(px8_difference d, int row, int column, int first, int second)
@@ -1414,6 +1573,10 @@ int main(void)
     late_wrap();
     packs();
     empty_packs();
+    short_messages();
+    wide_items();
+    short_as_message();
+    stale_screens();
     dots();
     bad_dots();
     manual_line();
@@ -1424,6 +1587,7 @@ int main(void)
     unsound_lines();
     limit();
     refused_streams();
+    refused_shorts();
     refused_packs();
     refused_key_texts();
     unsound_key_lines();

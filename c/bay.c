@@ -3,8 +3,8 @@
  *
  *   gcc -std=c99 -o bay bay.c libboard.a && ./bay
  *
- * The load is drawn part by part, as a scale sends it, each part in a message with its
- * own cursor placing. Sequences are written by px8_write, not spelled by hand. After
+ * The load is drawn part by part, as a scale sends it, each part in a short message with
+ * its own cursor placing. Sequences are written by px8_write, not spelled by hand. After
  * each message the answer and the eight lines of the shown screen are printed;
  * bay.out holds what this program prints.
  */
@@ -113,13 +113,17 @@ static void show_copy(const uint8_t *copy, size_t length)
         printf("printer |%.*s|\n", PX8_WIDTH, (const char *)copy + row);
 }
 
-/* Sends the message, keeps what it leaves and shows it. */
-static void send_message(bay *at, const char *title, message *sent)
+/* px8_message and px8_message_short take and give the same. */
+typedef px8_outcome call(px8_settings, const uint8_t *, size_t, uint8_t *, size_t, uint8_t *, size_t,
+                         uint8_t *, size_t, uint8_t *, size_t, uint8_t *, size_t);
+
+/* Sends the message by one of them, keeps what it leaves and shows it. */
+static void send_by(call *read, bay *at, const char *title, message *sent)
 {
     const px8_outcome outcome =
-        px8_message(at->settings, sent->bytes, sent->length, at->cells, sizeof at->cells,
-                    at->layer, sizeof at->layer, at->shown, sizeof at->shown, at->dots,
-                    sizeof at->dots, at->printer, sizeof at->printer);
+        read(at->settings, sent->bytes, sent->length, at->cells, sizeof at->cells, at->layer,
+             sizeof at->layer, at->shown, sizeof at->shown, at->dots, sizeof at->dots, at->printer,
+             sizeof at->printer);
     const px8_answer answer = outcome.answer;
     at->settings = outcome.settings;
     sent->length = 0;
@@ -130,6 +134,17 @@ static void send_message(bay *at, const char *title, message *sent)
            (unsigned)answer.first, (unsigned long)answer.offset);
     show_lines(at->shown);
     show_copy(at->printer, px8_printed(at->printer, sizeof at->printer, answer.printed));
+}
+
+static void send_message(bay *at, const char *title, message *sent)
+{
+    send_by(px8_message, at, title, sent);
+}
+
+/* A part of a load: the rest of the glass is as the message before painted it. */
+static void send_part(bay *at, const char *title, message *sent)
+{
+    send_by(px8_message_short, at, title, sent);
 }
 
 /* ---- the bay ---- */
@@ -177,13 +192,13 @@ static void draw_load(bay *at, message *next)
     send_message(at, "the label, on screen 1", next);
     add_place(at, next, 4, 40);
     add_text(next, "38");
-    send_message(at, "thousands", next);
+    send_part(at, "thousands", next);
     add_place(at, next, 4, 43);
     add_text(next, "500");
-    send_message(at, "the rest", next);
+    send_part(at, "the rest", next);
     add_place(at, next, 4, 42);
     add_text(next, ",");
-    send_message(at, "the comma", next);
+    send_part(at, "the comma", next);
 }
 
 int main(void)

@@ -8,6 +8,7 @@
  *
  *   px8_opening   makes the stores ready and gives the opening settings
  *   px8_message   reads one message and brings everything up to date
+ *   px8_message_short  the same for the few bytes a scale sends: it paints less
  *   px8_piece     the same for a piece of a stream, cut at any byte
  *   px8_closing   ends the stream
  *   px8_pack      reads many messages that came as one pack
@@ -29,13 +30,14 @@
  * terminals, threads or interrupt levels can use the library at once if each
  * has its own settings and stores.
  *
- * A list of calls. Open once; then hand each message, piece, closing and pack the
- * settings and the four stores just as the call before left them; a key text,
- * which has no store, the settings. Nobody else
+ * A list of calls. Open once; then hand each message, short message, piece, closing
+ * and pack the settings and the four stores just as the call before left them; a key
+ * text, which has no store, the settings. Nobody else
  * should write them meanwhile. Settings, cells, layer and dots can be saved and
  * taken up again later without an opening, in the middle of a stream too: they are
  * all that stands, and the next message, piece, closing or pack with a
- * record that is served paints the shown screen from them.
+ * record that is served paints the shown screen from them. A short message needs the
+ * shown screen too: it paints only what may have changed.
  *
  * Messages or a stream. A message is read by itself: it must not end inside a
  * sequence. A line whose bytes come in whatever parts the port hands over is a
@@ -114,8 +116,8 @@ extern "C" {
 /* ---- numbers ---- */
 
 /* The number of a call: 0, or why the whole call was refused. They are tried
- * in this order: 1, 23 by px8_opening, 1, 2, 3, 16 by px8_message, 1, 2, 3, 15 by
- * px8_piece, 1, 3 by px8_closing, 1, 19, 20, 21, 2, 3, 16 by px8_pack, 3, 17 by
+ * in this order: 1, 23 by px8_opening, 1, 2, 3, 16 by px8_message and
+ * px8_message_short, 1, 2, 3, 15 by px8_piece, 1, 3 by px8_closing, 1, 19, 20, 21, 2, 3, 16 by px8_pack, 3, 17 by
  * px8_key_text. */
 #define PX8_SERVED 0     /* the call was served */
 #define PX8_STORE_SIZE 1 /* cells, layer, shown screen or dots are not of their size */
@@ -263,7 +265,8 @@ typedef struct px8_settings {
  *         shown in place of the cell's. Any bytes are accepted.
  * shown   What the display shows: byte PX8_AT(row, column). Every message, piece
  *         and closing that is served paints all 640, an empty one too, and every
- *         pack with a record; the library never reads it.
+ *         pack with a record; a short message paints row 8 and what else may have
+ *         changed. The library never reads it.
  * dots    The picture of mode 3, row after row of PX8_DOT_ROW bytes, the leftmost
  *         dot in the highest bit: byte PX8_DOT_AT(vertical, horizontal) has it by
  *         PX8_DOT_WEIGHT(horizontal). Only ESC 198 and 199 in mode 3 draw; ESC 42
@@ -398,8 +401,8 @@ typedef struct px8_settings {
 
 /* ---- results ---- */
 
-/* The answer to a message, a piece, a closing, a pack or a key text (which takes,
- * reads and prints nothing). Between its fields there are padding bytes of no fixed
+/* The answer to a message, short or not, a piece, a closing, a pack or a key text
+ * (which takes, reads and prints nothing). Between its fields there are padding bytes of no fixed
  * value: compare answers field by field. */
 typedef struct px8_answer {
     uint8_t number;    /* PX8_SERVED, or why the whole call was refused: 1, 2, 3, 15,
@@ -519,6 +522,29 @@ px8_outcome px8_message(px8_settings settings,
                         uint8_t *printer, size_t printer_length);
 
 /*
+ * Reads a message as px8_message does, answer, settings, cells, layer, dots, printed
+ * copies and refusals alike, but paints less. It is made for a few printed bytes that
+ * stay in the cursor's line, for which it is the quicker call; where control codes or
+ * sequences come it may take a little longer than px8_message. Row 8 it always paints whole. Of rows 1 to 7 it paints the places that show the
+ * cells in which characters (ESC 37's too) were printed, or all 560 where more may have
+ * changed: where an item lifts the selected screen or moves its window, also where the
+ * window comes back, and with code 12 and each accepted ESC 42, 84, 89, 123, 125, 144,
+ * 145, 150, 151, 208 to 213 and 215, whether or not it changes anything. A place that is
+ * not painted is left as it was given, and the picture there is what it was before. So
+ * from a shown screen that is painted in rows 1 to 7 (by a message, a piece, a closing,
+ * a pack with a record or an opening since which nobody else wrote it) it ends just as
+ * px8_message does; from any other, what was not painted there stays so until one of
+ * these calls.
+ */
+px8_outcome px8_message_short(px8_settings settings,
+                              const uint8_t *message, size_t message_length,
+                              uint8_t *cells, size_t cells_length,
+                              uint8_t *layer, size_t layer_length,
+                              uint8_t *shown, size_t shown_length,
+                              uint8_t *dots, size_t dots_length,
+                              uint8_t *printer, size_t printer_length);
+
+/*
  * Reads the next piece of a stream: up to PX8_MESSAGE_MOST bytes (it may be
  * empty), cut from the line anywhere, inside a sequence too. The bytes that wait
  * in the settings are read before it. What is unfinished at its end, 27, 209
@@ -585,8 +611,8 @@ px8_pack_outcome px8_pack(px8_settings settings,
 /*
  * Sets the text of a key, number 1 to PX8_KEYS, to these PX8_KEY_TEXT codes, which
  * may be any. It paints nothing: the text is seen, where the display is 0, from the
- * next message, piece, closing or pack with a record on, and in the copies that these print. It is
- * served whatever the display is, and while bytes of a stream wait.
+ * next message, short or not, piece, closing or pack with a record on, and in the
+ * copies that these print. It is served whatever the display is, and while bytes of a stream wait.
  *
  * A refused call (answer.number 3 or 17) returns the settings as they were given.
  */

@@ -13,7 +13,7 @@
 #define STACK (256 * 1024)
 #define FILL 0xA5
 #define MOST 4096        /* what the README says a call takes at most, */
-#define STREAM_MOST 8192 /* and a piece, a closing and a pack, which are made of message calls */
+#define STREAM_MOST 8192 /* and a piece, a closing and a pack, which are made of message calls, and a short message, which has two ways */
 
 static uint8_t cells[PX8_CELLS], layer[PX8_LAYER], shown[PX8_SHOWN], dots[PX8_DOTS], printer[PX8_DOTS];
 static px8_settings settings;
@@ -30,6 +30,19 @@ static void *message(void *unused) {
     static const uint8_t bytes[] = {'3', '8', ',', 27, 61, 55, 32, 10, 27, 80, 27, 208, 2, 10, 20, 35, 27, 210, 1, 1, 90, 27, 80,
                                     27, 224, 230, 1, 2, 3, 4, 5, 6, 7, 8, 27, 208, 1, 16, 'A', 27, 144, 0, 2};
     settings = px8_message(settings, bytes, sizeof bytes, cells, sizeof cells, layer, sizeof layer, shown, sizeof shown, dots, sizeof dots, printer, sizeof printer).settings;
+    return unused;
+}
+
+/* the same ways, and what a short message alone has: characters shown at once, row 8 by itself */
+static void *short_message(void *unused) {
+    static const uint8_t few[] = {'3', '8', ',', '5', 27, 37, '0'};
+    static const uint8_t bytes[] = {27, 208, 0, 24, 24, '3', '8', ',', 27, 61, 55, 32, 10, 27, 80, 27, 208, 2, 10, 20, 35, 27, 210, 1, 1, 90, 27, 80,
+                                    27, 224, 230, 1, 2, 3, 4, 5, 6, 7, 8, 27, 208, 1, 16, 'A', 27, 144, 0, 2};
+    px8_outcome out = px8_message_short(settings, few, sizeof few, cells, sizeof cells, layer, sizeof layer, shown, sizeof shown, dots, sizeof dots, printer, sizeof printer);
+    if (out.answer.number != PX8_SERVED) abort();
+    out = px8_message_short(out.settings, bytes, sizeof bytes, cells, sizeof cells, layer, sizeof layer, shown, sizeof shown, dots, sizeof dots, printer, sizeof printer);
+    if (out.answer.refused != 0) abort();
+    settings = out.settings;
     return unused;
 }
 
@@ -128,6 +141,7 @@ int main(void) {
     size_t thread = used(nothing);
     size_t open = used(opening) - thread;
     size_t serve = used(message) - thread;
+    size_t less = used(short_message) - thread;
     size_t draw = used(drawing) - thread;
     size_t start = used(piece) - thread;
     size_t rest = used(next) - thread;
@@ -137,6 +151,6 @@ int main(void) {
     size_t lay = used(compare) - thread;
     size_t work = used(repeats) - thread;
     size_t spell = used(writing) - thread;
-    printf("opening %zu\nmessage %zu\ndrawing %zu\npiece %zu\nnext piece %zu\nclosing %zu\npack %zu\nkey text %zu\ncompare %zu\nkey repeats %zu\nwrite %zu\n", open, serve, draw, start, rest, end, many, name, lay, work, spell);
-    return open <= MOST && serve <= MOST && draw <= MOST && start <= STREAM_MOST && rest <= STREAM_MOST && end <= STREAM_MOST && many <= STREAM_MOST && name <= MOST && lay <= MOST && work <= MOST && spell <= MOST ? 0 : 1;
+    printf("opening %zu\nmessage %zu\nshort message %zu\ndrawing %zu\npiece %zu\nnext piece %zu\nclosing %zu\npack %zu\nkey text %zu\ncompare %zu\nkey repeats %zu\nwrite %zu\n", open, serve, less, draw, start, rest, end, many, name, lay, work, spell);
+    return open <= MOST && serve <= MOST && less <= STREAM_MOST && draw <= MOST && start <= STREAM_MOST && rest <= STREAM_MOST && end <= STREAM_MOST && many <= STREAM_MOST && name <= MOST && lay <= MOST && work <= MOST && spell <= MOST ? 0 : 1;
 }

@@ -28,10 +28,12 @@ const PARTS: [Part; 4] = [
         list: "BROKEN: &[Functions]",
         files: &[
             "settings", "dots", "picture", "read", "stream", "sound", "apply", "calls", "records", "pack",
+            "short",
         ],
         calls: &[
             ("calls", "opening"),
             ("calls", "message"),
+            ("short", "message_short"),
             ("calls", "piece"),
             ("calls", "closing"),
             ("calls", "key_text"),

@@ -6,7 +6,7 @@ use native.Mathlib.Omega.{arith}
 use mathlib.Core.Bool.{Bool, _&&_, _||_, cond, false, true}
 use mathlib.Core.List.{List, [], _∷_}
 use lib.ListN.{getD, length, length-replicate, replicate}
-use lib.Dec.{eqb, leb}
+use lib.Dec.{eqb}
 use borrow.Author.Tests.{eq-eqb, eqb-true, le-leb, leb-true}
 use Rattle.model.specs.declared.Answer.{Answer}
 use Rattle.model.specs.declared.Item.{Item}
@@ -21,8 +21,9 @@ use Rattle.model.specs.Picture.{painting, picture, pictureAt}
 use Rattle.model.specs.Reading.{Read, remaining, uncut}
 use Rattle.model.specs.Records.{uncut?}
 use Rattle.model.specs.Packs.{readsEach, recordFrom}
+use Rattle.model.specs.Repaint.{painted?, repainted, shownBehind}
 use Rattle.model.specs.Items.{Event, applyAll, blankAnswer, copies, counted, countedAll, eventsOf, readsOf}
-use Rattle.model.specs.Calls.{Asked, Call, Promised, Reason, Request, Terminal, accepted, allFree, answerOf, besideItems, closing, countable, eventsBy, eventsIn, firstOf, keyText, keyable, knownIn, message, noneWaits, numberOf, ownReasons, pack, packable, packed?, packedBy, paints?, piece, printedBy, readsBy, readsIn, reason, reasons, recordOf, request, requestOf, served, short, shortIn, shownAfter, sized, soundIn, takenBy, takenIn, terminal}
+use Rattle.model.specs.Calls.{Asked, Call, Promised, Reason, Request, Terminal, accepted, allFree, answerOf, besideItems, closing, countable, eventsBy, eventsIn, firstOf, keyText, keyable, knownIn, message, noneWaits, numberOf, ownReasons, pack, packable, packed?, packedBy, paints?, piece, printedBy, quick, quick?, readsBy, readsIn, reason, reasons, recordOf, request, requestOf, served, short, shortIn, shownAfter, sized, soundIn, takenBy, takenIn, terminal}
 use Rattle.model.specs.Opening.{openedBy, openedTerminal, openingNumber, ruled, unopened}
 use Rattle.model.specs.Claims.{Shown}
 use Rattle.model.specs.Demand.{Opening, Resumed}
@@ -76,6 +77,7 @@ numbered-reasons t (message m) = (omega arith, (omega arith, (omega arith, (omeg
 numbered-reasons t (piece m) = (omega arith, (omega arith, (omega arith, (omega arith, tt))))
 numbered-reasons t closing = (omega arith, (omega arith, tt))
 numbered-reasons t (keyText k x) = (omega arith, (omega arith, tt))
+numbered-reasons t (quick m) = (omega arith, (omega arith, (omega arith, (omega arith, tt))))
 numbered-reasons t (pack p) = (omega arith, (omega arith, (omega arith, (omega arith, (omega arith, (omega arith, (omega arith, tt)))))))
 
 pub accepted-number : (t : Terminal) (q : Request) → numberOf t q ≡ 0 → accepted t q ≡ true
@@ -93,7 +95,7 @@ refused-number t q n = go (accepted t q) refl
 pub refused-leaves : (t : Terminal) (q : Request) → accepted t q ≡ false → served t q ≡ t
 unfolding served eventsIn shownAfter applyAll
 refused-leaves t q e =
-    ap (λ (b : Bool). let st = applyAll (cond b (eventsBy t q) []) (t .state) in terminal (st .settings) (st .cells) (st .layer) (st .dots) (cond (b && paints? (q .asked)) (painting st) (t .shown))) e
+    ap (λ (b : Bool). let st = applyAll (cond b (eventsBy t q) []) (t .state) in terminal (st .settings) (st .cells) (st .layer) (st .dots) (cond (b && paints? (q .asked)) (painting st) (cond (b && quick? (q .asked)) (shownBehind (readsBy t q) (t .state) st (t .shown)) (t .shown)))) e
 
 pub refused-answer : (t : Terminal) (q : Request) → accepted t q ≡ false → answerOf t q ≡ blankAnswer (numberOf t q) 0
 unfolding answerOf readsIn takenIn countedAll
@@ -118,16 +120,18 @@ plain-record t q e = ap (λ (b : Bool). cond (b && accepted t q) (recordFrom 1 (
 
 -- of an accepted call
 unfoldable pub after : Terminal → Request → Terminal
-after t q = let st = applyAll (eventsBy t q) (t .state) in record { state = st; shown = cond (paints? (q .asked)) (painting st) (t .shown) }
+after t q =
+    let st = applyAll (eventsBy t q) (t .state) in
+    record { state = st; shown = cond (paints? (q .asked)) (painting st) (cond (quick? (q .asked)) (shownBehind (readsBy t q) (t .state) st (t .shown)) (t .shown)) }
 
 pub accepted-leaves : (t : Terminal) (q : Request) → accepted t q ≡ true → served t q ≡ after t q
 unfolding served eventsIn shownAfter after
 accepted-leaves t q e =
-    ap (λ (b : Bool). let st = applyAll (cond b (eventsBy t q) []) (t .state) in terminal (st .settings) (st .cells) (st .layer) (st .dots) (cond (b && paints? (q .asked)) (painting st) (t .shown))) e
+    ap (λ (b : Bool). let st = applyAll (cond b (eventsBy t q) []) (t .state) in terminal (st .settings) (st .cells) (st .layer) (st .dots) (cond (b && paints? (q .asked)) (painting st) (cond (b && quick? (q .asked)) (shownBehind (readsBy t q) (t .state) st (t .shown)) (t .shown)))) e
 
 pub accepted-painted : (t : Terminal) (q : Request) → accepted t q ≡ true → paints? (q .asked) ≡ true → let st = applyAll (eventsBy t q) (t .state) in served t q ≡ record { state = st; shown = painting st }
 unfolding after
-accepted-painted t q e f = accepted-leaves t q e ∙ (λ i. let st = applyAll (eventsBy t q) (t .state) in record { state = st; shown = cond (f i) (painting st) (t .shown) })
+accepted-painted t q e f = accepted-leaves t q e ∙ (λ i. let st = applyAll (eventsBy t q) (t .state) in record { state = st; shown = cond (f i) (painting st) (cond (quick? (q .asked)) (shownBehind (readsBy t q) (t .state) st (t .shown)) (t .shown)) })
 
 pub accepted-answer : (t : Terminal) (q : Request) → accepted t q ≡ true → answerOf t q ≡ countedAll (readsBy t q) (blankAnswer 0 (takenBy (q .asked)))
 unfolding answerOf readsIn takenIn
@@ -172,6 +176,7 @@ sound-in t q e = go (q .asked) e
     go closing e = (λ h. free-at (reasons t closing) 0 e, free-at (reasons t closing) 1 e)
     go (keyText k x) e = (λ h. absurd (differ (sym h)), free-at (reasons t (keyText k x)) 0 e)
     go (pack p) e = (λ h. free-at (reasons t (pack p)) 0 e, free-at (reasons t (pack p)) 5 e)
+    go (quick m) e = (λ h. absurd (differ (sym h)), free-at (reasons t (quick m)) 2 e)
 
 pub accepted-sized : (t : Terminal) (q : Request) → accepted t q ≡ true → paints? (q .asked) ≡ true → sized t ≡ true
 accepted-sized t q e = sound-in t q e .0
@@ -197,6 +202,11 @@ pub accepted-pack : (t : Terminal) (p : List ℕ) (room : ℕ) → accepted t (r
 unfolding accepted reasons noneWaits
 accepted-pack t p room e = let rs = reasons t (pack p) in (free-at rs 0 e, free-at rs 4 e, eqb-true _ _ (free-at rs 6 e))
 
+-- P12: a short message, the same
+pub accepted-quick : (t : Terminal) (m : List ℕ) (room : ℕ) → accepted t (request (quick m) room) ≡ true → (sized t ≡ true) × (length m ≤ 4096) × (t .state .settings .held ≡ 0)
+unfolding accepted reasons noneWaits
+accepted-quick t m room e = let rs = reasons t (quick m) in (free-at rs 0 e, leb-true _ _ (free-at rs 1 e), eqb-true _ _ (free-at rs 3 e))
+
 -- and a message that is short is accepted while none waits
 pub message-accepted : (t : Terminal) (m : List ℕ) (room : ℕ) → sized t ≡ true → Sound (t .state .settings) → t .state .settings .held ≡ 0 → length m ≤ 4096 → accepted t (request (message m) room) ≡ true
 unfolding accepted reasons allFree soundIn noneWaits
@@ -214,6 +224,7 @@ legal-moved t (piece m) room e st =
 legal-moved t closing room e st = (true-line (padded []) 0 0 (sound-padded [] 0 none-unfinished (omega arith) (omega arith)), tt)
 legal-moved t (keyText k x) room e st = (accepted-keyable t k x room e, tt)
 legal-moved t (pack p) room e st = tt
+legal-moved t (quick m) room e st = tt
 
 -- what happens in a call is legal
 legal-each : (ms : List (List ℕ)) (st : State) (room : ℕ) → AllLegal (eventsOf (readsEach ms st room)) st
@@ -246,9 +257,15 @@ shown-painting st = record { places = length-listFrom (picture st) 0 640; each =
 pub shown-accepted : (t : Terminal) (q : Request) → accepted t q ≡ true → paints? (q .asked) ≡ true → Shown (served t q)
 shown-accepted t q e f = subst Shown (sym (accepted-painted t q e f)) (shown-painting _)
 
+-- a short message leaves a shown screen of its size (P12)
+length-repainted : (wide : Bool) (places : List ℕ) (st : State) (shown : List ℕ) → length (repainted wide places st shown) ≡ 640
+unfolding repainted
+length-repainted wide places st shown = length-listFrom (λ p. cond (painted? wide places p) (picture st p) (getD shown p 0)) 0 640
+
 pub sized-served : (t : Terminal) (q : Request) → length (t .shown) ≡ 640 → length (served t q .shown) ≡ 640
 unfolding served painting shownAfter
-sized-served t q e = cond-at (λ (l : List ℕ). length l ≡ 640) (accepted t q && paints? (q .asked)) _ (t .shown) (λ a. length-listFrom (picture (served t q .state)) 0 640) (λ a. e)
+sized-served t q e = cond-at (λ (l : List ℕ). length l ≡ 640) (accepted t q && paints? (q .asked)) _ _ (λ a. length-listFrom (picture (served t q .state)) 0 640)
+    (λ a. cond-at (λ (l : List ℕ). length l ≡ 640) (accepted t q && quick? (q .asked)) _ (t .shown) (λ a. length-repainted _ _ _ (t .shown)) (λ a. e))
 
 -- which calls a good terminal accepts
 pub sized-good : (t : Terminal) → Good (t .state) → length (t .shown) ≡ 640 → sized t ≡ true
@@ -277,6 +294,7 @@ number-good t q g e = go (q .asked)
     go (piece m) = λ i. firstOf (reason 1 (sized-good t g e i) ∷ reason 2 (short m) ∷ reason 3 (sound-good t g i) ∷ reason 15 (countable (t .state .settings) m) ∷ [])
     go closing = λ i. firstOf (reason 1 (sized-good t g e i) ∷ reason 3 (sound-good t g i) ∷ [])
     go (keyText k x) = λ i. firstOf (reason 3 (sound-good t g i) ∷ reason 17 (keyable k x) ∷ [])
+    go (quick m) = λ i. firstOf (reason 1 (sized-good t g e i) ∷ reason 2 (short m) ∷ reason 3 (sound-good t g i) ∷ reason 16 (noneWaits (t .state .settings)) ∷ [])
     go (pack p) = λ i. firstOf (reason 1 (sized-good t g e i) ∷ reason 19 (packable p) ∷ reason 20 (uncut? p) ∷ reason 21 (knownIn p) ∷ reason 2 (shortIn p) ∷ reason 3 (sound-good t g i) ∷ reason 16 (noneWaits (t .state .settings)) ∷ [])
 
 -- what an accepted opening leaves, with either rule: blank, and the picture is blank

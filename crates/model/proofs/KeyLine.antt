@@ -1,18 +1,20 @@
--- P2: an accepted key call moves the picture only in row 8, so what is claimed of the shown screen after any call is true.
+-- P2: an accepted key call moves the picture only in row 8; P12: a short message leaves what was true; so what is claimed of the shown screen after any call is
+-- true.
 use mathlib.Core.Path.{_∙_, _≡_, ap, refl, subst, sym}
-use Prim.Native.Nat.{_*_, _+_, _-_, _≤_, ℕ}
+use Prim.Native.Nat.{_%_, _*_, _+_, _-_, _/_, _<_, _≤_, ℕ}
 use native.Mathlib.Omega.{arith}
-use mathlib.Core.Bool.{Bool, _&&_, _||_, cond, false, true}
+use mathlib.Core.Bool.{Bool, _&&_, _||_, cond, false, not, true}
 use mathlib.Core.List.{List, [], _∷_}
+use lib.ListN.{getD}
 use lib.Dec.{eqb}
-use borrow.Author.Tests.{ltb-true}
+use borrow.Author.Tests.{ltb-false, ltb-true}
 use Rattle.model.specs.State.{State}
 use Rattle.model.specs.Screens.{base, cellAt, columnsOf, lineAt, placeOf, textRows}
-use Rattle.model.specs.Picture.{covered, halves, pictureAt, sides, textAt, under, windowAt}
+use Rattle.model.specs.Picture.{covered, halves, picture, pictureAt, sides, textAt, under, windowAt}
 use Rattle.model.specs.Rules.{withSettings}
 use Rattle.model.specs.Items.{texted}
 use Rattle.model.specs.Packs.{bodiesOf, some?}
-use Rattle.model.specs.Calls.{Asked, Request, Terminal, accepted, closing, keyText, message, pack, paints?, piece, request, served}
+use Rattle.model.specs.Calls.{Asked, Request, Terminal, accepted, closing, keyText, message, pack, paints?, piece, quick, request, served}
 use Rattle.model.specs.Claims.{Shown, ShownIn, aboveRow8, claimedBy, claims, unclaims?}
 use Rattle.model.specs.Demand.{claimed, stands}
 use Rattle.model.proofs.Tests.{and-both, and-left, and-right, cond-at, differ}
@@ -20,6 +22,7 @@ use Rattle.model.proofs.Keep.{rows-low}
 use Rattle.model.proofs.Places.{under-text}
 use Rattle.model.proofs.CallLaws.{refused-leaves, shown-accepted}
 use Rattle.model.proofs.LineAfter.{leaves-none, leaves-texted}
+use Rattle.model.proofs.QuickCall.{as-old, row-8, same-accepted, true-place}
 
 -- a key's text is not seen above row 8
 text-texted : (k : ℕ) (x : List ℕ) (st : State) (r c : ℕ) → textAt (texted k x st) r c ≡ textAt st r c
@@ -70,6 +73,26 @@ module _ (t : Terminal) (room : ℕ) (c : ℕ → Bool) (h : ShownIn c t) where
           subst (ShownIn (claimedBy t (request (pack p) room) c)) (sym (leaves-none t p room e n)) (subst (λ (b : Bool). ShownIn (λ k. cond b (some? (bodiesOf p) || c k) (c k)) t) (sym e) (subst (λ (ms : List (List ℕ)). ShownIn (λ k. some? ms || c k) t) (sym n) h))
       go (m ∷ ms) n = after-painting (pack p) (ap some? n) e
 
+  -- P12: a place that was true is true, and row 8
+  after-quick : (m : List ℕ) → accepted t (request (quick m) room) ≡ true → ShownIn (claimedBy t (request (quick m) room) c) (served t (request (quick m) room))
+  unfolding claimedBy claims picture
+  after-quick m e r j r₁ r₂ j₁ j₂ z =
+      let p : ℕ = 80 * (r - 1) + (j - 1) in
+      let q : Request = request (quick m) room in
+      let row : p / 80 + 1 ≡ r = omega arith in
+      let column : p % 80 + 1 ≡ j = omega arith in
+      let small : p < 640 = omega arith in
+      let named : (st : State) → picture st p ≡ pictureAt st r j = λ st. (λ i. pictureAt st (row i) (column i)) in
+      let claim : (c p || not (aboveRow8 p)) ≡ true = sym (ap (λ (b : Bool). cond b (c p || not (aboveRow8 p)) (c p)) e) ∙ z in
+      by (c p) refl (aboveRow8 p) refl claim (λ was. true-place t m room e p small (was ∙ sym (named (t .state)))) (λ low. row-8 t m room e p low small) ∙ named (served t q .state)
+    where
+      by : (u : Bool) → c (80 * (r - 1) + (j - 1)) ≡ u → (v : Bool) → aboveRow8 (80 * (r - 1) + (j - 1)) ≡ v → (u || not v) ≡ true
+          → let p = 80 * (r - 1) + (j - 1) in let x = served t (request (quick m) room) in
+          (getD (t .shown) p 0 ≡ pictureAt (t .state) r j → getD (x .shown) p 0 ≡ picture (x .state) p) → (560 ≤ p → getD (x .shown) p 0 ≡ picture (x .state) p) → getD (x .shown) p 0 ≡ picture (x .state) p
+      by true y v w k f g = f (h r j r₁ r₂ j₁ j₂ y)
+      by false y true w k f g = absurd (differ (sym k))
+      by false y false w k f g = g (ltb-false _ _ w)
+
   shown-asked : (a : Asked) → ShownIn (claimedBy t (request a room) c) (served t (request a room))
   shown-asked a = go (accepted t (request a room)) refl a refl
     where
@@ -80,6 +103,8 @@ module _ (t : Terminal) (room : ℕ) (c : ℕ → Bool) (h : ShownIn c t) where
       go true e closing f = after-painting a (ap paints? f) e
       go true e (keyText k x) f =
           subst (λ (y : Asked). ShownIn (claimedBy t (request y room) c) (served t (request y room))) (sym f) (after-key k x (subst (λ (y : Asked). accepted t (request y room) ≡ true) f e))
+      go true e (quick m) f =
+          subst (λ (y : Asked). ShownIn (claimedBy t (request y room) c) (served t (request y room))) (sym f) (after-quick m (subst (λ (y : Asked). accepted t (request y room) ≡ true) f e))
       go true e (pack p) f =
           subst (λ (y : Asked). ShownIn (claimedBy t (request y room) c) (served t (request y room))) (sym f) (after-pack p (subst (λ (y : Asked). accepted t (request y room) ≡ true) f e))
 
@@ -94,6 +119,8 @@ shown-served t (message m) room s f e = shown-accepted t (request (message m) ro
 shown-served t (piece m) room s f e = shown-accepted t (request (piece m) room) e refl
 shown-served t closing room s f e = shown-accepted t (request closing room) e refl
 shown-served t (keyText k x) room s f e = absurd (differ f)
+shown-served t (quick m) room s f e =
+    subst Shown (sym (as-old t m room e (λ r k r₁ r₂ k₁ k₂ z. s .each r k r₁ r₂ k₁ k₂))) (shown-accepted t (request (message m) room) (sym (same-accepted t m room) ∙ e) refl)
 shown-served t (pack p) room s f e = go (bodiesOf p) refl
   where
     go : (ms : List (List ℕ)) → bodiesOf p ≡ ms → Shown (served t (request (pack p) room))
@@ -115,6 +142,7 @@ claimed-step t q c p u e = cond-at (λ (b : Bool). b ≡ true) (accepted t q) _ 
     go closing = refl
     go (keyText k x) = and-both (c p) (aboveRow8 p) e u
     go (pack b) = some (some? (bodiesOf b))
+    go (quick m) = ap (λ (x : Bool). x || not (aboveRow8 p)) e
 
 claimed-above : (qs : List Request) (t : Terminal) (c : ℕ → Bool) (p : ℕ) → aboveRow8 p ≡ true → c p ≡ true → claimed t qs c p ≡ true
 unfolding claimed

@@ -30,6 +30,9 @@ pub mod Waiting
 pub mod Carried
 pub mod Places
 pub mod ShownPlace
+pub mod Views
+pub mod Repainting
+pub mod QuickCall
 pub mod KeyLine
 pub mod KeyCall
 pub mod KeyLaws

@@ -2,7 +2,6 @@
 -- first refusal is in the same record. So a list of calls, with each pack replaced by its messages, does the same.
 use mathlib.Core.Path.{_∙_, _≡_, ap, refl, subst, sym}
 use Prim.Native.Nat.{_+_, _-_, _≤_, ℕ}
-use native.Mathlib.Omega.{arith}
 use mathlib.Core.Bool.{Bool, _&&_, cond, false, true}
 use mathlib.Core.List.{List, [], _++_, _∷_, append-assoc, append-nil, map}
 use lib.ListN.{length, length-append}
@@ -10,20 +9,19 @@ use lib.Dec.{eqb}
 use borrow.Author.Tests.{leb-true}
 use Rattle.model.specs.declared.Answer.{Answer}
 use Rattle.model.specs.Bytes.{joined}
-use Rattle.model.specs.State.{State}
 use Rattle.model.specs.Sound.{Good}
 use Rattle.model.specs.Picture.{painting}
 use Rattle.model.specs.Reading.{Read, uncut}
 use Rattle.model.specs.Records.{Record, all?, recordsOf}
 use Rattle.model.specs.Packs.{bodiesOf, readsEach, recordFrom, some?}
 use Rattle.model.specs.Items.{Event, applyAll, blankAnswer, copies, countedAll, eventsOf, readsOf}
-use Rattle.model.specs.Calls.{Asked, Request, Terminal, accepted, answerOf, besideItems, closing, eventsBy, eventsIn, itemBytes, keyText, message, numberOf, pack, packed?, packedBy, piece, printedBy, readsBy, recordOf, request, served, short, shortIn, sized, startOf, takenBy}
+use Rattle.model.specs.Calls.{Asked, Request, Terminal, accepted, answerOf, besideItems, closing, eventsBy, eventsIn, itemBytes, keyText, message, numberOf, pack, packed?, packedBy, piece, printedBy, quick, readsBy, recordOf, request, served, short, shortIn, startOf, takenBy}
 use Rattle.model.specs.Demand.{eventsOver, oneByOne, stands, standsFor, unpacked}
 use Rattle.model.specs.Stream.{together}
 use Rattle.model.proofs.Tests.{and-left, and-right, cond-at}
 use Rattle.model.proofs.Events.{apply-append, events-append, good-all}
 use Rattle.model.proofs.Printing.{copies-append}
-use Rattle.model.proofs.CallLaws.{accepted-answer, accepted-leaves, accepted-pack, accepted-painted, accepted-sound, after, legal-in, message-accepted, refused-answer, refused-leaves, refused-prints, sized-good, sized-served, sizes, state-served}
+use Rattle.model.proofs.CallLaws.{accepted-answer, accepted-pack, accepted-painted, accepted-sound, legal-in, message-accepted, refused-answer, refused-leaves, sized-good, sized-served, sizes, state-served}
 use Rattle.model.proofs.LineAfter.{leaves-none, quiet-served}
 use Rattle.model.proofs.Sums.{joint, joint-refused, together-assoc}
 use Rattle.model.proofs.Flow.{answersOver, printedOver}
@@ -245,6 +243,7 @@ module _ (t : Terminal) where
       go (piece m) = alike-itself (request (piece m) (q .room))
       go closing = alike-itself (request closing (q .room))
       go (keyText k x) = alike-itself (request (keyText k x) (q .room))
+      go (quick m) = alike-itself (request (quick m) (q .room))
       go (pack p) =
           let q : Request = request (pack p) (q .room) in
           cond-at (Alike t q) (accepted t q) (oneByOne t (bodiesOf p) (q .room)) [] (λ e. alike-sent p (q .room) e) (λ e. alike-none q e)

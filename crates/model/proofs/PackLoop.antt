@@ -16,11 +16,10 @@ use Rattle.model.specs.Reading.{Read}
 use Rattle.model.specs.Records.{Record, bodyIn, lengthIn, recordIn, recordsAfter}
 use Rattle.model.specs.Packs.{bodiesOf}
 use Rattle.model.specs.Items.{blankAnswer, countedAll}
-use Rattle.model.specs.Calls.{Promised, Request, Terminal, accepted, answerOf, called, message, numberOf, pack, packCalled, printedBy, readsBy, recordOf, request, served, takenBy}
+use Rattle.model.specs.Calls.{Promised, Request, Terminal, accepted, answerOf, called, message, pack, packCalled, printedBy, readsBy, recordOf, request, served, takenBy}
 use Rattle.model.specs.Demand.{oneByOne, stands}
 use Rattle.model.specs.Stream.{together}
 use Rattle.model.proofs.Tests.{cond-at}
-use Rattle.model.proofs.ByteLaws.{length-written}
 use Rattle.model.proofs.Printing.{printed-is, taken-is}
 use Rattle.model.proofs.CallLaws.{accepted-answer, answer-number, left-is, number-accepted}
 use Rattle.model.proofs.Sums.{joint, joint-refused, together-assoc}

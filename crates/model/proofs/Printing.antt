@@ -21,7 +21,7 @@ use Rattle.model.specs.Reading.{Read, itemOf, uncut}
 use Rattle.model.specs.Judging.{allowed, fitting, limitsOf}
 use Rattle.model.specs.Items.{Event, applyAll, blankAnswer, bytesRead, copies, copyOf, counted, countedAll, happened, eventsOf, obeyedBy, printerBytes, printsOf, read, readsOf}
 use Rattle.model.specs.Packs.{bodiesOf, readsEach}
-use Rattle.model.specs.Calls.{Asked, Call, Promised, Request, Terminal, accepted, answerOf, closing, eventsBy, eventsIn, itemBytes, besideItems, keyText, message, numberOf, pack, packed?, packedBy, piece, printedBy, readsBy, readsIn, request, requestOf, sentBy, startOf, takenBy, takenIn}
+use Rattle.model.specs.Calls.{Asked, Call, Promised, Request, Terminal, accepted, answerOf, closing, eventsBy, eventsIn, itemBytes, besideItems, keyText, message, numberOf, pack, packed?, packedBy, piece, printedBy, quick, readsBy, readsIn, request, requestOf, sentBy, startOf, takenBy, takenIn}
 use Rattle.model.specs.Claims.{InBodies, InOrder, noBody, oneBody}
 use Rattle.model.proofs.Tests.{cond-at, cond₂}
 use Rattle.model.proofs.ByteLaws.{length-listFrom, length-written}
@@ -146,6 +146,7 @@ moved-prints s (piece m) a = refl
 moved-prints s closing a = refl
 moved-prints s (keyText k x) a = refl
 moved-prints s (pack p) a = refl
+moved-prints s (quick m) a = refl
 
 -- the items alone print
 pub prints-by : (t : Terminal) (q : Request) → copies (eventsBy t q) (t .state) ≡ copies (eventsOf (readsBy t q)) (t .state)
@@ -209,6 +210,7 @@ some-asked s (piece m) = some-gathered (heldIn s) m
 some-asked s closing = some-last (heldIn s)
 some-asked s (keyText k x) = none
 some-asked s (pack p) = none
+some-asked s (quick m) = some-uncut m
 
 taken-asked : (a : Asked) → takenBy a ≡ length (sentBy a)
 unfolding takenBy
@@ -217,6 +219,7 @@ taken-asked (piece m) = refl
 taken-asked closing = refl
 taken-asked (keyText k x) = refl
 taken-asked (pack p) = refl
+taken-asked (quick m) = refl
 
 -- P6: body by body
 bodies-each : (ms : List (List ℕ)) (st : State) (room : ℕ) → InBodies ms (readsEach ms st room)

@@ -5,8 +5,9 @@ use mathlib.Core.Bool.{Bool, _&&_, cond, false, true}
 use mathlib.Core.List.{List, [], _∷_}
 use lib.ListN.{replicate}
 use Rattle.model.specs.Sound.{Good}
+use Rattle.model.specs.Repaint.{shownBehind}
 use Rattle.model.specs.Items.{applyAll}
-use Rattle.model.specs.Calls.{Request, Terminal, accepted, allFree, answerOf, eventsBy, message, noneWaits, paints?, printedBy, reasons, request, served, short, terminal}
+use Rattle.model.specs.Calls.{Request, Terminal, accepted, allFree, answerOf, eventsBy, message, noneWaits, paints?, printedBy, quick?, readsBy, reasons, request, served, short, terminal}
 use Rattle.model.specs.Opening.{openedTerminal, ruled}
 use Rattle.model.specs.Demand.{Resumed}
 use Rattle.model.specs.Examples.{Example, Fact, allHold, allRight, isRight}
@@ -20,7 +21,7 @@ use Rattle.model.proofs.Quickly.{allQuick, answered, copiedBy, left, qu
 module _ (t : Terminal) (q : Request) where
   accepted-left : accepted t q ≡ true → served t q ≡ left t q
   unfolding after left
-  accepted-left e = accepted-leaves t q e ∙ (λ i. let st = applyAll (eventsBy t q) (t .state) in record { state = st; shown = cond (paints? (q .asked)) (painted-by-rows st i) (t .shown) })
+  accepted-left e = accepted-leaves t q e ∙ (λ i. let st = applyAll (eventsBy t q) (t .state) in record { state = st; shown = cond (paints? (q .asked)) (painted-by-rows st i) (cond (quick? (q .asked)) (shownBehind (readsBy t q) (t .state) st (t .shown)) (t .shown)) })
 
   accepted-right : (fs : List Fact) → accepted t q ≡ true → allHold fs (served t q) (answerOf t q) (printedBy t q) ≡ servedRight fs t q
   unfolding servedRight answered copiedBy

@@ -11,8 +11,9 @@ use Rattle.model.specs.Bytes.{listFrom}
 use Rattle.model.specs.State.{State}
 use Rattle.model.specs.Screens.{cellAt, placeOf, textRows}
 use Rattle.model.specs.Picture.{painting, under}
+use Rattle.model.specs.Repaint.{shownBehind}
 use Rattle.model.specs.Items.{applyAll, blankAnswer, copies, countedAll, eventsOf}
-use Rattle.model.specs.Calls.{Request, Terminal, accepted, eventsBy, message, numberOf, paints?, readsBy, request, short, takenBy, terminal}
+use Rattle.model.specs.Calls.{Request, Terminal, accepted, eventsBy, message, numberOf, paints?, quick?, readsBy, request, short, takenBy, terminal}
 use Rattle.model.specs.Opening.{openedTerminal}
 use Rattle.model.specs.Examples.{Example, Fact, allHold}
 use Rattle.model.specs.Runs.{Run, Turn}
@@ -52,7 +53,7 @@ byRows st = elim (eqb (st .settings .secret) 1) [ true ↦ painting st | false �
 
 -- what an accepted call leaves, its answer, its printer bytes
 unfoldable pub left : Terminal → Request → Terminal
-left t q = let st = applyAll (eventsBy t q) (t .state) in record { state = st; shown = cond (paints? (q .asked)) (byRows st) (t .shown) }
+left t q = let st = applyAll (eventsBy t q) (t .state) in record { state = st; shown = cond (paints? (q .asked)) (byRows st) (cond (quick? (q .asked)) (shownBehind (readsBy t q) (t .state) st (t .shown)) (t .shown)) }
 
 unfoldable pub answered : Terminal → Request → Answer
 answered t q = countedAll (readsBy t q) (blankAnswer 0 (takenBy (q .asked)))

@@ -6,16 +6,15 @@ use mathlib.Core.Bool.{Bool, cond, false, true}
 use mathlib.Core.List.{List, [], _++_, _∷_}
 use lib.ListN.{length}
 use lib.Dec.{eqb}
-use Rattle.model.specs.declared.Answer.{Answer}
 use Rattle.model.specs.Bytes.{written}
 use Rattle.model.specs.Packs.{bodiesOf}
-use Rattle.model.specs.Calls.{Asked, Call, Promised, Request, Terminal, accepted, answerOf, eventsIn, message, numberOf, pack, packed?, packedBy, printedBy, recordOf, request, requestOf, served}
+use Rattle.model.specs.Calls.{Asked, Call, Request, Terminal, accepted, answerOf, eventsIn, message, numberOf, pack, packedBy, printedBy, recordOf, request, requestOf, served}
 use Rattle.model.specs.Demand.{Made, Nth, eventsOver, first, later, left, next, none, oneByOne, requests, stands, standsFor, unpacked}
-use Rattle.model.specs.Sending.{AsSent, Likewise, OneByOne, Replaced, Replacing, Sent, acceptedPack, allSent, firstIn, noCall, refusedPack, sameCall, sentNext}
+use Rattle.model.specs.Sending.{OneByOne, Replaced, Replacing, Sent, acceptedPack, allSent, firstIn, noCall, refusedPack, sameCall, sentNext}
 use Rattle.model.specs.Stream.{partsOf}
 use Rattle.model.proofs.CallLaws.{number-accepted, refused-leaves, refused-number}
 use Rattle.model.proofs.Flow.{answersOver, printedOver}
-use Rattle.model.proofs.OneByOne.{AllShort, Quiet, alsoShort, answers-unpacked, events-unpacked, noneShort, pack-answer, pack-events, pack-prints, pack-quiet, pack-record, pack-short, pack-stands, prints-unpacked, quiet-accepted, quiet-left, refusedFrom, stands-append, stands-unpacked}
+use Rattle.model.proofs.OneByOne.{AllShort, Quiet, alsoShort, answers-unpacked, events-unpacked, pack-answer, pack-events, pack-prints, pack-quiet, pack-record, pack-short, pack-stands, prints-unpacked, quiet-accepted, quiet-left, refusedFrom, stands-unpacked}
 use Rattle.model.proofs.Theorem.{exact-all, is-accepted, number-is}
 use Rattle.model.proofs.Uncut.{left-served, part-is, parts-are, summed-is}
 

@@ -6,7 +6,7 @@ use native.Mathlib.Nat.{le-of-suc-le-suc, not-suc-le-zero}
 use native.Mathlib.Omega.{arith}
 use mathlib.Core.Bool.{Bool, _&&_, cond, false, true}
 use mathlib.Core.List.{List, [], _++_, _∷_}
-use lib.ListN.{length, length-append, take}
+use lib.ListN.{getD, length, length-append, take}
 use lib.Seq.{take-append-add}
 use Rattle.model.specs.declared.Answer.{Answer}
 use Rattle.model.specs.declared.Settings.{Settings}
@@ -14,12 +14,16 @@ use Rattle.model.specs.Bytes.{joined, written}
 use Rattle.model.specs.State.{State}
 use Rattle.model.specs.Screens.{base, cellAt, columnsOf, lineAt, linesOf, size}
 use Rattle.model.specs.Line.{heldIn}
+use Rattle.model.specs.Picture.{picture}
+use Rattle.model.specs.Reading.{Read, uncut}
+use Rattle.model.specs.Checks.{member}
+use Rattle.model.specs.Repaint.{placesIn}
 use Rattle.model.specs.Sound.{Good, Sound}
 use Rattle.model.specs.Items.{Event, applyAll, blankAnswer, bytesRead, copies, countedAll, readsOf, texted}
 use Rattle.model.specs.Records.{recordsAfter}
 use Rattle.model.specs.Packs.{bodiesOf, readsEach, recordFrom}
-use Rattle.model.specs.Calls.{Asked, Call, Promised, Request, Terminal, accepted, answerOf, eventsIn, firstOf, itemBytes, keyText, message, numberOf, ownReasons, pack, packed?, paints?, printedBy, readsBy, readsIn, recordOf, request, requestOf, sentBy, served, startOf, takenBy}
-use Rattle.model.specs.Claims.{Apart, InBodies, InOrder, On, Shown, ShownIn, Standing, aboveRow8, countAfter, movesWindow, setsMode, waitsAfter}
+use Rattle.model.specs.Calls.{Asked, Call, Promised, Request, Terminal, accepted, answerOf, eventsIn, firstOf, itemBytes, keyText, message, numberOf, ownReasons, pack, packed?, paints?, printedBy, quick, readsBy, readsIn, recordOf, request, requestOf, sentBy, served, startOf, takenBy}
+use Rattle.model.specs.Claims.{Apart, InBodies, InOrder, Plain, PlaceAfter, Quick, On, Shown, ShownIn, Standing, aboveRow8, countAfter, movesWindow, setsMode, waitsAfter}
 use Rattle.model.specs.Demand.{Demand, Demand3, Made, NoKey, Nth, Resumed, Start, Still, Stretch, before, claimed, event, eventsOver, first, itemCount, later, left, next, none, opening, requests, resumed, stands, stood}
 use Rattle.model.proofs.Frames.{SameScreen, Spared}
 use Rattle.model.proofs.Keep.{same-refl, same-trans, spared-refl, spared-trans, within}
@@ -30,6 +34,7 @@ use Rattle.model.proofs.CallLaws.{accepted-answer, accepted-number, acc
 use Rattle.model.proofs.Printing.{buffer-length, in-bodies, ordered, printed-is, reads-accepted, taken-is}
 use Rattle.model.proofs.LineAfter.{leaves-none, leaves-texted, line-after, once, whole}
 use Rattle.model.proofs.KeyLine.{above-stands, shown-above, shown-served, shown-stands}
+use Rattle.model.proofs.QuickCall.{alters, as-old, each-place, quick-reads, row-8, same-answer, same-prints, same-state}
 use Rattle.model.proofs.OneByOne.{events-unpacked, stands-unpacked, state-stands}
 use Rattle.model.proofs.Places.{one-cell}
 
@@ -219,6 +224,25 @@ empty-in c p e f =
       p .printer-is ∙ ap (λ (ys : List ℕ). written ys (c .buffer)) (ap (printedBy (c .given)) fq ∙ accepted-prints (c .given) q a),
     )
 
+-- a short message
+quick-in : (c : Call) → Promised c → c .answer .number ≡ 0 → (m : List ℕ) → c .asked ≡ quick m → Quick c m
+quick-in c p e m f =
+    let t : Terminal = c .given in
+    let room : ℕ = length (c .buffer) in
+    let fq : requestOf c ≡ request (quick m) room = ap (λ (a : Asked). request a room) f in
+    let ok : accepted t (request (quick m) room) ≡ true = subst (λ (q : Request). accepted t q ≡ true) fq (is-accepted c p e) in
+    let x : c .left ≡ served t (request (quick m) room) = left-is c p ∙ ap (served t) fq in
+    let rs : readsIn t (requestOf c) ≡ readsOf (uncut m) 0 (t .state) room = ap (readsIn t) fq ∙ quick-reads t m room ok in
+    record {
+      old-state = ap (λ (y : Terminal). y .state) x ∙ same-state t m room;
+      old-answer = p .answer-is ∙ ap (answerOf t) fq ∙ same-answer t m room;
+      old-printer = p .printer-is ∙ ap (λ (ys : List ℕ). written ys (c .buffer)) (ap (printedBy t) fq ∙ same-prints t m room);
+      each = λ n h. subst (λ (y : Terminal). PlaceAfter t y n) (sym x) (each-place t m room ok n h);
+      row-8 = λ n l h. subst (λ (y : Terminal). getD (y .shown) n 0 ≡ picture (y .state) n) (sym x) (row-8 t m room ok n l h);
+      alters = λ h n l z. ap (λ (y : Terminal). getD (y .shown) n 0) x ∙ alters t m room ok (subst (λ (l : List Read). Plain l (t .state)) rs h) n l (subst (λ (l : List Read). member n (placesIn l (t .state)) ≡ false) rs z);
+      as-old = λ h. x ∙ as-old t m room ok h;
+    }
+
 line-in : (c : Call) → Promised c → c .answer .number ≡ 0 → LineIs (c .given) c
 line-in c p e =
     let z = line-after (c .given) (c .asked) (length (c .buffer)) (is-accepted c p e) in
@@ -285,6 +309,7 @@ module _ (t : Terminal) (cs : List Call) (made : Made t cs) where
         → (c .left ≡ record { state = texted k y (c .given .state); shown = c .given .shown }) × (readsIn x (requestOf c) ≡ []) × (c .answer ≡ blankAnswer 0 0) × (c .printer ≡ c .buffer)) key-in made;
     packs = λ n h. (exact n ∙ sym (stands-unpacked (requests (take n cs)) t), sym (events-unpacked (requests (take n cs)) t));
     empty-pack = each (λ x c. c .answer .number ≡ 0 → c .asked ≡ pack [] → (c .left ≡ c .given) × (c .answer ≡ blankAnswer 0 0) × (c .in-record ≡ 0) × (c .printer ≡ c .buffer)) empty-in made;
+    short-message = each (λ x c. c .answer .number ≡ 0 → (m : List ℕ) → c .asked ≡ quick m → Quick c m) quick-in made;
     opened-shown = λ o n h f. shown-left made n f (opening-shown t o);
     message-shown = λ i c h e f n l u s. from-painting NoKey Shown no-key-tail (λ t cs m n. shown-left m n) made i c h e f n l s;
     opened-rows = λ o n h. above-left made n (shown-above t (opening-shown t o));

@@ -7,8 +7,8 @@ use mathlib.Core.Bool.{false, true}
 use mathlib.Core.List.{List, [], _++_, _∷_}
 use lib.ListN.{length, length-append, take}
 use lib.Seq.{take-at}
-use lib.Dec.{eqb, leb}
-use borrow.Author.Tests.{eq-eqb, le-leb}
+use lib.Dec.{leb}
+use borrow.Author.Tests.{le-leb}
 use Rattle.model.specs.declared.Settings.{Settings}
 use Rattle.model.specs.Bytes.{written}
 use Rattle.model.specs.State.{State}
@@ -17,12 +17,10 @@ use Rattle.model.specs.Sound.{Good, Sound}
 use Rattle.model.specs.Picture.{painting}
 use Rattle.model.specs.Reading.{Read, uncut}
 use Rattle.model.specs.Items.{applyAll, blankAnswer, copies, countedAll, eventsOf, lined, readsOf}
-use Rattle.model.specs.Calls.{Asked, Call, Promised, Request, Terminal, accepted, allFree, answerOf, closing, countable, firstOf, itemBytes, message, noneWaits, numberOf, ownReasons, piece, printedBy, readsBy, readsIn, reason, reasons, request, requestOf, served, short, sized, soundIn, startOf, takenBy}
+use Rattle.model.specs.Calls.{Asked, Call, Promised, Request, Terminal, accepted, answerOf, closing, countable, firstOf, itemBytes, message, numberOf, ownReasons, piece, printedBy, readsBy, readsIn, reason, request, requestOf, served, sized, startOf, takenBy}
 use Rattle.model.specs.Claims.{countAfter, waitsAfter}
 use Rattle.model.specs.Demand.{Made, left, next, none, requests, stands}
 use Rattle.model.specs.Stream.{As, AsMessage, Cut, HoweverCut, Stream, Uncut, closes, cuts, ends, goes, met13, partOf, partsOf, readsOver, skips, summed, together}
-use Rattle.model.proofs.Tests.{and-both}
-use Rattle.model.proofs.SoundLaws.{true-sound}
 use Rattle.model.proofs.Lined.{applied-lined}
 use Rattle.model.proofs.Events.{good-all}
 use Rattle.model.proofs.Printing.{reads-accepted}

@@ -31,6 +31,8 @@ use Rattle.model.specs.Packs.{bodiesOf, known?, readsEach, recordFrom}
 use Rattle.model.specs.Claims.{claimedBy, claims}
 use Rattle.model.specs.Demand.{claimed}
 use Rattle.model.specs.PackRuns.{allPacked, packClaims, packNumbers, packRuns, recordsHold}
+use Rattle.model.specs.Repaint.{calm?, lifts?, lowest?, movesTop?, placeBy, printLifts?, painted?, placesIn, printPlace, repainted, wide?, wideIn}
+use Rattle.model.specs.ShortRuns.{afterAll, allLooks, allSighted, shortClaims, shortLooks, sighted}
 use Rattle.model.proofs.Quickly.{allQuick, answered, below, byRows, copiedBy, left, overlaid, quickRight, quickRuns, quickTurns, refusedRight, row, rowsFrom, servedRight}
 
 pub examples : allQuick (marked ++ (unmarked ++ (added ++ (parameters ++ loadCurve)))) ≡ true
@@ -69,3 +71,11 @@ pack-numbers = refl
 pub pack-claims : packClaims ≡ true
 unfolding copySizeOf dotCopy pictureCopy withDots dotsCleared weight dotAt withDot acted longer shorter flat offsetAt strokePlaced lineDot maskBit stepped drawn stroke idle? judgedRanges screens aloneRanges second? padded lined texted joined onPart blanked scrolledUp scrolledDown put member passes inRanges? firstBad linesOf columnsOf placeOf textRows height base size lineAt cellAt keyRanges plainRanges arrayRanges insideRanges shapeRanges otherRanges inside? zeros? line? markOf marked? marks? sound? windowAt halves sides textAt under covered pictureAt picture painting copiedRows copied find rowOf modeRowOf afterMode afterEscape needed unfinished? gathered remaining kindOf decoded ended itemOf byteOf legal? badOf allowed fitting withSettings withCells withLayer placed emptied shownAt unmark mark stored onLines listed remarked lifted down toColumn runningOn runsOn onward right awaited topped held centred nearest missed tracked trackedFar printed unmarkedFrom cleared control blankFrom running endOf erased marksUp marksDown endUnmarked shifted modeSet flagged displaying keyLine withKeys withKindPatterns obeyed applyItem readsOf happened applyAll copies countedAll itemBytes sized soundIn firstOf allFree reasons numberOf accepted noneWaits countable keyable besideItems startOf takenBy takenIn readsBy readsIn eventsBy eventsIn shownAfter served answerOf printedBy numberIn lengthIn kindIn bodyIn recordIn recordsAfter lacking uncut? all? bodiesOf known? packable knownIn shortIn readsEach claims claimedBy claimed packClaims
 pack-claims = refl
+
+pub short : allLooks shortLooks ≡ true
+unfolding copySizeOf dotCopy pictureCopy withDots dotsCleared weight dotAt withDot acted longer shorter flat offsetAt strokePlaced lineDot maskBit stepped drawn stroke idle? judgedRanges screens aloneRanges second? padded lined texted joined onPart blanked scrolledUp scrolledDown put member passes inRanges? firstBad linesOf columnsOf placeOf textRows height base size lineAt cellAt keyRanges plainRanges arrayRanges insideRanges shapeRanges otherRanges inside? zeros? line? markOf marked? marks? sound? windowAt halves sides textAt under covered pictureAt picture painting copiedRows copied find rowOf modeRowOf afterMode afterEscape needed unfinished? gathered remaining kindOf decoded ended itemOf byteOf legal? badOf allowed fitting withSettings withCells withLayer placed emptied shownAt unmark mark stored onLines listed remarked lifted down toColumn runningOn runsOn onward right awaited topped held centred nearest missed tracked trackedFar printed unmarkedFrom cleared control blankFrom running endOf erased marksUp marksDown endUnmarked shifted modeSet flagged displaying keyLine withKeys withKindPatterns obeyed applyItem readsOf happened applyAll copies countedAll itemBytes sized soundIn firstOf allFree reasons numberOf accepted noneWaits countable keyable besideItems startOf takenBy takenIn readsBy readsIn eventsBy eventsIn shownAfter served answerOf printedBy calm? lowest? printLifts? lifts? movesTop? wide? printPlace placeBy wideIn placesIn painted? repainted sighted allSighted afterAll allLooks shortLooks
+short = refl
+
+pub short-claims : shortClaims ≡ true
+unfolding copySizeOf dotCopy pictureCopy withDots dotsCleared weight dotAt withDot acted longer shorter flat offsetAt strokePlaced lineDot maskBit stepped drawn stroke idle? judgedRanges screens aloneRanges second? padded lined texted joined onPart blanked scrolledUp scrolledDown put member passes inRanges? firstBad linesOf columnsOf placeOf textRows height base size lineAt cellAt keyRanges plainRanges arrayRanges insideRanges shapeRanges otherRanges inside? zeros? line? markOf marked? marks? sound? windowAt halves sides textAt under covered pictureAt picture painting copiedRows copied find rowOf modeRowOf afterMode afterEscape needed unfinished? gathered remaining kindOf decoded ended itemOf byteOf legal? badOf allowed fitting withSettings withCells withLayer placed emptied shownAt unmark mark stored onLines listed remarked lifted down toColumn runningOn runsOn onward right awaited topped held centred nearest missed tracked trackedFar printed unmarkedFrom cleared control blankFrom running endOf erased marksUp marksDown endUnmarked shifted modeSet flagged displaying keyLine withKeys withKindPatterns obeyed applyItem readsOf happened applyAll copies countedAll itemBytes sized soundIn firstOf allFree reasons numberOf accepted noneWaits countable keyable besideItems startOf takenBy takenIn readsBy readsIn eventsBy eventsIn shownAfter served answerOf printedBy claims claimedBy claimed shortClaims
+short-claims = refl

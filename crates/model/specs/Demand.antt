@@ -1,6 +1,6 @@
 -- Document 01, "Lists of messages": demand 3, a single claim about a whole list of calls; document 02, P1: "pieces and closings stand in its
 -- lists with messages, an accepted one counting as an accepted message"; P2: "The new call may stand in demand 3's lists"; P6: "In demand 3's
--- lists an accepted pack stands for its messages, a refused one for none".
+-- lists an accepted pack stands for its messages, a refused one for none"; P12: "it stands in demand 3's lists".
 use mathlib.Core.Path.{_≡_}
 use Prim.Native.Nat.{ℕ, suc, _-_, _≤_, _<_}
 use mathlib.Core.Bool.{Bool, true, false, cond}
@@ -13,9 +13,9 @@ use Rattle.model.specs.Line.{heldIn}
 use Rattle.model.specs.Sound.{Sound}
 use Rattle.model.specs.Items.{Event, itemRead, texted, applyAll, blankAnswer, bytesRead}
 use Rattle.model.specs.Packs.{bodiesOf}
-use Rattle.model.specs.Calls.{Terminal, Asked, message, keyText, pack, packed?, packedBy, paints?, sentBy, startOf, Request, request, Call, requestOf, Promised, short, firstOf, ownReasons, numberOf, accepted, answerOf, recordOf, printedBy, readsIn, eventsIn, served}
+use Rattle.model.specs.Calls.{Terminal, message, keyText, pack, quick, packed?, packedBy, paints?, sentBy, startOf, Request, request, Call, requestOf, Promised, short, firstOf, ownReasons, numberOf, accepted, answerOf, recordOf, printedBy, readsIn, eventsIn, served}
 use Rattle.model.specs.Opening.{OpeningPromised}
-use Rattle.model.specs.Claims.{Standing, InOrder, InBodies, unclaims?, waitsAfter, countAfter, Shown, ShownIn, aboveRow8, claimedBy, InWindow, setsMode, movesWindow, refusedEvent, mustFollow, Unchanged, SameWindow}
+use Rattle.model.specs.Claims.{Standing, InOrder, InBodies, Quick, unclaims?, waitsAfter, countAfter, Shown, ShownIn, aboveRow8, claimedBy, InWindow, setsMode, movesWindow, refusedEvent, mustFollow, Unchanged, SameWindow}
 
 -- "Each call gets the settings and these three stores as the call before left them", P11: and the dots, and keeps its promise
 pub data Made : Terminal → List Call → Type 0 where
@@ -164,6 +164,8 @@ pub record Demand3 (t : Terminal) (cs : List Call) : Type 0 where
   -- "An empty pack that passes 1, 3 and 16 does nothing"
   pub empty-pack : (n : ℕ) (c : Call) → Nth n cs c → c .answer .number ≡ 0 → c .asked ≡ pack []
       → (c .left ≡ c .given) × (c .answer ≡ blankAnswer 0 0) × (c .in-record ≡ 0) × (c .printer ≡ c .buffer)
+  -- P12, an accepted short message: it is the message but for the places, and what its own promises say of these
+  pub short-message : (n : ℕ) (c : Call) → Nth n cs c → c .answer .number ≡ 0 → (m : List ℕ) → c .asked ≡ quick m → Quick c m
   -- from an accepted opening on, all 640 places show the picture of what stands, while no key call is accepted
   pub opened-shown : Opening t → (n : ℕ) → n ≤ length cs → NoKey cs 0 n → Shown (left t (take n cs))
   -- from the first accepted message, piece, closing or pack with a message on, too; and after a key call from the next one on

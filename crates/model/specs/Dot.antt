@@ -36,7 +36,7 @@ withBit on w byte = byte - bitOf w byte * w + on * w
 unfoldable pub withDot : ℕ → ℕ → ℕ → List ℕ → List ℕ
 withDot on v h dots = set dots (byteOf v h) (withBit on (weight h) (getD dots (byteOf v h) 0))
 
--- 198's function, "1 to 3" (Appendix A): "turned off" by 1, "turned on" by 2, "the complements" by 3; any other number, which is never accepted (11), as 3
+-- 198's function, "1 to 3" (Appendix A): "turned off" by 1, "turned on" by 2, "the complements" by 3; any other number, which is never obeyed (11 in mode 3, idle elsewhere), as 3
 abbrev pub wanted : ℕ → ℕ → ℕ
 wanted function on = cond (eqb function 1) 0 (cond (eqb function 2) 1 (1 - on))
 

@@ -14,6 +14,7 @@ pub mod OnScreen
 pub mod Items
 pub mod Records
 pub mod Packs
+pub mod Repaint
 pub mod Calls
 pub mod Opening
 pub mod Claims
@@ -29,3 +30,4 @@ pub mod Dot
 pub mod Strokes
 pub mod CurveRuns
 pub mod PackRuns
+pub mod ShortRuns

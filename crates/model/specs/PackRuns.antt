@@ -8,7 +8,7 @@ use lib.Dec.{eqb}
 use Rattle.model.specs.State.{openedSettings, withLine}
 use Rattle.model.specs.Calls.{Terminal, terminal, message, piece, keyText, pack, Request, request, numberOf, recordOf, served, answerOf, printedBy}
 use Rattle.model.specs.Demand.{claimed}
-use Rattle.model.specs.Examples.{Fact, counts, firstRefusal, parameter, cursorAt, selected, cell, shows, blank, printedByte, refusedBy, waits, text, flags, allHold}
+use Rattle.model.specs.Examples.{Fact, counts, firstRefusal, parameter, cursorAt, selected, cell, shows, blank, printedByte, refusedBy, waits, text, allHold}
 use Rattle.model.specs.Runs.{Turn, turn, roomy}
 
 -- a record of a message: its length and kind 1, then the message

@@ -20,7 +20,7 @@ use Rattle.model.proofs.ByteLaws.{length-listFrom, same-listFrom}
 use Rattle.store.proofs.Laws.{put-all}
 use Rattle.paint.specs.declared.view.View.{View}
 use Rattle.paint.specs.Panes.{ViewOf, seen}
-use Rattle.paint.specs.Painted.{laid, painted}
+use Rattle.paint.specs.Painted.{below, laid, painted}
 use Rattle.paint.proofs.Painted.{listed, painted-next, painted-over, put-listed}
 
 -- "32 everywhere while secret is on"
@@ -45,55 +45,75 @@ module _ (s : Settings) (cells layer dots : List ℕ) where
   st = state s cells layer dots
 
   -- a place under the layer
-  abbrev below : ℕ → ℕ
-  below p = under st (p / 80 + 1) (p % 80 + 1)
+  abbrev under-it : ℕ → ℕ
+  under-it = below st
 
   -- with the layer
-  plain-at : eqb (s .secret) 1 ≡ false → (p : ℕ) → p < 640 → laid layer below p ≡ picture st p
+  plain-at : eqb (s .secret) 1 ≡ false → (p : ℕ) → p < 640 → laid layer under-it p ≡ picture st p
   unfolding laid picture pictureAt covered
   plain-at plain p h =
       let e : 80 * (p / 80 + 1 - 1) + (p % 80 + 1 - 1) ≡ p = omega arith in
-      let P : ℕ → Type 0 = λ (x : ℕ). laid layer below p ≡ x in
+      let P : ℕ → Type 0 = λ (x : ℕ). laid layer under-it p ≡ x in
       elim-at P (eqb (s .secret) 1) 32 _ (λ t. absurd (differ (sym t ∙ plain)))
       (λ f. elim-at P (eqb (getD layer (80 * (p / 80 + 1 - 1) + (p % 80 + 1 - 1)) 0) 0) _ _
-      (λ t. ap (λ (b : Bool). cond b (below p) (getD layer (640 + p) 0)) (ap (λ (k : ℕ). eqb (getD layer k 0) 0) (sym e) ∙ t))
-      (λ g. ap (λ (b : Bool). cond b (below p) (getD layer (640 + p) 0)) (ap (λ (k : ℕ). eqb (getD layer k 0) 0) (sym e) ∙ g) ∙ ap (λ (k : ℕ). getD layer (640 + k) 0) (sym e)))
+      (λ t. ap (λ (b : Bool). cond b (under-it p) (getD layer (640 + p) 0)) (ap (λ (k : ℕ). eqb (getD layer k 0) 0) (sym e) ∙ t))
+      (λ g. ap (λ (b : Bool). cond b (under-it p) (getD layer (640 + p) 0)) (ap (λ (k : ℕ). eqb (getD layer k 0) 0) (sym e) ∙ g) ∙ ap (λ (k : ℕ). getD layer (640 + k) 0) (sym e)))
 
   -- so the whole picture
-  plain-picture : eqb (s .secret) 1 ≡ false → (xs : List ℕ) → length xs ≡ 640 → painted 0 640 (laid layer below) xs ≡ painting st
+  plain-picture : eqb (s .secret) 1 ≡ false → (xs : List ℕ) → length xs ≡ 640 → painted 0 640 (laid layer under-it) xs ≡ painting st
   unfolding painted painting
   plain-picture plain xs n =
-      put-all (listFrom (laid layer below) 0 640) xs (length-listFrom (laid layer below) 0 640 ∙ sym n)
-      ∙ same-listFrom (laid layer below) (picture st) 0 640 (λ p g h. plain-at plain p (omega arith))
+      put-all (listFrom (laid layer under-it) 0 640) xs (length-listFrom (laid layer under-it) 0 640 ∙ sym n)
+      ∙ same-listFrom (laid layer under-it) (picture st) 0 640 (λ p g h. plain-at plain p (omega arith))
+
+  -- row 8 under display 0, by its columns
+  keys : s .display ≡ 0 → (k : ℕ) → k < 80 → getD (s .texts) k 0 ≡ under-it (560 + k)
+  keys d k h =
+      let r : (560 + k) / 80 + 1 ≡ 8 = omega arith in
+      let c : (560 + k) % 80 + 1 ≡ k + 1 = omega arith in
+      let b : k + 1 - 1 ≡ k = omega arith in
+      sym ((λ i. under st (r i) (c i)) ∙ key-row st (k + 1) d ∙ ap (λ (j : ℕ). getD (s .texts) j 0) b)
+
+  -- P12, row 8 alone: the key texts, or the view's last row; then the layer over it, or blanks in secret mode
+  module _ (xs : List ℕ) {l : List ℕ} where
+    pub row-8-keys : s .display ≡ 0 → length (s .texts) ≡ 80 → l ≡ put 560 (s .texts) xs → l ≡ painted 560 80 under-it xs
+    row-8-keys d size e = e ∙ put-listed under-it 560 80 (s .texts) xs size (keys d)
+
+    pub row-8-view : (v : View) → ViewOf s v → (s .display ≡ 0 → ⊥) → l ≡ painted 560 80 (seen v cells) xs → l ≡ painted 560 80 under-it xs
+    unfolding painted seen
+    row-8-view v is-view d e =
+        let eight : v .rows ≡ 8 = is-view .rows-are ∙ rows-plain s d in
+        e ∙ ap (λ (ys : List ℕ). put 560 ys xs) (same-listFrom (seen v cells) under-it 560 80 (λ p a b. is-view .same cells layer dots (p / 80) (p % 80) (omega arith) (omega arith)))
+
+    pub row-8-plain : {l′ : List ℕ} → eqb (s .secret) 1 ≡ false → length xs ≡ 640 → l ≡ painted 560 80 under-it xs → l′ ≡ painted 560 80 (laid layer (λ p. getD l p 0)) l → l′ ≡ painted 560 80 (picture st) xs
+    unfolding painted
+    row-8-plain plain n e e′ =
+        painted-over 560 80 under-it layer xs (omega arith) e e′
+        ∙ ap (λ (ys : List ℕ). put 560 ys xs) (same-listFrom (laid layer under-it) (picture st) 560 80 (λ p g h. plain-at plain p (omega arith)))
+
+    pub row-8-secret : eqb (s .secret) 1 ≡ true → l ≡ put 560 (replicate 80 32) xs → l ≡ painted 560 80 (picture st) xs
+    row-8-secret t e = e ∙ put-listed (picture st) 560 80 (replicate 80 32) xs (length-replicate {A = ℕ} 80 32) (λ k h. getD-replicate 80 k 32 0 h ∙ secret-at st t (560 + k))
 
   module _ (v : View) (is-view : ViewOf s v) (xs : List ℕ) where
     -- the rows that show text are the view's
-    text-rows : {l : List ℕ} → l ≡ painted 0 (v .rows * 80) (seen v cells) xs → l ≡ painted 0 (textRows s * 80) below xs
+    text-rows : {l : List ℕ} → l ≡ painted 0 (v .rows * 80) (seen v cells) xs → l ≡ painted 0 (textRows s * 80) under-it xs
     unfolding painted seen
     text-rows e =
-        e ∙ ap (λ (ys : List ℕ). put 0 ys xs) (same-listFrom (seen v cells) below 0 (v .rows * 80) (λ p a b. is-view .same cells layer dots (p / 80) (p % 80) (omega arith) (omega arith)))
-        ∙ ap (λ (n : ℕ). put 0 (listFrom below 0 (n * 80)) xs) (is-view .rows-are)
+        e ∙ ap (λ (ys : List ℕ). put 0 ys xs) (same-listFrom (seen v cells) under-it 0 (v .rows * 80) (λ p a b. is-view .same cells layer dots (p / 80) (p % 80) (omega arith) (omega arith)))
+        ∙ ap (λ (n : ℕ). put 0 (listFrom under-it 0 (n * 80)) xs) (is-view .rows-are)
 
     -- behind them, under display 0, stand the key texts
-    all-rows : {l l′ : List ℕ} → length (s .texts) ≡ 80 → length xs ≡ 640 → l ≡ painted 0 (textRows s * 80) below xs → l′ ≡ cond (eqb (s .display) 0) (put 560 (s .texts) l) l → l′ ≡ painted 0 640 below xs
+    all-rows : {l l′ : List ℕ} → length (s .texts) ≡ 80 → length xs ≡ 640 → l ≡ painted 0 (textRows s * 80) under-it xs → l′ ≡ cond (eqb (s .display) 0) (put 560 (s .texts) l) l → l′ ≡ painted 0 640 under-it xs
     all-rows {l} {l′} size n e = by (eqb (s .display) 0) refl
       where
-        -- row 8, by its columns
-        keys : s .display ≡ 0 → (k : ℕ) → k < 80 → getD (s .texts) k 0 ≡ below (560 + k)
-        keys d k h =
-            let r : (560 + k) / 80 + 1 ≡ 8 = omega arith in
-            let c : (560 + k) % 80 + 1 ≡ k + 1 = omega arith in
-            let b : k + 1 - 1 ≡ k = omega arith in
-            sym ((λ i. under st (r i) (c i)) ∙ key-row st (k + 1) d ∙ ap (λ (j : ℕ). getD (s .texts) j 0) b)
-
-        by : (b : Bool) → eqb (s .display) 0 ≡ b → l′ ≡ cond b (put 560 (s .texts) l) l → l′ ≡ painted 0 640 below xs
+        by : (b : Bool) → eqb (s .display) 0 ≡ b → l′ ≡ cond b (put 560 (s .texts) l) l → l′ ≡ painted 0 640 under-it xs
         by true d f =
             let seven : textRows s * 80 ≡ 560 = ap (λ (k : ℕ). k * 80) (rows-shown s (eqb-true (s .display) 0 d)) in
-            painted-next 0 below xs 560 80 640 (e ∙ ap (λ (k : ℕ). painted 0 k below xs) seven)
-            (f ∙ put-listed below 560 80 (s .texts) l size (keys (eqb-true (s .display) 0 d))) refl (omega arith) refl
+            painted-next 0 under-it xs 560 80 640 (e ∙ ap (λ (k : ℕ). painted 0 k under-it xs) seven)
+            (f ∙ put-listed under-it 560 80 (s .texts) l size (keys (eqb-true (s .display) 0 d))) refl (omega arith) refl
         by false d f =
             let eight : textRows s * 80 ≡ 640 = ap (λ (k : ℕ). k * 80) (rows-plain s (λ z. differ (sym (eq-eqb (s .display) 0 z) ∙ d))) in
-            f ∙ e ∙ ap (λ (k : ℕ). painted 0 k below xs) eight
+            f ∙ e ∙ ap (λ (k : ℕ). painted 0 k under-it xs) eight
 
     -- what is painted by the view (l), by the key texts (l′) and by the layer (l″) is the picture
     pub whole-picture : {l l′ l″ : List ℕ} → length (s .texts) ≡ 80 → length xs ≡ 640 → l ≡ cond (eqb (s .secret) 1) (replicate 640 32) (painted 0 (v .rows * 80) (seen v cells) xs)
@@ -104,4 +124,4 @@ module _ (s : Settings) (cells layer dots : List ℕ) where
         by : (b : Bool) → eqb (s .secret) 1 ≡ b → l ≡ cond b (replicate 640 32) (painted 0 (v .rows * 80) (seen v cells) xs)
             → l′ ≡ cond b l (cond (eqb (s .display) 0) (put 560 (s .texts) l) l) → l″ ≡ cond b l′ (painted 0 640 (laid layer (λ p. getD l′ p 0)) l′) → l″ ≡ painting st
         by true t e e′ e″ = e″ ∙ e′ ∙ e ∙ secret-picture st t
-        by false f e e′ e″ = painted-over 0 640 below layer xs (omega arith) (all-rows size n (text-rows e) e′) e″ ∙ plain-picture f xs n
+        by false f e e′ e″ = painted-over 0 640 under-it layer xs (omega arith) (all-rows size n (text-rows e) e′) e″ ∙ plain-picture f xs n

@@ -1,6 +1,6 @@
 -- What a view shows, run by run: a row is the cells of the left pane, the gap's code, then the cells of the right pane; all rows of a
 -- pane as wide as the screen are one piece of the cells.
-use mathlib.Core.Path.{_∙_, _≡_, ap, refl, sym}
+use mathlib.Core.Path.{_∙_, _≡_, ap, refl, subst, sym}
 use Prim.Native.Nat.{_%_, _*_, _+_, _-_, _/_, _<_, _≤_, ℕ}
 use native.Mathlib.Omega.{arith}
 use mathlib.Core.List.{List, _++_}
@@ -57,6 +57,10 @@ module _ (v : View) (framed : Framed v) (cells : List ℕ) (size : length cells 
   left-run : (xs : List ℕ) {at : ℕ} → Line (v .left) row at → put (row * 80) (take (v .left .width) (drop at cells)) xs ≡ painted (row * 80) (v .left .width) (seen v cells) xs
   left-run xs {at} h = part-run (seen v cells) (row * 80) (v .left .width) at cells xs (omega arith)
       (λ k l. at-left v cells (row * 80 + k) row k (omega arith) (omega arith) l ∙ rw (h .starts))
+
+  -- a row of a pane as wide as the screen
+  pub whole-row : (xs : List ℕ) {at : ℕ} {l : List ℕ} → v .left .width ≡ 80 → Line (v .left) row at → l ≡ put (row * 80) (take 80 (drop at cells)) xs → l ≡ painted (row * 80) 80 (seen v cells) xs
+  whole-row xs {at} {l} w h e = subst (λ (n : ℕ). l ≡ put (row * 80) (take n (drop at cells)) xs → l ≡ painted (row * 80) n (seen v cells) xs) w (λ e. e ∙ left-run xs h) e
 
   gap-run : (xs : List ℕ) → put between (replicate (v .gap) (v .code)) xs ≡ painted between (v .gap) (seen v cells) xs
   unfolding across

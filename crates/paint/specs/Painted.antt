@@ -1,13 +1,15 @@
 -- Places of the shown screen, painted: what every loop over them leaves, and the layer over them.
 use mathlib.Core.Path.{_≡_}
-use Prim.Native.Nat.{ℕ, _+_}
+use Prim.Native.Nat.{ℕ, _+_, _/_, _%_}
 use mathlib.Core.Bool.{cond}
 use mathlib.Core.List.{List}
 use lib.ListN.{getD, length}
 use lib.Dec.{eqb}
 use Rattle.model.specs.declared.Settings.{Settings}
 use Rattle.model.specs.Bytes.{listFrom, put}
+use Rattle.model.specs.State.{State}
 use Rattle.model.specs.Sound.{Sound}
+use Rattle.model.specs.Picture.{under}
 
 -- what the picture is painted from: sound settings, cells and layer of their sizes
 pub record Visible (s : Settings) (cells layer : List ℕ) : Type 0 where
@@ -18,6 +20,10 @@ pub record Visible (s : Settings) (cells layer : List ℕ) : Type 0 where
 -- the count places from `from` on, each with what f says of it; the others stay
 unfoldable pub painted : ℕ → ℕ → (ℕ → ℕ) → List ℕ → List ℕ
 painted from count f xs = put from (listFrom f from count) xs
+
+-- a place of the picture without secret and layer
+abbrev pub below : State → ℕ → ℕ
+below st p = under st (p / 80 + 1) (p % 80 + 1)
 
 -- "0 empty, other values set"
 abbrev pub marked : ℕ → ℕ → ℕ → ℕ

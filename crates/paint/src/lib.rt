@@ -9,11 +9,11 @@ ghost use lib.ListN.{getD, length, replicate};
 ghost use lib.Dec.{eqb};
 ghost use mathlib.Core.Bool.{cond, true};
 ghost use Rattle.model.specs.Bytes.{put};
-ghost use Rattle.model.specs.Sound.{Good};
+ghost use Rattle.model.specs.Sound.{Good, Sound};
 ghost use Rattle.model.specs.Screens.{placeOf};
 ghost use Rattle.model.specs.State.{state};
-ghost use Rattle.model.specs.Picture.{painting, copied, copySizeOf, pictureCopy};
-ghost use Rattle.paint.specs.Painted.{Visible, laid, painted};
+ghost use Rattle.model.specs.Picture.{painting, picture, copied, copySizeOf, pictureCopy};
+ghost use Rattle.paint.specs.Painted.{Visible, below, laid, painted};
 ghost use Rattle.paint.specs.Panes.{Framed, seen};
 use model::DOTS;
 use model::Settings;
@@ -37,6 +37,41 @@ pub fn paint(settings: Settings, top: u8, bare: bool, cells: &[u8], layer: &[u8]
     paint_under(settings.secret, panes, cells, shown);
     paint_keys(settings, shown);
     lay_over(settings.secret, bare, layer, shown);
+}
+
+// Document 02, P12: "Row 8 it always paints whole", and here nothing else.
+pub fn paint_row_8(settings: Settings, top: u8, cells: &[u8], layer: &[u8], shown: &mut [u8])
+    requires { ⌜ (Visible settings (now cells) (now layer)) × (top ≡ placeOf settings (settings .selected) .top) ⌝ }
+    requires { ⌜ length (now shown) ≡ 640 ⌝ }
+    ensures { λ _. ⌜ ((dots : List ℕ) → now (shown .exit) ≡ painted 560 80 (picture (state settings (now (cells .entry)) (now (layer .entry)) dots)) (now (shown .entry))) ⌝ }
+{
+    let hidden = settings.secret;
+    if hidden == 1 {
+        store::fill(&mut shown[ROW_8..PLACES], 32);
+        return;
+    }
+    paint_last(settings, top, cells, shown);
+    rows::lay_last(layer, shown);
+}
+
+// Row 8 without secret and layer: the key texts under display 0, else the last row of the panes.
+fn paint_last(settings: Settings, top: u8, cells: &[u8], shown: &mut [u8])
+    requires { ⌜ (Sound settings) × (top ≡ placeOf settings (settings .selected) .top) ⌝ }
+    requires { ⌜ (length (now cells) ≡ 3840) × (length (now shown) ≡ 640) ⌝ }
+    ensures { λ _. ⌜ ((layer dots : List ℕ) → now (shown .exit) ≡ painted 560 80 (below (state settings (now (cells .entry)) layer dots)) (now (shown .entry))) ⌝ }
+{
+    if settings.display == 0 {
+        let texts = settings.texts;
+        store::copy_in(shown, ROW_8, &texts, 0, ROW);
+        return;
+    }
+    let panes = view::view_of(settings, top);
+    let left = panes.left;
+    if left.width == ROW {
+        store::copy_in(shown, ROW_8, cells, view::start(left, 7), ROW);
+        return;
+    }
+    rows::paint_row(panes, cells, shown, 7);
 }
 
 // "With ESC 211,0 row 8 shows ten key texts of 8 codes", which secret mode leaves out. Only then are the texts touched.

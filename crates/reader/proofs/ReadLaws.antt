@@ -6,17 +6,20 @@ use native.Mathlib.Nat.{add-zero}
 use native.Mathlib.Omega.{arith}
 use mathlib.Core.List.{List, [], _∷_}
 use lib.ListN.{List·getD-eq-default, drop, getD, length, length-drop, length-take, take}
+use lib.Dec.{ltb}
 use lib.Seq.{getD-drop, getD-take, length-take-le, take-all}
+use borrow.Author.Tests.{ltb-false, ltb-true}
 use Rattle.model.specs.declared.Limits.{Limits}
 use Rattle.model.specs.declared.Item.{Item}
 use Rattle.model.specs.declared.Item.the-variants.{Printed, Control, Refused}
 use Rattle.model.specs.Reading.{decoded, ended, itemOf, needed, ownBytes}
 use Rattle.model.specs.Judging.{allowed, fitting, judged}
 use Rattle.model.proofs.Loop.{own-some}
+use Rattle.model.proofs.Tests.{elim-at}
 use Rattle.model.proofs.Events.{legal-judged}
 use Rattle.tables.specs.Lengths.{lengthOf}
 use Rattle.reader.specs.Decoding.{whole}
-use Rattle.reader.specs.Reading.{ReadAt}
+use Rattle.reader.specs.Reading.{ReadAt, byItself}
 use Rattle.reader.proofs.Needed.{needed-alone, needed-cut, needed-own, needed-plain, needed-unlisted, needed-whole, said, unlisted-own}
 use Rattle.reader.proofs.ItemOf.{decoded-control, decoded-printed, decoded-sequence, ended-by, item-cut, item-whole, judged-ended}
 use Rattle.reader.proofs.DecodingLaws.{whole-unlisted}
@@ -81,13 +84,18 @@ module _ (m : List ℕ) (at : ℕ) (s : Limits) (room : ℕ) (h : at < length m)
     reads-one i d q =
         reads-whole 1 i i (needed-plain rest some-left (λ z. e (sym first ∙ z))) (needed-plain (own 1) (omega (arith, length-take-le 1 rest some-left)) plain) (omega arith) d q
 
-    pub reads-control : getD m at 0 < 32 → Reads (Control (getD m at 0)) 1
+    reads-control : getD m at 0 < 32 → Reads (Control (getD m at 0)) 1
     unfolding allowed fitting
     reads-control l = reads-one _ (decoded-control at (own 1) plain (omega (arith, one)) ∙ ap Control one) refl
 
-    pub reads-printed : 32 ≤ getD m at 0 → Reads (Printed (getD m at 0)) 1
+    reads-printed : 32 ≤ getD m at 0 → Reads (Printed (getD m at 0)) 1
     unfolding allowed fitting
     reads-printed l = reads-one _ (decoded-printed at (own 1) plain (omega (arith, one)) ∙ ap Printed one) refl
+
+    pub reads-byte : {i : Item} → i ≡ byItself (getD m at 0) → Reads i 1
+    reads-byte d =
+        subst (λ (i : Item). Reads i 1) (sym d)
+        (elim-at (λ (i : Item). Reads i 1) (ltb (getD m at 0) 32) _ _ (λ t. reads-control (ltb-true _ 32 t)) (λ t. reads-printed (ltb-false _ 32 t)))
 
   -- a sequence
   module _ (e : getD m at 0 ≡ 27) where

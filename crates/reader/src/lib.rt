@@ -4,7 +4,7 @@ ghost use mathlib.Core.Path.{_≡_};
 ghost use mathlib.Core.List.{[], _∷_};
 ghost use lib.ListN.{getD, length};
 ghost use Rattle.model.specs.Reading.{ended};
-ghost use Rattle.reader.specs.Reading.{ReadAt};
+ghost use Rattle.reader.specs.Reading.{ReadAt, byItself};
 
 mod decoding;
 mod judging;
@@ -32,16 +32,18 @@ pub fn read_item(limits: Limits, room: usize, message: &[u8], at: usize) -> Read
     if first == 27 {
         return read_sequence(limits, room, message, at);
     }
+    let item = one_byte(first);
+    Reading { item, length: 1 }
+}
+
+// A byte that is no ESC: a code, or it prints.
+pub fn one_byte(first: u8) -> Item
+    ensures { λ r. ⌜ r ≡ byItself first ⌝ }
+{
     if first < 32 {
-        Reading {
-            item: Item::Control(first),
-            length: 1,
-        }
+        Item::Control(first)
     } else {
-        Reading {
-            item: Item::Printed(first),
-            length: 1,
-        }
+        Item::Printed(first)
     }
 }
 

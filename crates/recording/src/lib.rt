@@ -1,6 +1,6 @@
 // Recordings of calls, read record by record from standard input and played from an opening by rule 1: body length and kind, two bytes each,
 // little-endian, then the body. Kind 1 is a message, 2 a piece of a stream, 3 its closing, 4 a key text: the key's number, then the text; 5 is a pack of
-// messages; 7 an opening, whose body is the rule; 8 the printer room of the calls behind it, two bytes.
+// messages, 6 a short message; 7 an opening, whose body is the rule; 8 the printer room of the calls behind it, two bytes.
 ghost use mathlib.Core.Path.{_≡_};
 ghost use mathlib.Core.List.{[]};
 ghost use Prim.Native.Nat.{_+_, _*_, _≤_};
@@ -110,7 +110,7 @@ fn ended(bad: bool) -> Next
 // printer room two.
 fn asks(kind: u16, length: u16) -> bool {
     match kind {
-        1 | 2 | 5 => true,
+        1 | 2 | 5 | 6 => true,
         3 => length == 0,
         4 => length >= 1,
         7 => length == 1,
@@ -119,7 +119,7 @@ fn asks(kind: u16, length: u16) -> bool {
     }
 }
 
-// What a record asks for, its line with that number; with number 0 it is done with no word. Other kinds than these seven never come here, nor a body
+// What a record asks for, its line with that number; with number 0 it is done with no word. Other kinds than these eight never come here, nor a body
 // that is too short for its kind.
 pub fn play(
     number: u64,
@@ -132,46 +132,40 @@ pub fn play(
     dots: &mut [u8],
     printer: &mut [u8],
 ) -> Played {
-    let start: usize = 0;
-    let end = played.room;
-    if end > printer.len() {
-        return played;
-    }
     match kind {
-        2 => play_piece(
-            number,
-            played,
-            body,
-            cells,
-            layer,
-            shown,
-            dots,
-            &mut printer[start..end],
-        ),
         3 => play_closing(number, played, cells, layer, shown, dots),
         4 => play_key_record(number, played, body),
-        5 => play_pack(
-            number,
-            played,
-            body,
-            cells,
-            layer,
-            shown,
-            dots,
-            &mut printer[start..end],
-        ),
         7 => play_opening_record(number, played, body, cells, layer, shown, dots),
         8 => play_room(number, played, body),
-        _ => play_message(
-            number,
-            played,
-            body,
-            cells,
-            layer,
-            shown,
-            dots,
-            &mut printer[start..end],
-        ),
+        _ => {
+            let start: usize = 0;
+            let end = played.room;
+            if end > printer.len() {
+                return played;
+            }
+            let room = &mut printer[start..end];
+            play_sent(number, kind, played, body, cells, layer, shown, dots, room)
+        }
+    }
+}
+
+// A call that is lent a printer buffer.
+fn play_sent(
+    number: u64,
+    kind: u16,
+    played: Played,
+    body: &[u8],
+    cells: &mut [u8],
+    layer: &mut [u8],
+    shown: &mut [u8],
+    dots: &mut [u8],
+    printer: &mut [u8],
+) -> Played {
+    match kind {
+        2 => play_piece(number, played, body, cells, layer, shown, dots, printer),
+        5 => play_pack(number, played, body, cells, layer, shown, dots, printer),
+        6 => play_short(number, played, body, cells, layer, shown, dots, printer),
+        _ => play_message(number, played, body, cells, layer, shown, dots, printer),
     }
 }
 
@@ -227,6 +221,24 @@ pub fn play_message(
 {
     let before = played.settings;
     let outcome = terminal::message(before, message, cells, layer, shown, dots, printer);
+    told(number, played, outcome, printer)
+}
+
+// One short message, and its line.
+pub fn play_short(
+    number: u64,
+    played: Played,
+    message: &[u8],
+    cells: &mut [u8],
+    layer: &mut [u8],
+    shown: &mut [u8],
+    dots: &mut [u8],
+    printer: &mut [u8],
+) -> Played
+    ensures { λ r. ⌜ Plays (Asked.quick (now (message .entry))) (terminal (played .settings) (now (cells .entry)) (now (layer .entry)) (now (dots .entry)) (now (shown .entry))) (now (printer .entry)) played r (terminal (r .settings) (now (cells .exit)) (now (layer .exit)) (now (dots .exit)) (now (shown .exit))) (now (printer .exit)) ⌝ }
+{
+    let before = played.settings;
+    let outcome = short::px8_message_short(before, message, cells, layer, shown, dots, printer);
     told(number, played, outcome, printer)
 }
 

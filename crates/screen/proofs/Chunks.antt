@@ -34,7 +34,7 @@ module _ {f : Frame} where
       (λ s ds e i. rw (cell-is (state s c l ds) e i, ← unmark-none (shownHere (state s c l ds)) l, k .is (state s c l ds) e i, unmark-none n l))
 
   -- one byte
-  printed-spot : {p : Place} {c l : List ℕ} {n : ℕ} (b : ℕ) → Ready f p c l → p .waiting ≡ 0 → p .column < f .columns → Reads lost f p false → Spot f p n
+  pub printed-spot : {p : Place} {c l : List ℕ} {n : ℕ} (b : ℕ) → Ready f p c l → p .waiting ≡ 0 → p .column < f .columns → Reads lost f p false → Spot f p n
       → Acts (printed b) f p (putAt (p .line) (suc (p .column)) p) c l (set c (cellIn f p) b) (unmark n l)
   unfolding printed tracked
   printed-spot {p} b h w k j i =

@@ -37,7 +37,7 @@ printed-more [] ys st = refl
 printed-more (x ∷ xs) ys st = printed-more xs ys (printed x st)
 
 -- the bytes of m from an offset on, as far as another
-bytes-more : (m : List ℕ) (from at to : ℕ) → from ≤ at → at ≤ to → take (to - from) (drop from m) ≡ take (at - from) (drop from m) ++ take (to - at) (drop at m)
+pub bytes-more : (m : List ℕ) (from at to : ℕ) → from ≤ at → at ≤ to → take (to - from) (drop from m) ≡ take (at - from) (drop from m) ++ take (to - at) (drop at m)
 bytes-more m from at to h k =
     let n : to - from ≡ (at - from) + (to - at) = omega arith in
     let d : from + (at - from) ≡ at = omega arith in

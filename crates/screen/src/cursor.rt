@@ -107,7 +107,7 @@ pub(crate) fn right(
 }
 
 // P9: "the next printed character first steps to the next line", where the cursor waits.
-pub(crate) fn awaited(
+pub fn awaited(
     frame: Frame,
     place: Place,
     cells: &mut [u8],

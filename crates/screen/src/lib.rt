@@ -1,12 +1,12 @@
 // Everything that acts on the selected screen alone: its cells, the layer, its cursor and window, the marks of its lines. What it needs of the settings
 // is a frame, which a caller keeps beside the selected screen's place and the marks, so that a printed byte copies no settings.
 pub mod cursor;
-mod lines;
+pub mod lines;
 mod logical;
-mod marks;
-mod places;
+pub mod marks;
+pub mod places;
 pub mod run;
-mod window;
+pub mod window;
 
 use model::Place;
 use model::Sequence;
@@ -102,7 +102,7 @@ pub fn print(
 }
 
 // The rest of it: the byte is stored where the cursor now stands, and the cursor moves right.
-fn print_here(
+pub fn print_here(
     frame: Frame,
     place: Place,
     code: u8,

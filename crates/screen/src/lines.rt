@@ -21,7 +21,7 @@ ghost use Rattle.screen.specs.Here.{cellIn};
 ghost use Rattle.screen.specs.Logical.{carried};
 
 // The cursor's cell.
-pub(crate) fn cell(frame: Frame, place: Place) -> usize
+pub fn cell(frame: Frame, place: Place) -> usize
     requires { ⌜ Stands frame place ⌝ }
     ensures { λ r. ⌜ r ≡ cellIn frame place ⌝ }
 {

@@ -36,7 +36,7 @@ pub(crate) fn empty_at(frame: Frame, shown: usize, layer: &mut [u8])
 }
 
 // The same of so many places in a row, as far as there are places.
-pub(crate) fn empty_from(frame: Frame, shown: usize, count: usize, layer: &mut [u8])
+pub fn empty_from(frame: Frame, shown: usize, count: usize, layer: &mut [u8])
     requires { ⌜ LayerOf frame (now layer) ⌝ }
     ensures { λ _. ⌜ now (layer .exit) ≡ unmarked shown count (now (layer .entry)) ⌝ }
 {

@@ -6,7 +6,7 @@ ghost use Rattle.screen.specs.Run.{furtherBy};
 ghost use Rattle.model.specs.State.{home, putAt, topAt, waitAt};
 
 // The cursor elsewhere, or put where it stands: it no longer waits.
-pub(crate) fn put_at(place: Place, line: u8, column: u8) -> Place
+pub fn put_at(place: Place, line: u8, column: u8) -> Place
     ensures { λ r. ⌜ r ≡ putAt line column place ⌝ }
 {
     Place {

@@ -56,7 +56,7 @@ fn block_prints(message: &[u8], at: usize, size: usize) -> bool
 }
 
 // Where the run that begins at an offset ends: at the first byte that does not print, or behind the last of the message.
-fn run_end(message: &[u8], at: usize) -> usize
+pub fn run_end(message: &[u8], at: usize) -> usize
     requires { ⌜ prints? (now message) at ≡ true ⌝ }
     ensures { λ r. ⌜ WholeRun (now (message .entry)) at r ⌝ }
 {

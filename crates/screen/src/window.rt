@@ -92,7 +92,7 @@ fn near(frame: Frame, place: Place) -> u8
 }
 
 // While tracking is on, "a window that misses the cursor's line".
-pub(crate) fn misses(frame: Frame, place: Place) -> bool
+pub fn misses(frame: Frame, place: Place) -> bool
     requires { ⌜ Stands frame place ⌝ }
     ensures { λ r. ⌜ Reads lost frame place r ⌝ }
 {

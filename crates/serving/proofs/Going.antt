@@ -35,7 +35,7 @@ module _ (mode : ℕ) where
   counted-at (Sequence q) n at c = refl
   counted-at (Refused k p) n at c = refl
 
-  printed-with : (i : Item) (at : ℕ) (c : Counts) → countsWith mode i at c .printed ≡ c .printed + printerBytes mode i
+  pub printed-with : (i : Item) (at : ℕ) (c : Counts) → countsWith mode i at c .printed ≡ c .printed + printerBytes mode i
   printed-with (Printed b) at c = omega arith
   printed-with (Control b) at c = omega arith
   printed-with (Sequence q) at c = refl

@@ -31,7 +31,7 @@ use Rattle.serving.proofs.Going.{Going, turn}
 
 module _ (m : List ℕ) (at : ℕ) (more : at < length m) (prints : 32 ≤ getD m at 0) where
   -- "Bytes 32 to 255 print": one byte, and what it is
-  own-one : ownBytes m at ≡ getD m at 0 ∷ []
+  pub own-one : ownBytes m at ≡ getD m at 0 ∷ []
   unfolding ownBytes needed
   own-one = ap (λ (l : List ℕ). take (needed l) l) (drop-cons m at 0 more) ∙ rw (ne-eqb (getD m at 0) 27 (λ e. omega arith))
 
@@ -42,7 +42,7 @@ module _ (m : List ℕ) (at : ℕ) (more : at < length m) (prints : 32 ≤ getD 
       ap (λ (t : Bool). elim (ltb 1 (cond t 2 1)) as (λ x. Item) [ true ↦ ended (b ∷ []) | false ↦ elim t as (λ x. Item) [ true ↦ kindOf (b ∷ []) .made (λ n. getD (b ∷ []) (n + 1) 0) (at + 2) | false ↦ elim (ltb b 32) as (λ x. Item) [ true ↦ Control b | false ↦ Printed b ] ] ]) (ne-eqb b 27 (λ e. omega arith))
       ∙ ap (λ (t : Bool). elim t as (λ x. Item) [ true ↦ Control b | false ↦ Printed b ]) (le-ltb b 32 prints)
 
-  is-printed : (s : Limits) (n : ℕ) → judged (itemOf at (ownBytes m at)) s n ≡ Printed (getD m at 0)
+  pub is-printed : (s : Limits) (n : ℕ) → judged (itemOf at (ownBytes m at)) s n ≡ Printed (getD m at 0)
   unfolding allowed fitting
   is-printed s n = ap (λ (l : List ℕ). judged (itemOf at l) s n) own-one ∙ ap (λ (i : Item). judged i s n) lone
 

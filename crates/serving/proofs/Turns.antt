@@ -60,7 +60,7 @@ stays-unprinted (Sequence q) st h =
 stays-unprinted (Refused n p) st h = refl
 
 -- a printed byte counts nothing, and nothing more is known of the layer after it
-printed-counts : (mode : ℕ) (i : Item) (at : ℕ) (c : Counts) → printed? i ≡ true → countsWith mode i at c ≡ c
+pub printed-counts : (mode : ℕ) (i : Item) (at : ℕ) (c : Counts) → printed? i ≡ true → countsWith mode i at c ≡ c
 printed-counts mode (Printed b) at c h = refl
 printed-counts mode (Control d) at c h = absurd (differ (sym h))
 printed-counts mode (Sequence q) at c h = absurd (differ (sym h))
@@ -73,7 +73,7 @@ printed-bare mode (Sequence q) b h = absurd (differ (sym h))
 printed-bare mode (Refused n p) b h = absurd (differ (sym h))
 
 -- an item that does not stay is no printed byte
-away : (i : Item) → staysOnScreen? i ≡ false → printed? i ≡ false
+pub away : (i : Item) → staysOnScreen? i ≡ false → printed? i ≡ false
 away (Printed b) h = h
 away (Control c) h = refl
 away (Sequence q) h = refl
@@ -85,7 +85,7 @@ unfolding withDots
 redotted st e h = λ i. record { settings = e i .settings; cells = e i .cells; layer = e i .layer; dots = h i }
 
 -- a frame that says otherwise of the layer
-abbrev bared : Frame → Bool → Frame
+abbrev pub bared : Frame → Bool → Frame
 bared f b = record { base = f .base; first = f .first; lines = f .lines; columns = f .columns; rows = f .rows; height = f .height; shift = f .shift; step = f .step; tracking = f .tracking; rule = f .rule; mode = f .mode; bare = b }
 
 framed-bared : {s : Settings} {f : Frame} (b : Bool) → Framed s f → Framed s (bared f b)
@@ -136,7 +136,7 @@ module _ (m cells₀ layer₀ dots₀ printer₀ : List ℕ) (s₀ : Settings) w
 
   module _ {cells layer dots printer : List ℕ} {s : Settings} {p : Place} {marks : List ℕ} {f : Frame} {c : Counts} {at : ℕ} (g : Loop cells layer dots printer s p marks f c at) where
     -- what stands
-    abbrev st : State
+    abbrev pub st : State
     st = state (withHere s p marks) cells layer dots
 
     pub marks-are : length marks ≡ 96
@@ -150,10 +150,10 @@ module _ (m cells₀ layer₀ dots₀ printer₀ : List ℕ) (s₀ : Settings) w
     in-mode = g .framed .mode-is
 
     module _ (more : at < length m) (r : Reading) (w : ReadAt m at (limitsIn f) (length printer - c .printed) r) where
-      abbrev rule : State → State
+      abbrev pub rule : State → State
       rule = applyItem (λ o. getD m o 0) (r .item)
 
-      is-item : r .item ≡ judged (itemOf at (ownBytes m at)) (limitsOf (withHere s p marks)) (length printer₀ - c .printed)
+      pub is-item : r .item ≡ judged (itemOf at (ownBytes m at)) (limitsOf (withHere s p marks)) (length printer₀ - c .printed)
       is-item = w .item-is ∙ (λ i. judged (itemOf at (ownBytes m at)) (limits i) (g .going .same-size i - c .printed))
 
       legal : legalItem? (r .item) (limitsOf (withHere s p marks)) ≡ true
@@ -205,13 +205,20 @@ module _ (m cells₀ layer₀ dots₀ printer₀ : List ℕ) (s₀ : Settings) w
         wiped : dots₁ ≡ dotsThen (s .mode) (r .item) dots
         wiped = y ∙ ap (λ (n : ℕ). dotsThen n (r .item) dots) in-mode
 
+        -- what then stands: after a run, and after another item of the selected screen
+        pub ran-to : printed? (r .item) ≡ true → printedAll (take (v .at - at) (drop at m)) st ≡ state (withHere s (v .place) marks₁) cells₁ layer₁ dots₁
+        ran-to h = carried-here dots (g .framed) (d .run h .acts) ∙ ap (state (withHere s (v .place) marks₁) cells₁ layer₁) (sym (y ∙ printed-spares (f .mode) (r .item) dots h))
+
+        pub moved-to : printed? (r .item) ≡ false → staysOnScreen? (r .item) ≡ true → rule st ≡ state (withHere s (v .place) marks₁) cells₁ layer₁ dots₁
+        moved-to n h = redotted (rule st) (carried-here dots (g .framed) (d .acts n h (λ o. getD m o 0))) (sym (stays-dots (λ o. getD m o 0) (r .item) st h) ∙ sym wiped)
+
         ran : printed? (r .item) ≡ true → Next (v .at)
         ran h =
             let u = d .run h in
             let q = u .run .printing in
             let n : at + (v .at - at) ≡ v .at = omega (arith, q .some) in
             let g₂ = run m (state s₀ cells₀ layer₀ dots₀) printer₀ (v .at - at) at st c printer (g .going) (omega (arith, n, q .inside)) (λ j x y. q .print j x (omega (arith, n, y))) in
-            let g₃ = subst (λ (x : State). Going m (state s₀ cells₀ layer₀ dots₀) printer₀ (v .at) x c printer) (carried-here dots (g .framed) (u .acts) ∙ ap (state (withHere s (v .place) marks₁) cells₁ layer₁) (sym (y ∙ printed-spares (f .mode) (r .item) dots h)))
+            let g₃ = subst (λ (x : State). Going m (state s₀ cells₀ layer₀ dots₀) printer₀ (v .at) x c printer) (ran-to h)
             (subst (λ (x : ℕ). Going m (state s₀ cells₀ layer₀ dots₀) printer₀ x (printedAll (take (v .at - at) (drop at m)) st) c printer) n g₂) in
             record {
               going = subst (λ (x : Counts). Going m (state s₀ cells₀ layer₀ dots₀) printer₀ (v .at) (state (withHere s (v .place) marks₁) cells₁ layer₁ dots₁) x printer) (sym (k ∙ printed-counts (f .mode) (r .item) at c h)) g₃;
@@ -224,7 +231,7 @@ module _ (m cells₀ layer₀ dots₀ printer₀ : List ℕ) (s₀ : Settings) w
         moved : printed? (r .item) ≡ false → staysOnScreen? (r .item) ≡ true → Next (v .at)
         moved n h =
             let a = d .acts n h (λ o. getD m o 0) in
-            let e = redotted (rule st) (carried-here dots (g .framed) a) (sym (stays-dots (λ o. getD m o 0) (r .item) st h) ∙ sym wiped) in
+            let e = moved-to n h in
             let l : rule st .layer ≡ layer₁ = ap (λ (x : State). x .layer) e in
             let known : b ≡ true → layer₁ ≡ replicate 1280 0 =
             λ x. sym l ∙ bare-left (r .item) (f .bare) (λ o. getD m o 0) st (sym bare-here ∙ x) (λ y. ((λ off. g .ready .layer-are .empty y), (λ on. l ∙ a .ready .layer-are .empty y))) in
@@ -273,6 +280,9 @@ module _ (m cells₀ layer₀ dots₀ printer₀ : List ℕ) (s₀ : Settings) w
             pub good : Good (state s₂ cells₂ layer₂ dots₂)
             good = subst Good (sym done) (obeyed-item (λ o. getD m o 0) (r .item) st (g .going .good) legal .good)
 
+            pub changed-to : {p₂ : Place} → p₂ ≡ placeOf s₂ (s₂ .selected) → state (withHere s₂ p₂ (s₂ .marks)) cells₂ layer₂ dots₂ ≡ rule st
+            changed-to {p₂} i = ap (λ (x : Settings). state x cells₂ layer₂ dots₂) (same-here s₂ p₂ (s₂ .marks) (sym i) refl) ∙ done
+
             pub changed : {p₂ : Place} {f₂ : Frame} → p₂ ≡ placeOf s₂ (s₂ .selected) → (FrameOf s₂ f₂) × (f₂ .bare ≡ b) → Loop cells₂ layer₂ dots₂ printer₂ s₂ p₂ (s₂ .marks) f₂ c′ (v .at)
             changed {p₂} {f₂} i q =
                 let l : rule st .layer ≡ layer₂ = ap (λ (x : State). x .layer) (sym done) in
@@ -281,7 +291,7 @@ module _ (m cells₀ layer₀ dots₀ printer₀ : List ℕ) (s₀ : Settings) w
                 subst (λ (x : ℕ). Loop cells₂ layer₂ dots₂ printer₂ s₂ p₂ (s₂ .marks) f₂ c′ x) (sym (d .next (away (r .item) h)))
                 (obeyed (q .0 .framed)
                 (record { stands = subst (Stands f₂) (sym i) (q .0 .stands); cells-are = good .cells-are; layer-are = record { size = good .layer-are; empty = known } })
-                (ap (λ (x : Settings). state x cells₂ layer₂ dots₂) (same-here s₂ p₂ (s₂ .marks) (sym i) refl) ∙ done) (a .prints ∙ ap (λ (x : State). put (c .printed) (copyOf (r .item) x) printer) same) k)
+                (changed-to i) (a .prints ∙ ap (λ (x : State). put (c .printed) (copyOf (r .item) x) printer) same) k)
 
     pub end : (r : Outcome) {shown : List ℕ} → length m ≤ at → r .settings ≡ withHere s p marks → r .answer ≡ answerAt at c → shown ≡ painting (state (withHere s p marks) cells layer dots)
         → Serves m (state s₀ cells₀ layer₀ dots₀) printer₀ r cells layer dots shown printer

@@ -23,7 +23,7 @@ use screen::Frame;
 use screen::run::Run;
 
 // The item at an offset, judged by the selected screen's limits.
-pub(crate) fn read_at(frame: Frame, room: usize, message: &[u8], at: usize) -> Reading
+pub fn read_at(frame: Frame, room: usize, message: &[u8], at: usize) -> Reading
     requires { ⌜ at < length (now message) ⌝ }
     requires { ⌜ length (now message) ≤ 4096 ⌝ }
     ensures { λ r. ⌜ ReadAt (now (message .entry)) at (limitsIn frame) room r ⌝ }
@@ -38,7 +38,7 @@ pub(crate) fn read_at(frame: Frame, room: usize, message: &[u8], at: usize) -> R
 }
 
 // Whether an item acts on the selected screen alone.
-pub(crate) fn stays(item: Item) -> bool
+pub fn stays(item: Item) -> bool
     ensures { λ r. ⌜ r ≡ staysOnScreen? item ⌝ }
 {
     match item {
@@ -51,7 +51,7 @@ pub(crate) fn stays(item: Item) -> bool
 
 // What an item at an offset, with so many bytes, does on the selected screen: where the cursor and the window are then, and where the next item
 // begins. A printed byte begins a run, and all of it is printed at once. An item that does not stay leaves all as it is.
-pub(crate) fn act(
+pub fn act(
     frame: Frame,
     place: Place,
     item: Item,
@@ -83,7 +83,7 @@ pub(crate) fn act(
 }
 
 // "42 in mode 3 .. clear[s] the dots", and so does code 12. Any other item leaves them here.
-pub(crate) fn wipe_after(mode: u8, item: Item, dots: &mut [u8])
+pub fn wipe_after(mode: u8, item: Item, dots: &mut [u8])
     requires { ⌜ length (now dots) ≡ 3840 ⌝ }
     ensures { λ _. ⌜ now (dots .exit) ≡ dotsThen mode item (now (dots .entry)) ⌝ }
 {
@@ -111,7 +111,7 @@ fn is_clear(q: Sequence) -> bool
 }
 
 // What is known of the layer after an item: it is empty (true), or nothing is known of it.
-pub(crate) fn bare_after(mode: u8, item: Item, bare: bool) -> bool
+pub fn bare_after(mode: u8, item: Item, bare: bool) -> bool
     ensures { λ r. ⌜ r ≡ bareThen mode item bare ⌝ }
 {
     match item {
@@ -155,7 +155,7 @@ fn bare_then(mode: u8, q: Sequence, bare: bool) -> bool
 
 // "A refused sequence changes nothing but the counts and the first refusal": the accepted case is taken apart, else, and where it is idle, the settings
 // are those that were given.
-pub(crate) fn apply(
+pub fn apply(
     settings: Settings,
     item: Item,
     message: &[u8],

@@ -11,7 +11,7 @@ use model::Item;
 use model::Sequence;
 
 // None yet.
-pub(crate) fn no_counts() -> Counts
+pub fn no_counts() -> Counts
     ensures { λ r. ⌜ r ≡ noCounts ⌝ }
 {
     Counts {
@@ -25,14 +25,14 @@ pub(crate) fn no_counts() -> Counts
 }
 
 // Whether a sequence is 80.
-pub(crate) fn is_copy(q: Sequence) -> bool
+pub fn is_copy(q: Sequence) -> bool
     ensures { λ r. ⌜ r ≡ eqb (codeOf q) 80 ⌝ }
 {
     if let Sequence::Copy = q { true } else { false }
 }
 
 // One item more, read in a mode at an offset: "sequences accepted, sequences refused, number and offset of the first refusal .., printer bytes".
-pub(crate) fn count(counts: Counts, mode: u8, item: Item, at: usize) -> Counts
+pub fn count(counts: Counts, mode: u8, item: Item, at: usize) -> Counts
     requires { ⌜ Countable counts mode item at ⌝ }
     ensures { λ r. ⌜ r ≡ countsWith mode item at counts ⌝ }
 {
@@ -92,7 +92,7 @@ fn refuse(counts: Counts, number: u8, parameter: u8, at: u32) -> Counts
 }
 
 // The answer when all bytes are taken.
-pub(crate) fn answer_of(counts: Counts, taken: usize) -> Answer
+pub fn answer_of(counts: Counts, taken: usize) -> Answer
     requires { ⌜ taken < 5000 ⌝ }
     ensures { λ r. ⌜ r ≡ answerAt taken counts ⌝ }
 {

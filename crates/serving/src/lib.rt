@@ -1,8 +1,8 @@
 // The message loop: items read one after the other, each obeyed, counted and, for a copy, printed; then the picture is painted. What is idle in the
 // mode is counted: of these the ones of the selected screen change nothing by themselves, and `apply` leaves the others.
-mod acting;
-mod counting;
-mod places;
+pub mod acting;
+pub mod counting;
+pub mod places;
 
 ghost use mathlib.Core.Path.{_≡_};
 ghost use mathlib.Core.Bool.{true};

@@ -8,7 +8,7 @@ use model::Place;
 use model::Settings;
 
 // The selected screen's place.
-pub(crate) fn selected_place(settings: Settings) -> Place
+pub fn selected_place(settings: Settings) -> Place
     requires { ⌜ settings .selected < 2 ⌝ }
     ensures { λ r. ⌜ r ≡ placeOf settings (settings .selected) ⌝ }
 {
@@ -18,7 +18,7 @@ pub(crate) fn selected_place(settings: Settings) -> Place
 }
 
 // Both places, the selected screen's anew.
-pub(crate) fn placed(settings: Settings, place: Place) -> [Place; 2]
+pub fn placed(settings: Settings, place: Place) -> [Place; 2]
     requires { ⌜ settings .selected < 2 ⌝ }
     ensures { λ r. ⌜ r ≡ set (settings .places) (settings .selected) place ⌝ }
 {

@@ -47,7 +47,7 @@ pub(crate) fn opening_number(
 
 // "Calls are checked in the order 1, 2, 3"; 16, "a whole message while bytes wait", is after 3: the number of a message call.
 // 3 is asked part by part, and of a line on which none waits by its own short test: so the way of a message that is served is inlined.
-pub(crate) fn call_number(
+pub fn call_number(
     settings: Settings,
     message: &[u8],
     cells: &[u8],

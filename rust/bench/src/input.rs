@@ -14,6 +14,8 @@ pub enum Kind {
     Lifts,
     Pieces,
     Line,
+    Short,
+    Weight,
 }
 
 /// One line of the benchmark.
@@ -33,6 +35,8 @@ impl Case {
             Kind::Lifts => format!("lifts-{size}-mode-{mode}"),
             Kind::Pieces => format!("pieces-{size}-mode-{mode}"),
             Kind::Line => format!("line-{size}-mode-{mode}"),
+            Kind::Short => format!("short-{size}-mode-{mode}"),
+            Kind::Weight => format!("short-weight-{size}-mode-{mode}"),
         }
     }
 
@@ -80,7 +84,8 @@ impl Case {
         let mut random = Random(2 + self.size as u64);
         let mut message = |size: usize| match self.kind {
             Kind::Paint => Vec::new(),
-            Kind::Text => random.text(size),
+            Kind::Text | Kind::Short => random.text(size),
+            Kind::Weight => [vec![13], random.digits(size)].concat(),
             Kind::Mixed => random.mixed(size),
             Kind::Lifts => vec![10; size],
             Kind::Pieces => random.pieces(size),

@@ -27,6 +27,16 @@ pub trait Calls: Clone {
         dots: &mut [u8],
     ) -> (Self::Settings, bool);
 
+    /// A short message, as a message.
+    fn message_short(
+        settings: Self::Settings,
+        message: &[u8],
+        cells: &mut [u8],
+        layer: &mut [u8],
+        shown: &mut [u8],
+        dots: &mut [u8],
+    ) -> (Self::Settings, bool);
+
     /// A piece, as a message.
     fn piece(
         settings: Self::Settings,
@@ -77,6 +87,18 @@ impl Calls for Board {
         dots: &mut [u8],
     ) -> (px8::Settings, bool) {
         let (after, answer) = px8::message(settings, message, cells, layer, shown, dots, &mut []);
+        (after, answer.number == 0 && answer.refused == 0)
+    }
+
+    fn message_short(
+        settings: px8::Settings,
+        message: &[u8],
+        cells: &mut [u8],
+        layer: &mut [u8],
+        shown: &mut [u8],
+        dots: &mut [u8],
+    ) -> (px8::Settings, bool) {
+        let (after, answer) = px8::message_short(settings, message, cells, layer, shown, dots, &mut []);
         (after, answer.number == 0 && answer.refused == 0)
     }
 
@@ -139,6 +161,18 @@ impl Calls for Plain {
         (after, answer.number == 0 && answer.refused == 0)
     }
 
+    fn message_short(
+        settings: tuned::Settings,
+        message: &[u8],
+        cells: &mut [u8],
+        layer: &mut [u8],
+        shown: &mut [u8],
+        dots: &mut [u8],
+    ) -> (tuned::Settings, bool) {
+        let (after, answer) = tuned::message_short(settings, message, cells, layer, shown, dots, &mut []);
+        (after, answer.number == 0 && answer.refused == 0)
+    }
+
     fn piece(
         settings: tuned::Settings,
         piece: &[u8],
@@ -197,6 +231,13 @@ impl<C: Calls> Side<C> {
             side.message(message);
         }
         side
+    }
+
+    pub fn message_short(&mut self, message: &[u8]) {
+        let Side { settings, cells, layer, shown, dots, .. } = self;
+        let (after, clean) = C::message_short(*settings, message, cells, layer, shown, dots);
+        self.settings = after;
+        self.clean &= clean;
     }
 
     pub fn piece(&mut self, piece: &[u8]) {

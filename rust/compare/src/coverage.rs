@@ -12,6 +12,7 @@ mod lines;
 mod list;
 mod packs;
 mod parameters;
+mod short;
 mod streams;
 
 use self::before::Before;
@@ -22,6 +23,7 @@ use self::lines::Lines;
 use self::list::{CLASSES, JUDGED};
 use self::packs::Packs;
 use self::parameters::Parameters;
+use self::short::Short;
 use self::streams::Streams;
 use crate::generate::dots::MODE_3_FAULTS;
 use crate::generate::late::RULE_FAULTS;
@@ -52,8 +54,9 @@ pub struct Coverage {
     late: Late,
     dots: Dots,
     packs: Packs,
-    /// cells, layer and dots
-    stores: [Vec<u8>; 3],
+    short: Short,
+    /// cells, layer, shown screen and dots
+    stores: [Vec<u8>; 4],
 }
 
 impl Coverage {
@@ -86,7 +89,7 @@ impl Coverage {
             }
         }
         coverage.expect_ends();
-        for call in ["opening", "message", "piece", "closing", "pack"] {
+        for call in ["opening", "message", "short message", "piece", "closing", "pack"] {
             for store in STORE_NAMES {
                 for size in ["empty", "short", "long"] {
                     coverage.sizes.insert(format!("{call}, {store} {size}"), 0);
@@ -138,9 +141,9 @@ impl Coverage {
         self.count_if(count == length && length > 0, "printer call of the whole buffer");
     }
 
-    /// Keeps cells, layer and dots as they stand before a call.
-    pub fn remember(&mut self, [cells, layer, _, dots]: &[Vec<u8>; 4]) {
-        for (kept, store) in self.stores.iter_mut().zip([cells, layer, dots]) {
+    /// Keeps the stores as they stand before a call.
+    pub fn remember(&mut self, stores: &[Vec<u8>; 4]) {
+        for (kept, store) in self.stores.iter_mut().zip(stores) {
             kept.clone_from(store);
         }
     }
@@ -157,6 +160,10 @@ impl Coverage {
                 self.numbers(call, settings, answer);
                 self.lengths(call);
                 self.count_sizes("message", call.sizes);
+            }
+            Kind::Short => {
+                self.short.call(call, settings, answer);
+                self.count_sizes("short message", call.sizes);
             }
             Kind::Piece => self.count_sizes("piece", call.sizes),
             Kind::Closing => self.count_sizes("closing", call.sizes),
@@ -231,13 +238,19 @@ impl Coverage {
     /// Reads what an accepted call reads, item by item.
     fn walk(&mut self, call: &Call, settings: &Settings) {
         let mut stores = std::mem::take(&mut self.stores);
-        let [cells, layer, dots] = &mut stores;
+        let [cells, layer, shown, dots] = &mut stores;
         let mut printer = vec![0; call.room];
         let mut standing =
             Standing { settings: *settings, cells, layer, dots, printer: &mut printer, printed: 0 };
         let mut refusals = Vec::new();
+        if call.kind == Kind::Short {
+            self.short.begins(&standing, shown);
+        }
         for bytes in parts(call, settings) {
             self.walk_part(call, settings, &bytes, &mut standing, &mut refusals);
+        }
+        if call.kind == Kind::Short {
+            self.short.ends(&call.message, &standing);
         }
         self.key_line.painted(&standing);
         self.parameters.several(&refusals);
@@ -261,6 +274,9 @@ impl Coverage {
             let (item, length) = read(rest, &standing.settings, call.room - standing.printed);
             let before = Before::of(standing);
             standing.apply(&item);
+            if call.kind == Kind::Short {
+                self.short.item(&item, rest.get(1), &before, standing);
+            }
             if call.kind == Kind::Piece && offset == 0 {
                 self.finished(&item, settings);
             }
@@ -359,6 +375,7 @@ impl Coverage {
         lines.extend(self.late.lines());
         lines.extend(self.dots.lines());
         lines.extend(self.packs.lines());
+        lines.extend(self.short.lines());
         lines.extend(self.unsound.iter().map(|(name, &count)| (format!("unsound: {name}"), count)));
         lines.extend(self.sizes.iter().map(|(name, &count)| (format!("size: {name}"), count)));
         lines

@@ -9,6 +9,7 @@
 //! - `late`: the late wrap
 //! - `dots`: mode 3
 //! - `packs`: packs of messages
+//! - `shorts`: short messages
 
 pub mod dots;
 mod keyline;
@@ -18,6 +19,7 @@ mod messages;
 pub mod packs;
 pub mod sequences;
 mod settings;
+mod shorts;
 pub mod streams;
 
 pub use messages::{message, Belief};
@@ -33,6 +35,8 @@ pub const STORE_NAMES: [&str; 4] = ["cells", "layer", "shown", "dots"];
 #[derive(Clone, Copy, Debug, PartialEq, Eq)]
 pub enum Kind {
     Message,
+    /// a message that paints less
+    Short,
     Piece,
     Closing,
     Pack,
@@ -52,15 +56,13 @@ pub struct Call {
     pub room: usize,
 }
 
-/// `line` is what is still to come of the stream; a piece is its first part.
-pub fn call(random: &mut Random, settings: &Settings, line: &mut Vec<u8>) -> Call {
-    let kind = match random.below(20) {
-        0..=1 => keyline::kind(random),
-        2..=4 => Kind::Pack,
-        _ => streams::kind(random, settings),
-    };
+/// `line` is what is still to come of the stream; a piece is its first part. With
+/// `shorts` most calls are short messages.
+pub fn call(random: &mut Random, settings: &Settings, line: &mut Vec<u8>, shorts: bool) -> Call {
+    let kind = kind(random, settings, shorts);
     let message = match kind {
         Kind::Message => message(random, settings),
+        Kind::Short => shorts::message(random, settings),
         Kind::Piece => streams::piece(random, settings, line),
         Kind::Pack => packs::pack(random, settings),
         Kind::Closing | Kind::Opening(_) => Vec::new(),
@@ -73,9 +75,21 @@ pub fn call(random: &mut Random, settings: &Settings, line: &mut Vec<u8>) -> Cal
     // a key text has no store
     let stores = !matches!(kind, Kind::KeyText(_));
     let sizes = if stores && random.one_in(often_sized) { wrong_sizes(random) } else { SIZES };
-    let prints = matches!(kind, Kind::Message | Kind::Piece | Kind::Pack);
+    let prints = matches!(kind, Kind::Message | Kind::Short | Kind::Piece | Kind::Pack);
     let room = if prints { room(random, settings.mode) } else { 0 };
     Call { kind, settings: broken, sizes, message, room }
+}
+
+fn kind(random: &mut Random, settings: &Settings, shorts: bool) -> Kind {
+    // while bytes wait a short message is only refused
+    let waits = settings.held > 0 && !random.one_in(4);
+    match random.below(20) {
+        0..=1 => keyline::kind(random),
+        2..=17 if shorts && !waits => Kind::Short,
+        2..=4 => Kind::Pack,
+        5..=8 if !waits => Kind::Short,
+        _ => streams::kind(random, settings),
+    }
 }
 
 /// One store of another size, now and then all four.

@@ -6,6 +6,7 @@
 //! - `generate`: starts, settings, messages and calls
 //! - `play`: plays the lists on both sides and looks for a difference
 //! - `coverage`: counts what the lists reached
+//! - `short`: what document 02 says of a short message, asked of each that is served
 //! - `report`: a whole comparison with its words, for a program's main
 //! - `breaks`: deliberately broken copies, to show that the lists find them
 //! - `vectors`: the named cases
@@ -23,6 +24,7 @@ pub mod play;
 pub mod random;
 pub mod report;
 pub mod screens;
+pub mod short;
 pub mod streams;
 pub mod traces;
 pub mod vectors;
@@ -44,6 +46,17 @@ pub trait Terminal {
     ) -> (Settings, u8);
 
     fn message(
+        &mut self,
+        settings: Settings,
+        message: &[u8],
+        cells: &mut [u8],
+        layer: &mut [u8],
+        shown: &mut [u8],
+        dots: &mut [u8],
+        printer: &mut [u8],
+    ) -> (Settings, Answer);
+
+    fn message_short(
         &mut self,
         settings: Settings,
         message: &[u8],
@@ -98,6 +111,7 @@ pub struct Functions {
     pub name: &'static str,
     pub opening: OpeningCall,
     pub message: MessageCall,
+    pub message_short: MessageCall,
     pub piece: MessageCall,
     pub closing: ClosingCall,
     pub pack: PackCall,
@@ -117,6 +131,7 @@ pub const REFERENCE: Functions = Functions {
     name: "reference",
     opening: reference::opening,
     message: reference::message,
+    message_short: reference::message_short,
     piece: reference::piece,
     closing: reference::closing,
     pack: reference::pack,
@@ -128,6 +143,7 @@ pub const TUNED: Functions = Functions {
     name: "tuned",
     opening: tuned::opening,
     message: tuned::message,
+    message_short: tuned::message_short,
     piece: tuned::piece,
     closing: tuned::closing,
     pack: tuned::pack,
@@ -164,6 +180,19 @@ impl Terminal for Functions {
         printer: &mut [u8],
     ) -> (Settings, Answer) {
         (self.message)(settings, message, cells, layer, shown, dots, printer)
+    }
+
+    fn message_short(
+        &mut self,
+        settings: Settings,
+        message: &[u8],
+        cells: &mut [u8],
+        layer: &mut [u8],
+        shown: &mut [u8],
+        dots: &mut [u8],
+        printer: &mut [u8],
+    ) -> (Settings, Answer) {
+        (self.message_short)(settings, message, cells, layer, shown, dots, printer)
     }
 
     fn piece(

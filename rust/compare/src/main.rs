@@ -77,6 +77,19 @@ impl Terminal for Guarded {
         guarded(settings, || self.0.message(settings, message, cells, layer, shown, dots, printer))
     }
 
+    fn message_short(
+        &mut self,
+        settings: Settings,
+        message: &[u8],
+        cells: &mut [u8],
+        layer: &mut [u8],
+        shown: &mut [u8],
+        dots: &mut [u8],
+        printer: &mut [u8],
+    ) -> (Settings, Answer) {
+        guarded(settings, || self.0.message_short(settings, message, cells, layer, shown, dots, printer))
+    }
+
     fn piece(
         &mut self,
         settings: Settings,

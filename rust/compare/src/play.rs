@@ -4,6 +4,7 @@ use crate::coverage::Coverage;
 use crate::generate::late::no_rule;
 use crate::generate::{self, Call, Kind, SIZES};
 use crate::random::Random;
+use crate::short::{Moment, Served};
 use crate::Terminal;
 use reference::settings::OPENING;
 use reference::{Answer, Settings};
@@ -59,6 +60,8 @@ struct Game<'a> {
     random: Random,
     /// what is still to come of the stream
     line: Vec<u8>,
+    /// a list of short messages mostly, with a glass that is spoilt now and then
+    shorts: bool,
     calls: u64,
 }
 
@@ -76,7 +79,7 @@ pub fn run(
     let side = Side { settings: OPENING, stores: SIZES.map(|size| vec![0; size]) };
     let sides = [side.clone(), side];
     let random = Random::of_list(plan.seed, 0);
-    let mut game = Game { left, right, coverage, sides, random, line: Vec::new(), calls: 0 };
+    let mut game = Game { left, right, coverage, sides, random, line: Vec::new(), shorts: false, calls: 0 };
     let mut list = plan.list;
     let mut next_line = plan.progress;
     while game.calls < plan.calls {
@@ -94,6 +97,7 @@ impl Game<'_> {
     fn list(&mut self, plan: &Plan, list: u64) -> Result<(), Box<Difference>> {
         self.random = Random::of_list(plan.seed, list);
         self.line.clear();
+        self.shorts = self.random.one_in(6);
         let before = self.calls;
         let found = self.start().and_then(|()| {
             for _ in 0..self.random.between(1, 24) {
@@ -160,13 +164,17 @@ impl Game<'_> {
         Ok(())
     }
 
-    /// A message, a piece, a closing, a pack or a key text.
+    /// A message, a short one, a piece, a closing, a pack or a key text.
     fn one_call(&mut self) -> Found {
-        let call = generate::call(&mut self.random, &self.sides[0].settings, &mut self.line);
+        let Game { sides, random, line, shorts, .. } = self;
+        let call = generate::call(random, &sides[0].settings, line, *shorts);
         self.calls += 1;
         let settings = call.settings.map_or(self.sides[0].settings, |(_, broken)| broken);
         let mut printer = vec![0; call.room];
         self.random.fill(&mut printer);
+        if self.shorts && self.random.one_in(2) {
+            self.spoil();
+        }
         if let Some(coverage) = &mut self.coverage {
             coverage.remember(&self.sides[0].stores);
         }
@@ -183,6 +191,13 @@ impl Game<'_> {
         found.map_err(|what| Box::new((what, call.kind, settings, call.room, call.message)))
     }
 
+    /// Any bytes on the glass: what is painted of it must not hang on what it showed.
+    fn spoil(&mut self) {
+        let Game { sides: [left, right], random, .. } = self;
+        random.fill(&mut left.stores[2]);
+        right.stores[2].clone_from(&left.stores[2]);
+    }
+
     /// Makes the call on both sides and compares everything it leaves.
     fn both(
         &mut self,
@@ -193,6 +208,7 @@ impl Game<'_> {
     ) -> Result<(), String> {
         let mut other_printer = printer.clone();
         let [left, right] = given;
+        let short = (call.kind == Kind::Short).then(|| (left.clone(), printer.clone()));
         let answers = [
             made(self.left, call, settings, left, &mut printer),
             made(self.right, call, settings, right, &mut other_printer),
@@ -203,20 +219,31 @@ impl Game<'_> {
             same(name, &left[store], &right[store])?;
         }
         same("printer", &printer, &other_printer)?;
+        if let Some((stores, buffer)) = short.filter(|_| answer.number == 0) {
+            let before = Moment { settings: &settings, stores: &stores };
+            let after = Moment { settings: &after, stores: left };
+            let (message, buffer, printer) = (&call.message[..], &buffer[..], &printer[..]);
+            Served { message, buffer, before, after, answer, printer }.keeps_the_sentences()?;
+        }
         self.printer_call(&printer, &other_printer, answer.printed)?;
         if let Some(coverage) = &mut self.coverage {
             coverage.call(call, &settings, &answer, record);
         }
         if answer.number == 0 {
-            self.sides[0].settings = after;
-            self.sides[1].settings = after;
-            match call.kind {
-                Kind::Message | Kind::Pack | Kind::KeyText(_) | Kind::Opening(_) => {}
-                Kind::Piece => drop(self.line.drain(..call.message.len())),
-                Kind::Closing => self.line.clear(),
-            }
+            self.go_on(call, after);
         }
         Ok(())
+    }
+
+    /// What a served call leaves for the next.
+    fn go_on(&mut self, call: &Call, after: Settings) {
+        self.sides[0].settings = after;
+        self.sides[1].settings = after;
+        match call.kind {
+            Kind::Message | Kind::Short | Kind::Pack | Kind::KeyText(_) | Kind::Opening(_) => {}
+            Kind::Piece => drop(self.line.drain(..call.message.len())),
+            Kind::Closing => self.line.clear(),
+        }
     }
 
     /// The printer call: the copies, and a count at or beyond the end.
@@ -255,6 +282,7 @@ fn made(
     let [cells, layer, shown, dots] = stores;
     let (after, answer) = match call.kind {
         Kind::Message => terminal.message(settings, &call.message, cells, layer, shown, dots, printer),
+        Kind::Short => terminal.message_short(settings, &call.message, cells, layer, shown, dots, printer),
         Kind::Piece => terminal.piece(settings, &call.message, cells, layer, shown, dots, printer),
         Kind::Closing => terminal.closing(settings, cells, layer, shown, dots),
         Kind::Pack => return terminal.pack(settings, &call.message, cells, layer, shown, dots, printer),

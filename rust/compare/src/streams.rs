@@ -17,6 +17,7 @@ pub const CLASSES: &[&str] = &[
     "a piece ends inside a sequence", "a piece ends after 27, 209", "closed on 27, 209", "closed by 12",
     "longer than a message", "a refusal", "a refusal in a later piece", "copies in several pieces", "scarce room and a refusal: nothing said",
     "refused between: 1", "refused between: 2", "refused between: 3", "refused between: 16", "refused between: 17", "refused between: 20",
+    "refused between: 16 of a short message",
 ];
 
 /// What stands, and what came of all calls together.
@@ -156,35 +157,8 @@ impl Stream<'_> {
     /// A call that has to be refused, and so to change nothing.
     fn refused_call(&mut self, random: &mut Random, classes: &mut Classes) -> Result<(), String> {
         let before = self.run.clone();
-        let Run { settings, stores: [cells, layer, shown, dots], .. } = &mut self.run;
-        let (terminal, unsound) = (&mut *self.terminal, Settings { step: 0, ..*settings });
-        let (given, (after, answer), class) = match random.below(6) {
-            0 => (
-                *settings,
-                terminal.closing(*settings, &mut cells[1..], layer, shown, dots),
-                "refused between: 1",
-            ),
-            1 => (
-                *settings,
-                terminal.piece(*settings, &[65; 4097], cells, layer, shown, dots, &mut []),
-                "refused between: 2",
-            ),
-            2 => (
-                unsound,
-                terminal.message(unsound, &[65], cells, layer, shown, dots, &mut []),
-                "refused between: 3",
-            ),
-            3 => (*settings, terminal.key_text(*settings, 0, &[65; 8]), "refused between: 17"),
-            4 => {
-                let cut = terminal.pack(*settings, &[65], cells, layer, shown, dots, &mut []);
-                (*settings, (cut.0, cut.1), "refused between: 20")
-            }
-            _ if settings.held == 0 => return Ok(()),
-            _ => (
-                *settings,
-                terminal.message(*settings, &[65], cells, layer, shown, dots, &mut []),
-                "refused between: 16",
-            ),
+        let Some((given, (after, answer), class)) = self.refusing(random) else {
+            return Ok(());
         };
         classes.count(class);
         let expected = Answer { number: answer.number, ..Answer::default() };
@@ -193,6 +167,43 @@ impl Stream<'_> {
             return Err(format!("{class}: {answer:?}, or something changed"));
         }
         Ok(())
+    }
+
+    /// The settings given to such a call, what it returned, and its class; none where
+    /// no byte waits and it would be served.
+    fn refusing(&mut self, random: &mut Random) -> Option<(Settings, (Settings, Answer), &'static str)> {
+        let Run { settings, stores: [cells, layer, shown, dots], .. } = &mut self.run;
+        let (terminal, settings) = (&mut *self.terminal, *settings);
+        let unsound = Settings { step: 0, ..settings };
+        let (given, returned, class) = match random.below(7) {
+            0 => {
+                let closed = terminal.closing(settings, &mut cells[1..], layer, shown, dots);
+                (settings, closed, "refused between: 1")
+            }
+            1 => {
+                let piece = terminal.piece(settings, &[65; 4097], cells, layer, shown, dots, &mut []);
+                (settings, piece, "refused between: 2")
+            }
+            2 => {
+                let message = terminal.message(unsound, &[65], cells, layer, shown, dots, &mut []);
+                (unsound, message, "refused between: 3")
+            }
+            3 => (settings, terminal.key_text(settings, 0, &[65; 8]), "refused between: 17"),
+            4 => {
+                let cut = terminal.pack(settings, &[65], cells, layer, shown, dots, &mut []);
+                (settings, (cut.0, cut.1), "refused between: 20")
+            }
+            _ if settings.held == 0 => return None,
+            5 => {
+                let short = terminal.message_short(settings, &[65], cells, layer, shown, dots, &mut []);
+                (settings, short, "refused between: 16 of a short message")
+            }
+            _ => {
+                let message = terminal.message(settings, &[65], cells, layer, shown, dots, &mut []);
+                (settings, message, "refused between: 16")
+            }
+        };
+        Some((given, returned, class))
     }
 }
 

@@ -15,8 +15,8 @@
 //!   empty body. Kind 5: a key text call; the body is the key's number, eight
 //!   bytes, little-endian, and the text. Kind 6: an opening call on the stores
 //!   as they stand; the body is the rule, eight bytes, little-endian, and what
-//!   it returns is used from then on. Kind 7: a pack call. `vectors --every N`
-//!   leaves out the cases that have these.
+//!   it returns is used from then on. Kind 7: a pack call. Kind 8: a short message,
+//!   as a message call. `vectors --every N` leaves out the cases that have these.
 //!
 //! The text (`vectors`) has for each case, in order:
 //! - a line `case NAME`,
@@ -38,6 +38,7 @@ mod parameters;
 mod ranges;
 mod refusals;
 mod scenes;
+mod short;
 mod streams;
 
 use crate::generate::packs::put;
@@ -53,6 +54,7 @@ pub const CLOSING: u16 = 4;
 pub const KEY_TEXT: u16 = 5;
 pub const OPENING: u16 = 6;
 pub const PACK: u16 = 7;
+pub const SHORT: u16 = 8;
 
 pub struct Case {
     pub name: String,
@@ -113,6 +115,7 @@ pub fn cases() -> Vec<Case> {
     late::cases(&mut cases);
     dots::cases(&mut cases);
     packs::cases(&mut cases);
+    short::cases(&mut cases);
     cases.0
 }
 
@@ -130,6 +133,7 @@ pub fn recording(cases: &[Case]) -> Vec<u8> {
             }
             match kind {
                 Kind::Message => put(&mut bytes, MESSAGE, message),
+                Kind::Short => put(&mut bytes, SHORT, message),
                 Kind::Piece => put(&mut bytes, PIECE, message),
                 Kind::Closing => put(&mut bytes, CLOSING, message),
                 Kind::Pack => put(&mut bytes, PACK, message),
@@ -190,6 +194,7 @@ pub fn play_on(terminal: &mut dyn Terminal, recording: &[u8]) -> Option<String> 
 fn counting(kind: u16, body: &[u8]) -> Option<Kind> {
     match kind {
         MESSAGE => Some(Kind::Message),
+        SHORT => Some(Kind::Short),
         PIECE => Some(Kind::Piece),
         CLOSING if body.is_empty() => Some(Kind::Closing),
         PACK => Some(Kind::Pack),
@@ -220,6 +225,7 @@ fn call_on(
     let mut record = 0;
     let (after, answer) = match kind {
         Kind::Message => terminal.message(*settings, bytes, cells, layer, shown, dots, &mut printer),
+        Kind::Short => terminal.message_short(*settings, bytes, cells, layer, shown, dots, &mut printer),
         Kind::Piece => terminal.piece(*settings, bytes, cells, layer, shown, dots, &mut printer),
         Kind::Closing => terminal.closing(*settings, cells, layer, shown, dots),
         Kind::Pack => {

@@ -22,7 +22,9 @@ fn tuned_equals_the_reference() {
         if let Err(difference) = found {
             panic!("{difference}");
         }
-        assert!(coverage.lines().iter().any(|(name, count)| name == "call 0" && *count > 1_000));
+        for class in ["call 0", "short 0"] {
+            assert!(coverage.lines().iter().any(|(name, count)| name == class && *count > 500), "{class}");
+        }
     }
 }
 
@@ -36,8 +38,9 @@ fn a_difference_is_seen_again() {
     let Err(second) = again else { panic!("not seen again") };
     assert_eq!((first.list, first.call, &first.what), (second.list, second.call, &second.what));
     assert_eq!(first.message, second.message);
+    // at the very end, or at that of a pack's message
     let read = [waits(&first.settings), &first.message].concat();
-    assert!(read.ends_with(&[27, 209]));
+    assert!(read.windows(2).any(|two| two == [27, 209]));
 }
 
 #[test]
@@ -93,6 +96,7 @@ fn play_one(terminal: &Functions, side: &mut Side, call: &(Kind, usize, Vec<u8>)
     let mut record = 0;
     let (after, answer) = match kind {
         Kind::Message => (terminal.message)(*settings, bytes, cells, layer, shown, dots, &mut printer),
+        Kind::Short => (terminal.message_short)(*settings, bytes, cells, layer, shown, dots, &mut printer),
         Kind::Piece => (terminal.piece)(*settings, bytes, cells, layer, shown, dots, &mut printer),
         Kind::Closing => (terminal.closing)(*settings, cells, layer, shown, dots),
         Kind::Pack => {

@@ -45,6 +45,21 @@ impl Terminal for Board {
         (settings_from_board(&after), answer_from_board(&answer))
     }
 
+    fn message_short(
+        &mut self,
+        settings: Settings,
+        message: &[u8],
+        cells: &mut [u8],
+        layer: &mut [u8],
+        shown: &mut [u8],
+        dots: &mut [u8],
+        printer: &mut [u8],
+    ) -> (Settings, Answer) {
+        let given = settings_to_board(&settings);
+        let (after, answer) = px8::message_short(given, message, cells, layer, shown, dots, printer);
+        (settings_from_board(&after), answer_from_board(&answer))
+    }
+
     fn piece(
         &mut self,
         settings: Settings,

@@ -1,6 +1,6 @@
 //! `difference [--calls N] [--seed S] [--list L]`: the proved library
-//! against the reference on random lists of calls, pieces, closings and key
-//! texts among them; with `--streams` its closed streams against the reference's uncut
+//! against the reference on random lists of calls, short messages, pieces, closings,
+//! packs and key texts among them; with `--streams` its closed streams against the reference's uncut
 //! reading, with `--screens` on pairs of screens, with `--traces` on traces of
 //! keys, with `--writes` on sequences that it writes, by numbers and by names, and
 //! reads back.

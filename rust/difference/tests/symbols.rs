@@ -26,7 +26,7 @@ fn symbols() -> Vec<(String, char)> {
     text.lines().filter_map(symbol).collect()
 }
 
-/// The archive has four objects with much code in common: the calls are all
+/// The archive has five objects with much code in common: the calls are all
 /// that is global in them, each once, so that none uses another's copy.
 #[test]
 fn only_the_calls_are_exported() {
@@ -40,6 +40,7 @@ fn only_the_calls_are_exported() {
         "px8_key_repeats",
         "px8_key_text",
         "px8_message",
+        "px8_message_short",
         "px8_opening",
         "px8_pack",
         "px8_piece",

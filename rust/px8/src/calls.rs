@@ -45,6 +45,22 @@ extern "C" {
         printer_length: usize,
     ) -> Outcome;
 
+    fn px8_message_short(
+        settings: Settings,
+        message: *const u8,
+        message_length: usize,
+        cells: *mut u8,
+        cells_length: usize,
+        layer: *mut u8,
+        layer_length: usize,
+        shown: *mut u8,
+        shown_length: usize,
+        dots: *mut u8,
+        dots_length: usize,
+        printer: *mut u8,
+        printer_length: usize,
+    ) -> Outcome;
+
     fn px8_piece(
         settings: Settings,
         piece: *const u8,
@@ -157,6 +173,55 @@ pub fn message(
     // settings may be given, and the call keeps no pointer.
     let outcome = unsafe {
         px8_message(
+            settings,
+            message.as_ptr(),
+            message.len(),
+            cells.as_mut_ptr(),
+            cells.len(),
+            layer.as_mut_ptr(),
+            layer.len(),
+            shown.as_mut_ptr(),
+            shown.len(),
+            dots.as_mut_ptr(),
+            dots.len(),
+            printer.as_mut_ptr(),
+            printer.len(),
+        )
+    };
+    (outcome.settings, outcome.answer)
+}
+
+/// The short message call: the message call but that it paints less. Row 8 is always
+/// painted whole; of rows 1 to 7 the places in which characters were printed, or all
+/// where something else may have changed (the screen lifted, a window's top moved, a
+/// sequence such as 27, 84 or 27, 209). Every other place is left as it was given: what
+/// the shown screen held of the picture there is still the picture, so that from a
+/// screen that was painted it ends as the message call does. Refused by 1, 2, 3 or 16.
+///
+/// ```
+/// let (mut cells, mut layer) = ([0; px8::CELLS], [0; px8::LAYER]);
+/// let (mut shown, mut dots) = ([0; px8::SHOWN], [0; px8::DOTS]);
+/// let (settings, _) = px8::opening(1, &mut cells, &mut layer, &mut shown, &mut dots);
+/// // a screen that shows nothing of what stands
+/// shown.fill(b'?');
+/// let (after, answer) =
+///     px8::message_short(settings, b"38", &mut cells, &mut layer, &mut shown, &mut dots, &mut []);
+/// assert_eq!((answer.taken, after.places[0].column), (2, 3));
+/// assert_eq!((&shown[..4], &shown[560..]), (&b"38??"[..], &[32; 80][..]));
+/// ```
+#[inline]
+pub fn message_short(
+    settings: Settings,
+    message: &[u8],
+    cells: &mut [u8],
+    layer: &mut [u8],
+    shown: &mut [u8],
+    dots: &mut [u8],
+    printer: &mut [u8],
+) -> (Settings, Answer) {
+    // SAFETY: as of the message call.
+    let outcome = unsafe {
+        px8_message_short(
             settings,
             message.as_ptr(),
             message.len(),

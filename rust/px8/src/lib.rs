@@ -3,9 +3,9 @@
 //!
 //! [`Terminal`] owns its stores and is what most programs want; [`Stream`]
 //! takes a serial line into it through [`std::io::Write`], cut at any byte.
-//! [`opening`], [`message`], [`piece`], [`closing`], [`pack`], [`key_text`] and
-//! [`printed`] are the library's own calls, on slices of any length; a wrong
-//! length is a refusal and never a fault. [`compare`], [`first_difference`] and [`differences`] lay
+//! [`opening`], [`message`], [`message_short`], [`piece`], [`closing`], [`pack`],
+//! [`key_text`] and [`printed`] are the library's own calls, on slices of any length; a
+//! wrong length is a refusal and never a fault. [`compare`], [`first_difference`] and [`differences`] lay
 //! two shown screens side by side. [`key_repeats`] works out from a trace which
 //! codes the keyboard sent. A [`Writer`] writes each [`Sequence`] by its name, so that a
 //! program need not spell its bytes.
@@ -32,7 +32,7 @@ mod terminal;
 mod types;
 mod writer;
 
-pub use calls::{closing, key_repeats, key_text, message, opening, piece, printed};
+pub use calls::{closing, key_repeats, key_text, message, message_short, opening, piece, printed};
 pub use packs::{pack, packed, PackReply};
 pub use screens::{compare, differences, first_difference};
 pub use sequence::{Dot, Sequence};

@@ -69,7 +69,8 @@ impl Terminal {
     /// A terminal taken up again from what was saved, in the middle of a
     /// stream too. Nothing is judged here: with settings that are not sound
     /// every message, piece and closing is refused, by 3 or, if it is too long,
-    /// by 2. The shown screen is painted by the next that is served.
+    /// by 2. The shown screen is painted by the next that is served; a short message
+    /// paints only its part.
     ///
     /// ```
     /// let mut terminal = px8::Terminal::open();
@@ -123,6 +124,54 @@ impl Terminal {
     pub fn message_into<'a>(&mut self, message: &[u8], printer: &'a mut [u8]) -> (Answer, &'a [u8]) {
         let Terminal { settings, cells, layer, shown, dots } = self;
         let (after, answer) = calls::message(*settings, message, cells, layer, shown, dots, printer);
+        self.settings = after;
+        (answer, calls::printed(printer, answer.printed))
+    }
+
+    /// Reads a message and paints less than [`message`](Terminal::message) does, with
+    /// printer room for every copy that it asks for: row 8, and of rows 1 to 7 the places
+    /// in which it printed, or all where something else may have changed. For the few
+    /// bytes that a scale sends at a time. On a terminal that was opened here both calls
+    /// leave the same; a shown screen that came in by [`resume`](Terminal::resume) and is
+    /// not what stands there stays so, but for what is painted.
+    ///
+    /// ```
+    /// let mut terminal = px8::Terminal::open();
+    /// terminal.message(b"\x1b=\x23\x24       kg");
+    /// for part in [&b"\x1b=\x23\x2438"[..], b",", b"500"] {
+    ///     assert!(terminal.message_short(part).answer.is_clean());
+    /// }
+    /// assert_eq!(terminal.to_string(), "1\n2\n3\n4     38,500 kg\n5\n6\n7\n8\n");
+    /// ```
+    pub fn message_short(&mut self, message: &[u8]) -> Reply {
+        self.message_short_with_room(message, self.room_for(message, MESSAGE_MOST))
+    }
+
+    /// Reads a short message with just so much printer room.
+    ///
+    /// ```
+    /// let mut terminal = px8::Terminal::open();
+    /// let reply = terminal.message_short_with_room(&[27, 80], px8::COPY - 1);
+    /// assert_eq!((reply.answer.first, reply.printed.len()), (px8::NO_ROOM, 0));
+    /// ```
+    pub fn message_short_with_room(&mut self, message: &[u8], room: usize) -> Reply {
+        let mut printer = vec![0; room];
+        let answer = self.message_short_into(message, &mut printer).0;
+        printer.truncate(answer.printed);
+        Reply { answer, printed: printer }
+    }
+
+    /// Reads a short message with a lent printer buffer, and hands back the answer and
+    /// the part of the buffer that holds copies. Nothing is allocated.
+    ///
+    /// ```
+    /// let mut terminal = px8::Terminal::open();
+    /// let (answer, copy) = terminal.message_short_into(b"38,500", &mut []);
+    /// assert_eq!((answer.taken, copy), (6, &[][..]));
+    /// ```
+    pub fn message_short_into<'a>(&mut self, message: &[u8], printer: &'a mut [u8]) -> (Answer, &'a [u8]) {
+        let Terminal { settings, cells, layer, shown, dots } = self;
+        let (after, answer) = calls::message_short(*settings, message, cells, layer, shown, dots, printer);
         self.settings = after;
         (answer, calls::printed(printer, answer.printed))
     }

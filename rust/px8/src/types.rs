@@ -255,7 +255,7 @@ impl Settings {
     }
 }
 
-/// The answer to a message, a piece, a closing, a pack or a key text.
+/// The answer to a message, short or not, a piece, a closing, a pack or a key text.
 #[repr(C)]
 #[derive(Clone, Copy, Debug, PartialEq, Eq)]
 pub struct Answer {

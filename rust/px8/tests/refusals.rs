@@ -55,7 +55,7 @@ fn stores_of_a_wrong_size() {
         for size in [0, 1, SIZES[store] - 1, SIZES[store] + 1] {
             let mut sizes = SIZES;
             sizes[store] = size;
-            for made in [px8::message, px8::piece, CLOSING] {
+            for made in [px8::message, px8::message_short, px8::piece, CLOSING] {
                 refused(made, settings, b"text\x1bP", sizes, px8::STORE_SIZE);
             }
             let mut stores = sizes.map(guarded);
@@ -85,7 +85,7 @@ fn rules_that_are_none() {
 
 #[test]
 fn message_or_piece_too_long() {
-    for made in [px8::message, px8::piece] {
+    for made in [px8::message, px8::message_short, px8::piece] {
         refused(made, opening_settings(), &[65; MESSAGE_MOST + 1], SIZES, px8::TOO_LONG);
         let (_, answer, unaltered) = call(made, opening_settings(), &[65; MESSAGE_MOST], SIZES);
         assert_eq!((answer.number, answer.taken, unaltered), (0, 4096, false));
@@ -137,7 +137,7 @@ fn settings_not_sound() {
     for change in changes {
         let mut settings = opening_settings();
         change(&mut settings);
-        for made in [px8::message, px8::piece, CLOSING] {
+        for made in [px8::message, px8::message_short, px8::piece, CLOSING] {
             refused(made, settings, b"text\x1bP", SIZES, px8::UNSOUND);
         }
     }
@@ -172,7 +172,7 @@ fn lines_not_sound() {
         (&[], 0, COUNT_MOST + 1),
     ];
     for (bytes, held, count) in rows {
-        for made in [px8::message, px8::piece, CLOSING] {
+        for made in [px8::message, px8::message_short, px8::piece, CLOSING] {
             refused(made, with_line(bytes, held, count), b"text", SIZES, px8::UNSOUND);
         }
     }
@@ -183,13 +183,17 @@ fn lines_not_sound() {
     }
 }
 
-/// A message 1, 2, 3, 16; a piece 1, 2, 3, 15; a closing 1, 3.
+/// A message and a short one 1, 2, 3, 16; a piece 1, 2, 3, 15; a closing 1, 3.
 #[test]
 fn order_of_the_numbers() {
     let waits = with_line(&[27], 1, COUNT_MOST);
     let unsound = Settings { step: 0, ..waits };
     let short = [CELLS, LAYER, SHOWN, DOTS + 1, 0];
-    for (made, last) in [(px8::message as Call, px8::BYTES_WAIT), (px8::piece, px8::STREAM_TOO_LONG)] {
+    for (made, last) in [
+        (px8::message as Call, px8::BYTES_WAIT),
+        (px8::message_short, px8::BYTES_WAIT),
+        (px8::piece, px8::STREAM_TOO_LONG),
+    ] {
         refused(made, unsound, &[65; 5000], short, px8::STORE_SIZE);
         refused(made, unsound, &[65; 5000], SIZES, px8::TOO_LONG);
         refused(made, unsound, &[65; 50], SIZES, px8::UNSOUND);
@@ -209,6 +213,7 @@ fn the_counts_limit() {
     refused(px8::piece, full, &[80], SIZES, px8::STREAM_TOO_LONG);
     assert_eq!(call(px8::piece, full, &[], SIZES).1.number, px8::SERVED);
     refused(px8::message, full, &[], SIZES, px8::BYTES_WAIT);
+    refused(px8::message_short, full, &[], SIZES, px8::BYTES_WAIT);
     let (closed, answer, _) = call(CLOSING, full, &[], SIZES);
     assert_eq!((answer.taken, answer.first, answer.offset), (0, px8::CUT, 999_999_999));
     assert_eq!(closed, opening_settings());

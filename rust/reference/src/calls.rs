@@ -146,7 +146,7 @@ pub fn key_text(settings: Settings, number: usize, text: &[u8]) -> (Settings, An
 }
 
 /// The numbers that all these calls have in common, in the order 1, 2, 3.
-fn refused(
+pub fn refused(
     settings: &Settings,
     message: &[u8],
     cells: &[u8],
@@ -195,7 +195,7 @@ fn serve(standing: &mut Standing, bytes: &[u8]) -> Answer {
 }
 
 /// Lets an item act, and adds it to the answer.
-fn obey(standing: &mut Standing, answer: &mut Answer, item: &Item, offset: usize) {
+pub fn obey(standing: &mut Standing, answer: &mut Answer, item: &Item, offset: usize) {
     standing.apply(item);
     answer.printed = standing.printed;
     count(answer, item, offset);

@@ -12,6 +12,7 @@
 //! - `calls`: the calls
 //! - `records`: the records of a pack and of a trace
 //! - `pack`: many messages in one call
+//! - `short`: a message that paints less
 //! - `text`: the words of the programs `show`, `replay` and `picture`
 //! - `glass`: the words of the program `glass`
 //! - `lengths`: the words of the program `lengths`
@@ -33,6 +34,7 @@ pub mod read;
 pub mod records;
 pub mod repeats;
 pub mod settings;
+pub mod short;
 pub mod sound;
 pub mod stream;
 pub mod text;
@@ -42,4 +44,5 @@ pub use calls::{closing, key_text, message, opening, piece, printed};
 pub use pack::pack;
 pub use picture::picture;
 pub use settings::{Answer, Keys, Place, Settings};
+pub use short::message_short;
 pub use sound::sound;

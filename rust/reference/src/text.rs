@@ -5,6 +5,7 @@ use super::pack::pack;
 use super::picture::place;
 use super::settings::{mark_of, Answer, Settings};
 use super::settings::{CELLS, COPY, DOTS, LAYER, MOST_LINES, OPENING, ROWS, SHOWN, WIDTH};
+use super::short::message_short;
 use super::stream::waits;
 use std::fmt::Write;
 
@@ -20,10 +21,11 @@ pub const PIECE: u16 = 2;
 pub const CLOSING: u16 = 3;
 pub const KEY_TEXT: u16 = 4;
 pub const PACK: u16 = 5;
+pub const SHORT_MESSAGE: u16 = 6;
 pub const OPENING_CALL: u16 = 7;
 pub const ROOM: u16 = 8;
 
-/// The message call and the piece call.
+/// The message call, the short one and the piece call.
 type MessageCall =
     fn(Settings, &[u8], &mut [u8], &mut [u8], &mut [u8], &mut [u8], &mut [u8]) -> (Settings, Answer);
 
@@ -71,6 +73,11 @@ impl Session {
         self.with_printer(piece, bytes, room)
     }
 
+    /// A message that paints less.
+    pub fn short(&mut self, bytes: &[u8], room: usize) -> Answer {
+        self.with_printer(message_short, bytes, room)
+    }
+
     pub fn closing(&mut self) -> Answer {
         let Session { settings, cells, layer, shown, dots, .. } = self;
         let (settings, answer) = closing(*settings, cells, layer, shown, dots);
@@ -109,6 +116,7 @@ impl Session {
         let answer = match (kind, body) {
             (MESSAGE, _) => self.play(body, self.room),
             (PIECE, _) => self.piece(body, self.room),
+            (SHORT_MESSAGE, _) => self.short(body, self.room),
             (CLOSING, []) => self.closing(),
             (PACK, _) => {
                 let (answer, record) = self.pack(body, self.room);

@@ -3,6 +3,7 @@
 use crate::dots::Dots;
 use crate::rows;
 use crate::sequences::unfinished;
+use crate::shorts::Glass;
 use reference::{Answer, Place, Settings};
 
 pub struct Stores<'a> {
@@ -25,7 +26,9 @@ impl<'a> Stores<'a> {
     }
 }
 
-pub struct Engine<'a> {
+/// With a glass on which a short message shows at once what it prints; other calls have
+/// none, and pay nothing for it.
+pub struct Engine<'a, G> {
     pub settings: Settings,
     pub stores: Stores<'a>,
     pub printer: &'a mut [u8],
@@ -46,10 +49,11 @@ pub struct Engine<'a> {
     pub top: usize,
     /// the cursor waits in the last column
     pub waiting: bool,
+    pub glass: G,
 }
 
-impl<'a> Engine<'a> {
-    pub fn new(settings: Settings, stores: Stores<'a>, printer: &'a mut [u8]) -> Engine<'a> {
+impl<'a, G: Glass> Engine<'a, G> {
+    pub fn new(settings: Settings, stores: Stores<'a>, printer: &'a mut [u8], glass: G) -> Engine<'a, G> {
         let mut engine = Engine {
             settings,
             stores,
@@ -66,6 +70,7 @@ impl<'a> Engine<'a> {
             column: 0,
             top: 0,
             waiting: false,
+            glass,
         };
         engine.load();
         engine
@@ -149,7 +154,7 @@ impl<'a> Engine<'a> {
             let (now, later) = run.split_at(run.len().min(space));
             let at = self.cursor_cell();
             self.stores.cells[at..at + now.len()].copy_from_slice(now);
-            self.unmark(now.len());
+            self.show(now);
             if now.len() < space {
                 self.column += now.len();
             } else if self.settings.rule == 2 {
@@ -195,10 +200,11 @@ impl<'a> Engine<'a> {
         self.base + from * self.columns..self.base + to * self.columns
     }
 
-    /// Empties the layer where the next `count` cells of the line are shown.
-    fn unmark(&mut self, count: usize) {
+    /// Empties the layer where these next cells of the line are shown, and shows them
+    /// on the glass of a short message.
+    fn show(&mut self, text: &[u8]) {
         let row = self.line.wrapping_sub(self.top);
-        if self.empty || row >= self.height {
+        if self.empty && !G::SHOWS || row >= self.height {
             return;
         }
         let left = match (self.settings.mode, self.settings.selected) {
@@ -208,8 +214,9 @@ impl<'a> Engine<'a> {
         };
         let row = if row >= self.rows { row - self.rows } else { row };
         let at = row * 80 + left + self.column - 1;
-        self.stores.marks[at..at + count].fill(0);
-        self.stores.codes[at..at + count].fill(0);
+        self.stores.marks[at..at + text.len()].fill(0);
+        self.stores.codes[at..at + text.len()].fill(0);
+        self.glass.show(at, text, self.settings.secret == 1);
     }
 
     fn down(&mut self) {
@@ -218,6 +225,7 @@ impl<'a> Engine<'a> {
             return;
         }
         let (moved, last) = (self.block(1, self.lines), self.block(self.lines - 1, self.lines));
+        self.glass.widen();
         self.stores.cells.copy_within(moved, self.base);
         self.stores.cells[last].fill(b' ');
         let lines = self.lines;
@@ -241,6 +249,7 @@ impl<'a> Engine<'a> {
     pub fn move_top(&mut self, top: usize) {
         if top != self.top {
             self.top = top;
+            self.glass.widen();
             self.wipe();
         }
     }
@@ -260,6 +269,7 @@ impl<'a> Engine<'a> {
     }
 
     pub fn clear(&mut self) {
+        self.glass.widen();
         let all = self.block(0, self.lines);
         self.stores.cells[all].fill(b' ');
         (self.line, self.column, self.top) = (1, 1, 1);
@@ -308,11 +318,17 @@ impl<'a> Engine<'a> {
         }
     }
 
+    /// The tops of both screens.
+    pub fn tops(&self) -> [usize; 2] {
+        let mut tops = self.settings.places.map(|place| usize::from(place.top));
+        tops[usize::from(self.settings.selected == 1)] = self.top;
+        tops
+    }
+
     fn paint_both(&self, picture: &mut [u8; 640]) {
         let s = &self.settings;
         let m = usize::from(s.columns1);
-        let mut tops = [usize::from(s.places[0].top), usize::from(s.places[1].top)];
-        tops[usize::from(s.selected == 1)] = self.top;
+        let tops = self.tops();
         let second = usize::from(s.lines1) * m;
         let left = self.stores.cells[(tops[0] - 1) * m..].chunks_exact(m);
         let right = self.stores.cells[second + (tops[1] - 1) * (79 - m)..].chunks_exact(79 - m);

@@ -1,6 +1,7 @@
 //! Document 01 made fast: text is stored in runs, lines move as blocks, the
 //! selected screen's measures are worked out once, and an empty layer is
-//! not emptied again. All 640 places are painted in each message call.
+//! not emptied again. All 640 places are painted in each message call; the
+//! short one (`shorts`) paints less.
 //!
 //! The types are the reference's; the workings are this file's own.
 
@@ -12,12 +13,14 @@ mod packs;
 pub mod repeats;
 pub mod screens;
 mod sequences;
+mod shorts;
 mod streams;
 pub mod writes;
 
 use engine::{Engine, Stores};
 pub use packs::pack;
 pub use reference::{Answer, Keys, Place, Settings};
+pub use shorts::message_short;
 pub use streams::{closing, piece};
 
 const START: Settings = Settings {
@@ -93,7 +96,7 @@ pub fn message(
         return refused(settings, 16);
     }
     let mut answer = Answer::default();
-    let mut engine = Engine::new(settings, stores, printer);
+    let mut engine = Engine::new(settings, stores, printer, ());
     engine.serve::<false>(message, 0, &mut answer);
     engine.paint(picture);
     (engine.finish(), answer)

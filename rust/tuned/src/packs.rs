@@ -25,7 +25,7 @@ pub fn pack(
         0 => {}
         number => return refused(number),
     }
-    let mut engine = Engine::new(settings, stores, printer);
+    let mut engine = Engine::new(settings, stores, printer, ());
     let (mut answer, mut taken, mut record) = (Answer::default(), 0, 0);
     for (number, body) in bodies(pack) {
         let clean = answer.refused == 0;

@@ -3,6 +3,7 @@
 use crate::dots;
 use crate::engine::Engine;
 use crate::rows;
+use crate::shorts::Glass;
 use reference::{Answer, Place, Settings};
 
 /// Length by second byte, 0 for none. 208 stands with its shortest.
@@ -140,7 +141,7 @@ impl Limits {
     }
 }
 
-impl Engine<'_> {
+impl<G: Glass> Engine<'_, G> {
     fn limits(&self) -> Limits {
         let Engine { lines, columns, height, .. } = *self;
         Limits { mode: self.settings.mode, lines, columns, height }
@@ -152,6 +153,7 @@ impl Engine<'_> {
         let (number, parameter, length) = self.judge(rest);
         if number == 0 {
             answer.accepted += 1;
+            self.glass.accepted(rest[1]);
             // 27, 209 at the very end stands for 27, 209, 0.
             let parameters = if rest.len() == 2 && rest[1] == 209 { &[0][..] } else { &rest[2..length] };
             self.obey(rest[1], parameters);

@@ -41,7 +41,7 @@ pub fn piece(
         return refused(settings, 15);
     }
     let mut answer = Answer::default();
-    let mut engine = Engine::new(settings, stores, printer);
+    let mut engine = Engine::new(settings, stores, printer, ());
     let mut joined = [0; 12 + LONGEST];
     let (line, taken) = join(&settings, piece, &mut joined);
     let still = !line.is_empty() && unfinished(line);
@@ -91,7 +91,7 @@ pub fn closing(
         Err(number) => return refused(settings, number),
     };
     let mut answer = Answer::default();
-    let mut engine = Engine::new(settings, stores, &mut []);
+    let mut engine = Engine::new(settings, stores, &mut [], ());
     engine.from = settings.count - u32::from(settings.held);
     engine.serve::<false>(&settings.waiting[..usize::from(settings.held)], 0, &mut answer);
     engine.paint(picture);

@@ -1,6 +1,6 @@
 -- `reader::read_item` meets its contract: an ESC is read by `read_sequence`, another byte is an item by itself.
 use borrow.Author.Needs.{needs}
-use Rattle.reader.proofs.ReadLaws.{reads-control, reads-printed}
+use Rattle.reader.proofs.ReadLaws.{reads-byte}
 use Rattle.reader.proofs.read_item.Statement.{statement}
 use Rattle.reader.proofs.read_item.Tie as tie
 
@@ -11,5 +11,5 @@ read-item-spec =
     (λ c. search needs)
     (λ c κs. search needs)
     (λ c. search needs)
-    (λ c. reads-control _ _ _ _ (c .before .before .before .before .pre .0) (c .before .if1 .left) (c .if2 .taken))
-    (λ c. reads-printed _ _ _ _ (c .before .before .before .before .pre .0) (c .before .if1 .left) (c .if2 .left)))
+    (λ c κs. search needs)
+    (λ c. reads-byte _ _ _ _ (c .before .before .before .before .pre .0) (c .before .if1 .left) (c .one-byte .ensures)))

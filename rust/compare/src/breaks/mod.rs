@@ -10,6 +10,7 @@
 //! - `late`: the late wrap
 //! - `dots`: mode 3
 //! - `packs`: packs of messages
+//! - `short`: short messages
 //! - `screens`: the comparison of two screens
 //! - `traces`: key repeats
 //! - `writes`: the sequences written
@@ -22,6 +23,7 @@ mod packs;
 mod parameters;
 mod scope;
 mod screens;
+mod short;
 mod streams;
 mod traces;
 mod writes;
@@ -48,6 +50,7 @@ pub const BREAKS: &[&[Break]] = &[
     late::BREAKS,
     dots::BREAKS,
     packs::BREAKS,
+    short::BREAKS,
 ];
 
 /// The broken copies of the comparison of two screens.

@@ -57,7 +57,7 @@ impl Streams {
             Kind::Message => self.message(call, settings, answer),
             Kind::Piece => self.piece(call, settings, answer),
             Kind::Closing => self.closing(call, settings, answer),
-            Kind::Pack | Kind::KeyText(_) | Kind::Opening(_) => {}
+            Kind::Short | Kind::Pack | Kind::KeyText(_) | Kind::Opening(_) => {}
         }
     }
 

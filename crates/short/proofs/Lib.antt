@@ -1,0 +1,9 @@
+pub mod Rows
+pub mod Kept
+pub mod Seeing
+pub mod Still
+pub mod Arms
+pub mod Watching
+pub mod Ends
+pub mod Promises
+pub mod Stirring
