@@ -65,7 +65,7 @@ sound-mode s m l1 l2 c1 c2 b h z d = record {
   inside = all;
   step-low = omega arith;
   step-high = omega (arith, height-low (withMode s m l1 l2 c1 c2 b));
-  plain = search (h .plain, tracks) depth 30;
+  plain = (tracks, (omega (arith, h .plain .1 .0), h .plain .1 .1));
   line = h .line;
   marked = λ k. none-marked (linesOf (withMode s m l1 l2 c1 c2 b) k) k;
   alone = alone-by m _ _ _ (λ e. absurd (d e));
@@ -89,7 +89,7 @@ sound-mode3 s h = record {
   inside = all;
   step-low = omega arith;
   step-high = omega arith;
-  plain = search (h .plain, flag, type) depth 30;
+  plain = let z = h .plain .1 in (flag, (omega (arith, z .0), (z .1 .0, (flag, (z .1 .1 .1 .0, (type, z .1 .1 .1 .1 .1))))));
   line = h .line;
   marked = λ k. none-marked (linesOf (withMode3 s) k) k;
   alone = omega arith;

@@ -33,6 +33,7 @@ pub mod ShownPlace
 pub mod Views
 pub mod Repainting
 pub mod QuickCall
+pub mod Blind
 pub mod KeyLine
 pub mod KeyCall
 pub mod KeyLaws

@@ -12,7 +12,7 @@ use Rattle.model.specs.declared.Sequence.the-variants.{Arrows1, Arrows2,
 use Rattle.model.specs.State.{State, putAt, topAt, waitAt}
 use Rattle.model.specs.Screens.{base, cellAt, columnsHere, columnsOf, height, here, lineAt, linesHere, linesOf, placeOf, textRows}
 use Rattle.model.specs.Marks.{markOf}
-use Rattle.model.specs.Picture.{copied, copiedRows, covered, halves, picture, pictureAt, sides, textAt, under, windowAt, dotCopy, pictureCopy}
+use Rattle.model.specs.Picture.{copied, covered, halves, picture, pictureAt, sides, textAt, under, windowAt, dotCopy, pictureCopy}
 use Rattle.model.specs.Sequences.{codeOf, idle?}
 use Rattle.model.specs.Reading.{Read, byteOf}
 use Rattle.model.specs.Judging.{limitsOf}
@@ -176,13 +176,9 @@ module _ (w : List ℕ) (n : ℕ) where
   applied-lined (r ∷ rs) st = ap (applyAll (eventsOf rs)) (item-lined (byteOf r) (r .item) st) ∙ applied-lined rs (obeyedBy r st)
 
   -- and the same is printed
-  picture-lined : (st : State) (p : ℕ) → picture (lined w n st) p ≡ picture st p
-  unfolding picture pictureAt covered under textAt halves sides windowAt cellAt lineAt base columnsOf placeOf textRows lined withSettings
-  picture-lined st p = refl
-
   picture-copied : (st : State) → pictureCopy (lined w n st) ≡ pictureCopy st
-  unfolding pictureCopy
-  picture-copied st = λ i. copiedRows (λ p. picture-lined st p i) 0 8
+  unfolding pictureCopy picture pictureAt covered under textAt halves sides windowAt cellAt lineAt base columnsOf placeOf textRows lined withSettings
+  picture-copied st = refl
 
   dots-copied : (st : State) → dotCopy (lined w n st) ≡ dotCopy st
   unfolding dotCopy lined withSettings

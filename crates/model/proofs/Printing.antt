@@ -15,7 +15,7 @@ use Rattle.model.specs.declared.Settings.{Settings}
 use Rattle.model.specs.Bytes.{joined, listFrom}
 use Rattle.model.specs.Line.{heldIn}
 use Rattle.model.specs.State.{State}
-use Rattle.model.specs.Picture.{copied, copiedRows, copySizeOf, dotCopy, picture, pictureCopy}
+use Rattle.model.specs.Picture.{copied, copiedRows, copySizeOf, dotCopy, pictureCopy}
 use Rattle.model.specs.Sequences.{codeOf}
 use Rattle.model.specs.Reading.{Read, itemOf, uncut}
 use Rattle.model.specs.Judging.{allowed, fitting, limitsOf}
@@ -40,7 +40,7 @@ length-rows f r (suc n) =
 -- 8 rows of 80, each followed by 13, 10
 length-picture : (st : State) → length (pictureCopy st) ≡ 656
 unfolding pictureCopy
-length-picture st = length-rows (picture st) 0 8
+length-picture st = length-rows _ 0 8
 
 -- P11: or the dots
 length-dots : (st : State) → length (dotCopy st) ≡ 3840

@@ -179,8 +179,8 @@ pub record Demand3 (t : Terminal) (cs : List Call) : Type 0 where
   pub dots-stay : (n : ℕ) → n < itemCount t cs → (before t cs n .settings .mode ≡ 3 → ⊥) → setsMode (event t cs n) ≡ false
       → before t cs (suc n) .dots ≡ before t cs n .dots
   -- FROM AN ACCEPTED OPENING, OR FROM SOUND SETTINGS
-  -- no call is refused but by 2, a message or a piece over 4,096 bytes, by 15, a piece past the limit, by 16, a message or a pack while bytes
-  -- wait, by 17, a key number outside 1 to 10 or a text not of 8 bytes, and a pack by 19, 20, 21 and 2
+  -- no call is refused but by 2, a message, a short one or a piece over 4,096 bytes, by 15, a piece past the limit, by 16, a message, a short one
+  -- or a pack while bytes wait, by 17, a key number outside 1 to 10 or a text not of 8 bytes, and a pack by 19, 20, 21 and 2
   pub numbered : Start t → (n : ℕ) (c : Call) → Nth n cs c → c .answer .number ≡ firstOf (ownReasons (stood t cs n .state .settings) (c .asked))
   -- before and after every item: the settings sound, each cursor and window inside its screen (P11: in mode 3 screen 1's alone), the screens' cells
   -- apart and among the 3,840

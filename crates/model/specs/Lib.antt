@@ -15,6 +15,7 @@ pub mod Items
 pub mod Records
 pub mod Packs
 pub mod Repaint
+pub mod Blind
 pub mod Calls
 pub mod Opening
 pub mod Claims

@@ -11,6 +11,7 @@
 //! - `breaks`: deliberately broken copies, to show that the lists find them
 //! - `vectors`: the named cases
 //! - `streams`: closed streams against one uncut reading
+//! - `secrecy`: pairs of runs in secret mode, of which nothing may be seen
 //! - `screens`: the comparison of two screens, with a trait of its own
 //! - `traces`: key repeats, with a trait of its own
 //! - `writes`: the sequences written, with a trait of its own
@@ -24,6 +25,7 @@ pub mod play;
 pub mod random;
 pub mod report;
 pub mod screens;
+pub mod secrecy;
 pub mod short;
 pub mod streams;
 pub mod traces;

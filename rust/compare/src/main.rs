@@ -2,14 +2,15 @@
 //! tuned version on random lists of calls; with `--screens` on pairs of
 //! screens, with `--traces` on traces of keys, with `--writes` on sequences
 //! written and read back. With `--streams` closed streams of both against one
-//! uncut reading.
+//! uncut reading, with `--secrecy` pairs of runs of each in secret mode.
 //! `compare --breaks`: how soon each broken copy is found.
 
 use compare::play::{run, Plan};
 use compare::report::{
-    command_line, compare, compare_screens, compare_streams, compare_traces, compare_writes, Options, Subject,
+    command_line, compare, compare_screens, compare_secrecy, compare_streams, compare_traces, compare_writes,
+    Options, Subject,
 };
-use compare::{screens, traces, writes, Functions, Terminal};
+use compare::{screens, secrecy, traces, writes, Functions, Terminal};
 use compare::{BROKEN, BROKEN_SCREENS, BROKEN_TRACES, BROKEN_WRITES, REFERENCE, TUNED};
 use reference::{Answer, Settings};
 use std::panic::{catch_unwind, AssertUnwindSafe};
@@ -18,7 +19,7 @@ use std::process::ExitCode;
 fn main() -> ExitCode {
     let Some(options) = command_line() else {
         eprintln!(
-            "usage: compare [--calls N] [--seed S] [--list L] [--streams | --screens | --traces | --writes] [--breaks]"
+            "usage: compare [--calls N] [--seed S] [--list L] [--streams | --secrecy | --screens | --traces | --writes] [--breaks]"
         );
         return ExitCode::from(2);
     };
@@ -36,6 +37,9 @@ fn versions(options: &Options) -> bool {
         Subject::Lists => compare(&mut { REFERENCE }, &mut { TUNED }, options),
         Subject::Streams => {
             compare_streams(&mut { REFERENCE }, options) && compare_streams(&mut { TUNED }, options)
+        }
+        Subject::Secrecy => {
+            compare_secrecy(&mut { REFERENCE }, options) && compare_secrecy(&mut { TUNED }, options)
         }
         Subject::Screens => compare_screens(&mut { screens::REFERENCE }, &mut { screens::TUNED }, options),
         Subject::Traces => compare_traces(&mut { traces::REFERENCE }, &mut { traces::TUNED }, options),
@@ -152,6 +156,11 @@ fn breaks(plan: &Plan) -> bool {
         let found = run(&mut { REFERENCE }, &mut Guarded(broken), None, &plan);
         told(broken.name, found.err().map(|difference| format!("after {} calls", difference.calls)))
     });
+    let leaks = secrecy::leaks().map(|broken| {
+        let found = secrecy::run(&mut Guarded(broken), &mut secrecy::classes(), &plan);
+        let how = found.err().map(|leak| format!("by secrecy after {} pairs of calls", leak.calls));
+        told(broken.name, how)
+    });
     let screens = BROKEN_SCREENS.iter().map(|&broken| {
         let mut classes = screens::classes();
         let call = || screens::run(&mut { screens::REFERENCE }, &mut { broken }, &mut classes, &plan);
@@ -168,7 +177,7 @@ fn breaks(plan: &Plan) -> bool {
         let call = || writes::run(left, &mut { broken }, reader, &mut classes, &plan);
         told(broken.name, tool_break(call))
     });
-    let found: Vec<bool> = lists.chain(screens).chain(traces).chain(writes).collect();
+    let found: Vec<bool> = lists.chain(leaks).chain(screens).chain(traces).chain(writes).collect();
     let good = found.iter().filter(|&&found| found).count();
     println!("breaks: {good} of {} found", found.len());
     good == found.len()

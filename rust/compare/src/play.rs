@@ -47,9 +47,9 @@ impl std::fmt::Display for Difference {
 
 /// One side's stores and settings.
 #[derive(Clone)]
-struct Side {
-    settings: Settings,
-    stores: [Vec<u8>; 4],
+pub(crate) struct Side {
+    pub(crate) settings: Settings,
+    pub(crate) stores: [Vec<u8>; 4],
 }
 
 struct Game<'a> {
@@ -272,7 +272,7 @@ fn opening(terminal: &mut dyn Terminal, rule: usize, stores: &mut [Vec<u8>; 4]) 
 }
 
 /// Makes a call; a record only a pack gives.
-fn made(
+pub(crate) fn made(
     terminal: &mut dyn Terminal,
     call: &Call,
     settings: Settings,
@@ -309,7 +309,7 @@ fn same_answers([left, right]: &[(Settings, Answer, u32); 2]) -> Result<(), Stri
     Ok(())
 }
 
-fn resized(stores: &[Vec<u8>; 4], sizes: [usize; 4]) -> [Vec<u8>; 4] {
+pub(crate) fn resized(stores: &[Vec<u8>; 4], sizes: [usize; 4]) -> [Vec<u8>; 4] {
     let mut stores = stores.clone();
     for (store, size) in stores.iter_mut().zip(sizes) {
         store.resize(size, 99);
@@ -317,7 +317,7 @@ fn resized(stores: &[Vec<u8>; 4], sizes: [usize; 4]) -> [Vec<u8>; 4] {
     stores
 }
 
-fn same(name: &str, left: &[u8], right: &[u8]) -> Result<(), String> {
+pub(crate) fn same(name: &str, left: &[u8], right: &[u8]) -> Result<(), String> {
     if left == right {
         return Ok(());
     }

@@ -5,6 +5,7 @@
 use crate::coverage::Coverage;
 use crate::play::{run, Plan};
 use crate::screens::{self, Screens};
+use crate::secrecy;
 use crate::streams;
 use crate::traces::{self, Repeats};
 use crate::writes::{self, Writes};
@@ -17,6 +18,8 @@ pub enum Subject {
     Lists,
     /// closed streams against one uncut reading
     Streams,
+    /// pairs of runs in secret mode
+    Secrecy,
     /// pairs of screens
     Screens,
     /// traces of keys
@@ -47,6 +50,7 @@ pub fn command_line() -> Option<Options> {
                 options.one_list = true;
             }
             "--streams" => options.subject = Subject::Streams,
+            "--secrecy" => options.subject = Subject::Secrecy,
             "--screens" => options.subject = Subject::Screens,
             "--traces" => options.subject = Subject::Traces,
             "--writes" => options.subject = Subject::Writes,
@@ -72,6 +76,14 @@ pub fn compare_streams(terminal: &mut dyn Terminal, options: &Options) -> bool {
     let mut classes = streams::classes();
     let outcome = streams::run(terminal, &mut classes, &options.plan);
     verdict("closed streams", outcome, &classes.lines(), options)
+}
+
+/// Pairs of runs of one terminal in secret mode, of which the same must be seen.
+pub fn compare_secrecy(terminal: &mut dyn Terminal, options: &Options) -> bool {
+    println!("compare: runs in secret mode, {}, seed {}", terminal.name(), options.plan.seed);
+    let mut classes = secrecy::classes();
+    let outcome = secrecy::run(terminal, &mut classes, &options.plan);
+    verdict("pairs of calls in secret mode", outcome.map_err(|leak| leak.what), &classes.lines(), options)
 }
 
 /// The same of the comparison of two screens.

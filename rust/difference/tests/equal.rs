@@ -3,7 +3,7 @@
 
 use compare::play::{run, Plan};
 use compare::vectors::cases;
-use compare::{streams, writes, BROKEN, REFERENCE};
+use compare::{secrecy, streams, writes, BROKEN, REFERENCE};
 use difference::{case_difference, settings_from_board, settings_to_board, Board, NamedBoard};
 use reference::settings::OPENING;
 
@@ -21,6 +21,13 @@ fn random_lists() {
 fn closed_streams() {
     let plan = Plan { seed: 205, calls: 2_000, list: 0, progress: 0 };
     assert_eq!(streams::run(&mut Board, &mut streams::classes(), &plan), Ok(plan.calls));
+}
+
+#[test]
+fn nothing_seen_in_secret_mode() {
+    let plan = Plan { seed: 207, calls: 10_000, list: 0, progress: 0 };
+    let found = secrecy::run(&mut Board, &mut secrecy::classes(), &plan);
+    assert_eq!(found.map_err(|leak| leak.what), Ok(plan.calls));
 }
 
 /// By numbers and by names; what the archive writes it also reads back.

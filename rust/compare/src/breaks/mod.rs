@@ -10,6 +10,7 @@
 //! - `late`: the late wrap
 //! - `dots`: mode 3
 //! - `packs`: packs of messages
+//! - `secrecy`: what is seen in secret mode
 //! - `short`: short messages
 //! - `screens`: the comparison of two screens
 //! - `traces`: key repeats
@@ -23,6 +24,7 @@ mod packs;
 mod parameters;
 mod scope;
 mod screens;
+mod secrecy;
 mod short;
 mod streams;
 mod traces;
@@ -50,6 +52,7 @@ pub const BREAKS: &[&[Break]] = &[
     late::BREAKS,
     dots::BREAKS,
     packs::BREAKS,
+    secrecy::BREAKS,
     short::BREAKS,
 ];
 
