@@ -1,7 +1,7 @@
 // The calls for C and Rust that serve no message: the text of a key, the differences of two screens, the repeats of keys, a sequence written. Each promises what its
 // crate's own call does; c/px8.h says it for C.
 ghost use mathlib.Core.Path.{_≡_};
-ghost use Rattle.model.specs.Calls.{KeyPromised};
+ghost use Rattle.calls.specs.Calls.{KeyPromised};
 ghost use Rattle.differences.specs.Answers.{ComparePromised, firstOf, valuesOf};
 ghost use Rattle.traces.specs.Call.{RepeatsPromised};
 ghost use Rattle.writer.specs.Promised.{WritePromised};

@@ -3,8 +3,8 @@
 // message asks of the settings has no other caller here, and a compiler works it out where the message is served.
 ghost use mathlib.Core.Path.{_≡_};
 ghost use lib.ListN.{length};
-ghost use Rattle.model.specs.Calls.{Promised, called, terminal};
-ghost use Rattle.model.specs.Opening.{OpeningPromised, firstPart};
+ghost use Rattle.calls.specs.Calls.{Promised, called, terminal};
+ghost use Rattle.calls.specs.Opening.{OpeningPromised, firstPart};
 use model::Opened;
 use model::Outcome;
 use model::Settings;

@@ -18,14 +18,14 @@ use Rattle.model.specs.Rules.{applyItem, awaited, blankFrom, centred, cleared, 
 use Rattle.model.specs.Dot.{acted, dotAt, weight, withDot}
 use Rattle.model.specs.Strokes.{drawn, flat, lineDot, lined as stroke, longer, maskBit, offsetAt, placed as strokePlaced, shorter, stepped}
 use Rattle.model.specs.Records.{all?, bodyIn, kindIn, lacking, lengthIn, numberIn, recordIn, recordsAfter, uncut?}
-use Rattle.model.specs.Packs.{bodiesOf, known?, readsEach, recordFrom}
-use Rattle.model.specs.Repaint.{calm?, lifts?, lowest?, movesTop?, placeBy, printLifts?, painted?, placesIn, printPlace, repainted, wide?, wideIn}
+use Rattle.calls.specs.Packs.{bodiesOf, known?, readsEach, recordFrom}
+use Rattle.calls.specs.Repaint.{calm?, lifts?, lowest?, movesTop?, placeBy, printLifts?, painted?, placesIn, printPlace, repainted, wide?, wideIn}
 use Rattle.model.specs.Items.{applyAll, copies, countedAll, happened, lined, readsOf, texted}
-use Rattle.model.specs.Calls.{accepted, allFree, answerOf, countable, eventsBy, eventsIn, firstOf, itemBytes, besideItems, keyable, knownIn, noneWaits, numberOf, packable, printedBy, readsBy, readsIn, reasons, recordOf, served, shortIn, soundIn, shownAfter, sized, startOf, takenBy, takenIn}
-use Rattle.model.specs.Examples.{allHold, holds}
-use Rattle.model.specs.Runs.{turnsHold}
-use Rattle.model.specs.Calls.{Asked, Call, Terminal}
-use Rattle.model.specs.Demand.{Made, Nth, eventsOver, next, none}
+use Rattle.calls.specs.Calls.{accepted, allFree, answerOf, countable, eventsBy, eventsIn, firstOf, itemBytes, besideItems, knownIn, noneWaits, numberOf, packable, printedBy, readsBy, readsIn, reasons, recordOf, served, shortIn, soundIn, shownAfter, sized, startOf, takenBy, takenIn, Asked, Call, Terminal}
+use Rattle.model.specs.Keyable.{keyable}
+use Rattle.examples.specs.Examples.{allHold, holds}
+use Rattle.examples.specs.Runs.{turnsHold}
+use Rattle.calls.specs.Lists.{Made, Nth, eventsOver, next, none}
 use Rattle.secrecy.specs.Secrecy.{Alike, SameKind, SameSeen, TwoRuns, closings, end, handed, inBoth, keyTexts, messages, packs, pair, pieces, printedAt, printedInPack, quicks, readAsPrinted, revealed}
 use Rattle.contrasts.specs.Contrasts.{allTold, askedIn, callOf, callsOf, filled, told, typed, typedCalls, unseen}
 use Rattle.model.proofs.Tests.{differ}

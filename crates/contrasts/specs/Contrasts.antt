@@ -7,10 +7,10 @@ use lib.ListN.{length, replicate}
 use Rattle.model.specs.declared.Settings.{Settings}
 use Rattle.model.specs.Bytes.{written}
 use Rattle.model.specs.State.{openedSettings, withDisplay, withFlags, withMode3, withTexts}
-use Rattle.model.specs.Calls.{Terminal, terminal, Asked, message, piece, closing, keyText, pack, quick, Call, request, served, answerOf, recordOf, printedBy}
-use Rattle.model.specs.Opening.{openedTerminal}
-use Rattle.model.specs.Examples.{counts, firstRefusal, cell, shows, printedByte, refusedBy, text, waits}
-use Rattle.model.specs.Runs.{Turn, turn, roomy, turnsHold}
+use Rattle.calls.specs.Calls.{Terminal, terminal, Asked, message, piece, closing, keyText, pack, quick, Call, request, served, answerOf, recordOf, printedBy}
+use Rattle.calls.specs.Opening.{openedTerminal}
+use Rattle.examples.specs.Examples.{counts, firstRefusal, cell, shows, printedByte, refusedBy, text, waits}
+use Rattle.examples.specs.Runs.{Turn, turn, roomy, turnsHold}
 
 -- a call that gives what the rules say, made of what stands
 abbrev pub callOf : Terminal → Asked → List ℕ → Call

@@ -13,7 +13,7 @@ use Rattle.model.specs.Bytes.{joined}
 use Rattle.model.specs.Reading.{afterEscape, gathered, needed, remaining, unfinished?}
 use Rattle.model.proofs.Gathering.{needed-least, none-unfinished, remaining-unfinished, waiting-most}
 use Rattle.model.proofs.LineLaws.{remaining-length}
-use Rattle.model.proofs.Wholes.{whole-next, whole-rest, whole-stop}
+use Rattle.calls.proofs.Wholes.{whole-next, whole-rest, whole-stop}
 use Rattle.line.specs.Whole.{wholeEnd, wholeItem}
 
 -- the item in front is whole and has n bytes, or it is not

@@ -19,7 +19,7 @@ use Rattle.model.specs.OnScreen.{onScreen?, onScreenCodes}
 use Rattle.model.specs.Reading.{byteOf}
 use Rattle.model.specs.Rules.{applyItem, awaited, blankFrom, centred, cleared, control, dotsCleared, down, emptied, erased, flagged, keyLine, lifted, missed, nearest, obeyed, onLines, onward, placed, printed, remarked, right, runsOn, shifted, stored, toColumn, topped, tracked, trackedFar, withCells, withDots, withKeys, withKindPatterns, withLayer, withSettings}
 use Rattle.model.specs.Items.{Event, happened, itemRead, keySet, lineLeft, lined, texted}
-use Rattle.model.specs.Claims.{isMode, setsMode}
+use Rattle.model.specs.Kept.{isMode, setsMode}
 use Rattle.model.proofs.Tests.{cond-at, cond₂, differ}
 
 abbrev Stays : State → State → Type 0

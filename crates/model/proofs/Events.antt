@@ -24,10 +24,9 @@ use Rattle.model.specs.declared.Limits.{Limits}
 use Rattle.model.specs.Judging.{allowed, badOf, fitting, judged, legal?, legalItem?, limitsOf}
 use Rattle.model.specs.Rules.{applyItem, withSettings}
 use Rattle.model.specs.Items.{Event, applyAll, eventsOf, happened, itemRead, keySet, lineLeft, lined, readsOf, texted}
-use Rattle.model.specs.Calls.{keyable}
-use Rattle.model.specs.Claims.{InWindow, On, SameWindow, Unchanged, isRefusal, movesWindow, mustFollow, refusedEvent, setsMode}
+use Rattle.model.specs.Keyable.{keyable}
+use Rattle.model.specs.Kept.{InWindow, On, SameWindow, Unchanged, isRefusal, movesWindow, mustFollow, refusedEvent, setsMode, noEvent}
 use Rattle.model.proofs.Frames.{SameScreen, Spared, legalEvent?}
-use Rattle.model.specs.Demand.{noEvent}
 use Rattle.model.proofs.Tests.{and-left, and-right, cond-at, differ}
 use Rattle.model.proofs.ByteLaws.{getD-part, length-put}
 use Rattle.model.proofs.LineLaws.{length-padded, line-true}

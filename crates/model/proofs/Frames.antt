@@ -11,7 +11,7 @@ use Rattle.model.specs.Marks.{marksOf}
 use Rattle.model.specs.Line.{line?, padded}
 use Rattle.model.specs.Judging.{legalItem?}
 use Rattle.model.specs.Items.{Event, itemRead, lineLeft, keySet}
-use Rattle.model.specs.Calls.{keyable}
+use Rattle.model.specs.Keyable.{keyable}
 
 -- the cells of screen k
 abbrev pub cellsOf : State → ℕ → List ℕ

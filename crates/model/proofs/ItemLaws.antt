@@ -21,7 +21,7 @@ use Rattle.model.specs.Marks.{markOf, marksDown, marksUp}
 use Rattle.model.specs.Sound.{Good, Inside, Shaped, Sound, arrayRanges, keyRanges, mode0, mode1, mode2, plainRanges, aloneRanges, mode3}
 use Rattle.model.specs.Judging.{legal?, legalItem?, limitsOf, ranges, judgedRanges}
 use Rattle.model.specs.Rules.{applyItem, centred, displaying, emptied, flagged, keyLine, modeSet, obeyed, placed, withArrows, withKeys, withKindPatterns, withLayer, withLed, withSettings}
-use Rattle.model.specs.Claims.{isDisplay, isMode}
+use Rattle.model.specs.Kept.{isDisplay, isMode}
 use Rattle.model.proofs.Frames.{SameScreen, Spared}
 use Rattle.model.proofs.Tests.{cond-at, differ, ranges-true}
 use Rattle.model.proofs.ByteLaws.{length-down, length-listFrom, length-put, length-up}

@@ -10,9 +10,9 @@ use borrow.Author.Tests.{leb-true}
 use Rattle.model.specs.Records.{uncut?}
 use Rattle.model.specs.declared.Answer.{Answer}
 use Rattle.model.specs.Items.{blankAnswer}
-use Rattle.model.specs.Calls.{Promised, Reason, Terminal, firstOf, knownIn, noneWaits, numberOf, pack, packCalled, packable, reason, reasons, request, shortIn, sized, soundIn}
-use Rattle.model.proofs.CallLaws.{refused-number}
-use Rattle.model.proofs.Promises.{promised-none}
+use Rattle.calls.specs.Calls.{Promised, Reason, Terminal, firstOf, knownIn, noneWaits, numberOf, pack, packCalled, packable, reason, reasons, request, shortIn, sized, soundIn}
+use Rattle.calls.proofs.CallLaws.{refused-number}
+use Rattle.calls.proofs.Promises.{promised-none}
 use Rattle.packs.specs.Bytes.{ofBytes}
 
 -- what its bytes are refused by

@@ -1,4 +1,4 @@
--- The loop over the messages of a pack, for the code: what was sent and what is left are together the whole call (model's `Going`), and what is left begins
+-- The loop over the messages of a pack, for the code: what was sent and what is left are together the whole call (theorems' `Going`), and what is left begins
 -- where a record does. A turn is one message more.
 use mathlib.Core.Path.{_∙_, _≡_, ap, refl, subst, sym}
 use Prim.Native.Nat.{_+_, _-_, _<_, _^_, _≤_, ℕ}
@@ -13,15 +13,15 @@ use Rattle.model.specs.declared.Outcome.{Outcome}
 use Rattle.model.specs.declared.Settings.{Settings}
 use Rattle.model.specs.State.{state}
 use Rattle.model.specs.Records.{lengthIn}
-use Rattle.model.specs.Packs.{bodiesOf}
+use Rattle.calls.specs.Packs.{bodiesOf}
 use Rattle.model.specs.Items.{blankAnswer}
-use Rattle.model.specs.Calls.{Promised, Request, Terminal, accepted, called, firstOf, message, numberOf, pack, packCalled, reasons, request, terminal}
-use Rattle.model.specs.Stream.{together}
+use Rattle.calls.specs.Calls.{Promised, Request, Terminal, accepted, called, firstOf, message, numberOf, pack, packCalled, reasons, request, terminal}
+use Rattle.calls.specs.Answers.{together}
 use Rattle.model.proofs.ByteLaws.{length-written}
-use Rattle.model.proofs.CallLaws.{accepted-number, number-accepted}
-use Rattle.model.proofs.Bounds.{bounded}
-use Rattle.model.proofs.OneByOne.{AllShort, Quiet, alsoShort, pack-quiet, quiet-accepted}
-use Rattle.model.proofs.PackLoop.{Going, begins, bodies-within, ends, goes-on, recordThen}
+use Rattle.calls.proofs.CallLaws.{accepted-number, number-accepted}
+use Rattle.calls.proofs.Bounds.{bounded}
+use Rattle.theorems.proofs.OneByOne.{AllShort, Quiet, alsoShort, pack-quiet, quiet-accepted}
+use Rattle.theorems.proofs.PackLoop.{Going, begins, bodies-within, ends, goes-on, recordThen}
 use Rattle.records.proofs.Laws.{bodies-at, bodies-over}
 use Rattle.pieces.specs.Parts.{Addable, bothOf}
 use Rattle.serving.specs.Serves.{Servable, Serves}

@@ -8,8 +8,8 @@ use mathlib.Core.List.{List}
 use lib.ListN.{drop, length, length-drop}
 use lib.Dec.{eqb, leb}
 use Rattle.model.specs.Records.{Record, all?, kindIn, lengthIn, recordIn, recordsOf, uncut?}
-use Rattle.model.specs.Packs.{known?}
-use Rattle.model.specs.Calls.{knownIn, short, shortIn}
+use Rattle.calls.specs.Packs.{known?}
+use Rattle.calls.specs.Calls.{knownIn, short, shortIn}
 use Rattle.records.proofs.Laws.{all-at, all-over, known-at, short-at, uncut-fits, uncut-past}
 
 -- a place in the pack, where a record begins or the pack ends

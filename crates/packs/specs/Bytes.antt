@@ -2,7 +2,7 @@
 use Prim.Native.Nat.{ℕ}
 use mathlib.Core.List.{List, [], _∷_}
 use Rattle.model.specs.Records.{uncut?}
-use Rattle.model.specs.Calls.{Reason, knownIn, packable, reason, shortIn}
+use Rattle.calls.specs.Calls.{Reason, knownIn, packable, reason, shortIn}
 
 -- "19 too long, 20 cut record, 21 unknown kind, then 2"
 abbrev pub ofBytes : List ℕ → List Reason

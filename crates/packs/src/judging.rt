@@ -1,6 +1,6 @@
 // The number of a pack call: "The whole pack is checked for each number before the next."
 ghost use mathlib.Core.Path.{_≡_};
-ghost use Rattle.model.specs.Calls.{Asked, firstOf, reasons, terminal};
+ghost use Rattle.calls.specs.Calls.{Asked, firstOf, reasons, terminal};
 ghost use Rattle.packs.specs.Bytes.{ofBytes};
 use model::MESSAGE;
 use model::PACK;

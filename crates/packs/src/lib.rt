@@ -4,7 +4,7 @@
 mod judging;
 mod sending;
 
-ghost use Rattle.model.specs.Calls.{Promised, packCalled, terminal};
+ghost use Rattle.calls.specs.Calls.{Promised, packCalled, terminal};
 use judging::pack_number;
 use model::PackOutcome;
 use model::Settings;

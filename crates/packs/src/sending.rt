@@ -2,7 +2,7 @@
 ghost use mathlib.Core.Path.{_≡_};
 ghost use mathlib.Core.Bool.{cond};
 ghost use lib.Dec.{eqb};
-ghost use Rattle.model.specs.Calls.{Asked, Promised, firstOf, packCalled, reasons, terminal};
+ghost use Rattle.calls.specs.Calls.{Asked, Promised, firstOf, packCalled, reasons, terminal};
 use model::PackOutcome;
 use model::Settings;
 use pieces::together;

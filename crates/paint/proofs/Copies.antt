@@ -14,7 +14,7 @@ use Rattle.model.specs.State.{State}
 use Rattle.model.specs.Picture.{copied, copiedRows, copySizeOf, dotCopy, painting, picture, pictureCopy}
 use Rattle.model.proofs.ByteLaws.{getD-listFrom, length-listFrom, same-listFrom}
 use Rattle.model.proofs.DotLaws.{dots-copied}
-use Rattle.model.proofs.Printing.{length-rows}
+use Rattle.calls.proofs.Printing.{length-rows}
 use Rattle.store.proofs.Laws.{put-then}
 use Rattle.paint.specs.Copy.{printed, rowCopied}
 

@@ -10,13 +10,13 @@ use Rattle.model.specs.declared.Settings.{Settings}
 use Rattle.model.specs.State.{withLine}
 use Rattle.model.specs.Line.{LineSound, heldIn, line?, padded}
 use Rattle.model.specs.Items.{blankAnswer}
-use Rattle.model.specs.Calls.{Promised, Terminal, called, closed, closing, itemBytes, startOf, takenBy, terminal}
-use Rattle.model.specs.Claims.{countAfter, waitsAfter}
+use Rattle.calls.specs.Calls.{Promised, Terminal, called, closed, closing, itemBytes, startOf, takenBy, terminal}
+use Rattle.calls.specs.Claims.{countAfter, waitsAfter}
 use Rattle.model.proofs.LineLaws.{line-true}
-use Rattle.model.proofs.Printing.{buffer-length}
-use Rattle.model.proofs.Wholes.{closed-read}
+use Rattle.calls.proofs.Printing.{buffer-length}
+use Rattle.calls.proofs.Wholes.{closed-read}
 use Rattle.pieces.specs.Parts.{closingNumber, countedFrom}
-use Rattle.model.proofs.Bounds.{bounded}
+use Rattle.calls.proofs.Bounds.{bounded}
 use Rattle.pieces.proofs.Numbers.{closing-number}
 use Rattle.pieces.proofs.Pieces.{call, promised-not}
 use Rattle.pieces.proofs.Quiet.{held-is, quiet, quiet-refused, quiet-served}

@@ -7,10 +7,10 @@ use lib.ListN.{drop, length, length-append, length-drop, length-take, take, take
 use lib.Seq.{drop-append-le, drop-drop, length-take-le, take-all, take-at, take-take}
 use Rattle.model.specs.declared.Settings.{Settings}
 use Rattle.model.specs.Line.{LineSound, heldIn, limit}
-use Rattle.model.specs.Calls.{terminal}
-use Rattle.model.proofs.Wholes.{wholeEnd}
+use Rattle.calls.specs.Calls.{terminal}
+use Rattle.calls.proofs.Wholes.{wholeEnd}
 use Rattle.line.specs.Whole.{wholeEnd as lineEnd}
-use Rattle.model.proofs.Joining.{end-within}
+use Rattle.calls.proofs.Joining.{end-within}
 use Rattle.pieces.proofs.Quiet.{held-is}
 use Rattle.pieces.proofs.Refusals.{Told, told-line, told-within}
 

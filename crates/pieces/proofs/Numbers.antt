@@ -8,12 +8,12 @@ use Rattle.model.specs.declared.Answer.{Answer}
 use Rattle.model.specs.Bytes.{written}
 use Rattle.model.specs.Reading.{uncut}
 use Rattle.model.specs.Items.{blankAnswer, lined}
-use Rattle.model.specs.Calls.{Asked, Promised, Request, Terminal, accepted, called, closing, countable, firstOf, itemBytes, message, noneWaits, numberOf, packed?, paints?, piece, reason, reasons, request, short, sized, soundIn, startOf, takenBy}
-use Rattle.model.specs.Claims.{countAfter, waitsAfter}
-use Rattle.model.proofs.CallLaws.{accepted-number, answer-number, left-is, refused-answer, refused-leaves, refused-number, refused-prints}
-use Rattle.model.proofs.Offsets.{further}
-use Rattle.model.proofs.Parts.{taking}
-use Rattle.model.proofs.Promises.{promised-none}
+use Rattle.calls.specs.Calls.{Asked, Promised, Request, Terminal, accepted, called, closing, countable, firstOf, itemBytes, message, noneWaits, numberOf, packed?, paints?, piece, reason, reasons, request, short, sized, soundIn, startOf, takenBy}
+use Rattle.calls.specs.Claims.{countAfter, waitsAfter}
+use Rattle.calls.proofs.CallLaws.{accepted-number, answer-number, left-is, refused-answer, refused-leaves, refused-number, refused-prints}
+use Rattle.calls.proofs.Offsets.{further}
+use Rattle.theorems.proofs.Parts.{taking}
+use Rattle.calls.proofs.Promises.{promised-none}
 use Rattle.pieces.proofs.Pieces.{call, part-of, promised-one}
 
 -- the number, where only 1 and 3 can be

@@ -17,18 +17,18 @@ use Rattle.model.specs.Sound.{aloneRanges, arrayRanges, inside?, insideRanges, 
 use Rattle.model.specs.Picture.{covered, halves, painting, picture, pictureAt, sides, textAt, under, windowAt}
 use Rattle.model.specs.Reading.{Read, gathered, remaining, uncut}
 use Rattle.model.specs.Rules.{withSettings}
-use Rattle.model.specs.Packs.{readsEach}
+use Rattle.calls.specs.Packs.{readsEach}
 use Rattle.model.specs.Items.{applyAll, blankAnswer, copies, countedAll, eventsOf, lined, readsOf}
-use Rattle.model.specs.Calls.{Asked, Call, Promised, Request, Terminal, accepted, answerOf, besideItems, called, firstOf, itemBytes, message, numberOf, packed?, packedBy, paints?, piece, printedBy, readsBy, reasons, request, served, startOf, takenBy}
-use Rattle.model.specs.Claims.{countAfter, waitsAfter}
-use Rattle.model.specs.Stream.{together}
-use Rattle.model.proofs.CallLaws.{accepted-answer, accepted-number, accepted-painted, accepted-prints, answer-number, left-is, plain-record, refused-number}
-use Rattle.model.proofs.LineAfter.{leaves, leaves-lined}
+use Rattle.calls.specs.Calls.{Asked, Call, Promised, Request, Terminal, accepted, answerOf, besideItems, called, firstOf, itemBytes, message, numberOf, packed?, packedBy, paints?, piece, printedBy, readsBy, reasons, request, served, startOf, takenBy}
+use Rattle.calls.specs.Claims.{countAfter, waitsAfter}
+use Rattle.calls.specs.Answers.{together}
+use Rattle.calls.proofs.CallLaws.{accepted-answer, accepted-number, accepted-painted, accepted-prints, answer-number, left-is, plain-record, refused-number}
+use Rattle.calls.proofs.LineAfter.{leaves, leaves-lined}
 use Rattle.model.proofs.Lined.{applied-lined, copies-lined, reads-lined}
-use Rattle.model.proofs.Offsets.{further}
-use Rattle.model.proofs.Parts.{itemsOf, later-counts, later-prints, later-state, piece-answer, piece-prints, piece-state, printsIn, stateOf, taking, taking-all, written-twice}
-use Rattle.model.proofs.Printing.{printed-is}
-use Rattle.model.proofs.Promises.{promised-by, promised-none}
+use Rattle.calls.proofs.Offsets.{further}
+use Rattle.theorems.proofs.Parts.{itemsOf, later-counts, later-prints, later-state, piece-answer, piece-prints, piece-state, printsIn, stateOf, taking, taking-all, written-twice}
+use Rattle.calls.proofs.Printing.{printed-is}
+use Rattle.calls.proofs.Promises.{promised-by, promised-none}
 
 -- a call of any kind but a pack, from its parts
 abbrev pub call : Asked → Terminal → List ℕ → Answer → Terminal → List ℕ → Call

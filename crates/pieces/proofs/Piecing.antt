@@ -12,14 +12,14 @@ use Rattle.model.specs.declared.Settings.{Settings}
 use Rattle.model.specs.State.{withLine}
 use Rattle.model.specs.Line.{heldIn, padded}
 use Rattle.model.specs.Reading.{gathered, remaining, uncut}
-use Rattle.model.specs.Calls.{Promised, Terminal, called, firstOf, itemBytes, piece, pieced, reasons, startOf, takenBy, terminal}
-use Rattle.model.specs.Claims.{countAfter, waitsAfter}
+use Rattle.calls.specs.Calls.{Promised, Terminal, called, firstOf, itemBytes, piece, pieced, reasons, startOf, takenBy, terminal}
+use Rattle.calls.specs.Claims.{countAfter, waitsAfter}
 use Rattle.model.proofs.Tests.{cond-at}
-use Rattle.model.proofs.Printing.{buffer-length}
-use Rattle.model.proofs.Wholes.{wholeEnd}
+use Rattle.calls.proofs.Printing.{buffer-length}
+use Rattle.calls.proofs.Wholes.{wholeEnd}
 use Rattle.pieces.specs.Parts.{Addable, bothOf, countedFrom}
-use Rattle.model.proofs.Bounds.{Bounded, bounded}
-use Rattle.model.proofs.Joining.{one-cut, one-rest, rest-most, two-cut, two-rest}
+use Rattle.calls.proofs.Bounds.{Bounded, bounded}
+use Rattle.calls.proofs.Joining.{one-cut, one-rest, rest-most, two-cut, two-rest}
 use Rattle.pieces.proofs.Numbers.{oneOrThree, piece-number}
 use Rattle.pieces.proofs.Quiet.{quiet, quiet-refused, quiet-served}
 use Rattle.pieces.proofs.Refusals.{Told, told-few}

@@ -15,18 +15,18 @@ use Rattle.model.specs.Line.{heldIn, limit, padded}
 use Rattle.model.specs.Reading.{gathered, remaining, uncut}
 use Rattle.model.specs.Rules.{withSettings}
 use Rattle.model.specs.Items.{lined}
-use Rattle.model.specs.Calls.{Promised, Request, Terminal, accepted, called, countable, firstOf, itemBytes, message, noneWaits, piece, pieced, reasons, request, short, startOf, takenBy, terminal}
-use Rattle.model.specs.Claims.{countAfter, waitsAfter}
-use Rattle.model.proofs.CallLaws.{accepted-number, accepted-sound, answer-number}
+use Rattle.calls.specs.Calls.{Promised, Request, Terminal, accepted, called, countable, firstOf, itemBytes, message, noneWaits, piece, pieced, reasons, request, short, startOf, takenBy, terminal}
+use Rattle.calls.specs.Claims.{countAfter, waitsAfter}
+use Rattle.calls.proofs.CallLaws.{accepted-number, accepted-sound, answer-number}
 use Rattle.model.proofs.Gathering.{none-unfinished}
-use Rattle.model.proofs.LineAfter.{leaves-lined, self-lined}
-use Rattle.model.proofs.Offsets.{further}
-use Rattle.model.proofs.Parts.{taking}
-use Rattle.model.proofs.Wholes.{whole-read, whole-rest}
+use Rattle.calls.proofs.LineAfter.{leaves-lined, self-lined}
+use Rattle.calls.proofs.Offsets.{further}
+use Rattle.theorems.proofs.Parts.{taking}
+use Rattle.calls.proofs.Wholes.{whole-read, whole-rest}
 use Rattle.line.specs.Whole.{wholeEnd}
 use Rattle.pieces.specs.Parts.{countedFrom}
-use Rattle.model.proofs.Bounds.{bounded}
-use Rattle.model.proofs.Joining.{end-within, rest-most}
+use Rattle.calls.proofs.Bounds.{bounded}
+use Rattle.calls.proofs.Joining.{end-within, rest-most}
 use Rattle.pieces.proofs.Numbers.{accepted-with, oneOrThree, piece-number, refused-with, served-with}
 
 -- none waits, and it is small; where its whole items end

@@ -13,8 +13,8 @@ use Rattle.model.specs.Line.{LineSound, heldIn, line?, padded}
 use Rattle.model.specs.Reading.{uncut}
 use Rattle.model.specs.Rules.{withSettings}
 use Rattle.model.specs.Items.{lined}
-use Rattle.model.specs.Calls.{Asked, Promised, Terminal, accepted, called, firstOf, itemBytes, noneWaits, packed?, paints?, reasons, request, sized, soundIn, startOf, takenBy, terminal}
-use Rattle.model.specs.Claims.{countAfter, waitsAfter}
+use Rattle.calls.specs.Calls.{Asked, Promised, Terminal, accepted, called, firstOf, itemBytes, noneWaits, packed?, paints?, reasons, request, sized, soundIn, startOf, takenBy, terminal}
+use Rattle.calls.specs.Claims.{countAfter, waitsAfter}
 use Rattle.model.proofs.Gathering.{none-unfinished}
 use Rattle.model.proofs.LineLaws.{held-length, line-true, sound-padded, true-line}
 use Rattle.pieces.specs.Parts.{countedFrom}

@@ -8,7 +8,7 @@ use lib.ListN.{length}
 use borrow.Author.Tests.{leb-true}
 use Rattle.model.specs.declared.Settings.{Settings}
 use Rattle.model.specs.Line.{LineSound, limit, line?}
-use Rattle.model.specs.Calls.{Terminal, countable, short, sized, soundIn}
+use Rattle.calls.specs.Calls.{Terminal, countable, short, sized, soundIn}
 use Rattle.model.proofs.LineLaws.{line-true}
 use Rattle.pieces.specs.Parts.{closingNumber, lineNumber}
 

@@ -10,7 +10,7 @@ use Rattle.model.specs.Checks.{inRanges?}
 use Rattle.model.specs.Line.{line?}
 use Rattle.model.specs.Screens.{height, screens}
 use Rattle.model.specs.Sound.{arrayRanges, inside?, marks?, otherRanges, plainRanges, second?, shapeRanges, sound?}
-use Rattle.model.specs.Calls.{Terminal, closing, countable, firstOf, piece, reason, reasons, short, sized, soundIn}
+use Rattle.calls.specs.Calls.{Terminal, closing, countable, firstOf, piece, reason, reasons, short, sized, soundIn}
 use Rattle.pieces.specs.Parts.{closingNumber, lineNumber}
 use Rattle.pieces.proofs.Refusals.{closing-numbered, line-numbered}
 

@@ -6,9 +6,9 @@ use mathlib.Core.List.{List}
 use lib.Dec.{eqb}
 use Rattle.model.specs.declared.Answer.{Answer}
 use Rattle.model.specs.declared.Settings.{Settings}
-use Rattle.model.specs.Calls.{Terminal, countable, short, sized, soundIn}
+use Rattle.calls.specs.Calls.{Terminal, countable, short, sized, soundIn}
 use Rattle.model.specs.Line.{line?}
-use Rattle.model.specs.Stream.{together}
+use Rattle.calls.specs.Answers.{together}
 
 -- "offsets count from the stream's start": the first refusal's offset, if there is one; so many bytes taken
 abbrev pub countedFrom : ℕ → ℕ → Answer → Answer

@@ -4,7 +4,7 @@ ghost use mathlib.Core.Bool.{true};
 ghost use Prim.Native.Nat.{_+_, _^_, _<_, _≤_};
 ghost use lib.Dec.{leb};
 ghost use lib.ListN.{length, replicate};
-ghost use Rattle.model.specs.Calls.{terminal};
+ghost use Rattle.calls.specs.Calls.{terminal};
 ghost use Rattle.model.specs.Line.{padded};
 ghost use Rattle.model.specs.State.{withLine};
 ghost use Rattle.pieces.specs.Parts.{Addable, bothOf, closingNumber, countedFrom, lineNumber};

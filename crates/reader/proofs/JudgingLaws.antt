@@ -28,7 +28,7 @@ use Rattle.reader.specs.Judging.{Finds, FindsFrom, verdict}
 use Rattle.model.proofs.Tests.{and-left, and-right, by-test, cond-at, differ}
 use Rattle.model.proofs.Arms.{key-of}
 use Rattle.model.proofs.Cases.{none-passes}
-use Rattle.model.proofs.Parameters.{naming}
+use Rattle.theorems.proofs.Parameters.{naming}
 
 -- the cases of `Sequence`, by their numbers: those with no parameter that is judged, and those that are no copy
 abbrev pub free : List ℕ

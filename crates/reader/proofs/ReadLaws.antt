@@ -14,7 +14,7 @@ use Rattle.model.specs.declared.Item.{Item}
 use Rattle.model.specs.declared.Item.the-variants.{Printed, Control, Refused}
 use Rattle.model.specs.Reading.{decoded, ended, itemOf, needed, ownBytes}
 use Rattle.model.specs.Judging.{allowed, fitting, judged}
-use Rattle.model.proofs.Loop.{own-some}
+use Rattle.calls.proofs.Loop.{own-some}
 use Rattle.model.proofs.Tests.{elim-at}
 use Rattle.model.proofs.Events.{legal-judged}
 use Rattle.tables.specs.Lengths.{lengthOf}

@@ -9,9 +9,9 @@ use borrow.Author.Tests.{le-leb}
 use Rattle.model.specs.declared.Answer.{Answer}
 use Rattle.model.specs.declared.Outcome.{Outcome}
 use Rattle.model.specs.Bytes.{written}
-use Rattle.model.specs.Calls.{Asked, Call, Promised, Terminal, printedBy, requestOf, terminal}
-use Rattle.model.specs.Opening.{firstPart}
-use Rattle.model.proofs.Printing.{buffer-length, printed-is, prints-fit}
+use Rattle.calls.specs.Calls.{Asked, Call, Promised, Terminal, printedBy, requestOf, terminal}
+use Rattle.calls.specs.Opening.{firstPart}
+use Rattle.calls.proofs.Printing.{buffer-length, printed-is, prints-fit}
 use Rattle.report.specs.Adler.{adlerFrom}
 use Rattle.recording.specs.declared.Played.{Played}
 use Rattle.recording.specs.Playing.{Plays, Told, callOf}

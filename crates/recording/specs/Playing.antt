@@ -5,8 +5,8 @@ use mathlib.Core.List.{List, []}
 use lib.ListN.{length}
 use Rattle.model.specs.declared.Answer.{Answer}
 use Rattle.model.specs.declared.Outcome.{Outcome}
-use Rattle.model.specs.Calls.{Asked, Call, KeyPromised, Promised, Terminal, answerOf, keyText, printedBy, recordOf, request, terminal}
-use Rattle.model.specs.Opening.{OpeningPromised, firstPart, openingNumber, unopened}
+use Rattle.calls.specs.Calls.{Asked, Call, KeyPromised, Promised, Terminal, answerOf, keyText, printedBy, recordOf, request, terminal}
+use Rattle.calls.specs.Opening.{OpeningPromised, firstPart, openingNumber, unopened}
 use Rattle.report.specs.Adler.{adlerFrom}
 use Rattle.recording.specs.declared.Played.{Played}
 

@@ -4,7 +4,7 @@
 ghost use mathlib.Core.Path.{_≡_};
 ghost use mathlib.Core.List.{[]};
 ghost use Prim.Native.Nat.{_+_, _*_, _≤_};
-ghost use Rattle.model.specs.Calls.{Asked, terminal};
+ghost use Rattle.calls.specs.Calls.{Asked, terminal};
 ghost use Rattle.recording.specs.Playing.{KeyPlayed, Opens, Plays, Told};
 use libc::STDIN_FILENO;
 use model::Answer;

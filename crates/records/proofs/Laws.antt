@@ -11,8 +11,8 @@ use lib.Seq.{drop-drop, getD-drop}
 use lib.Dec.{eqb, leb, ltb}
 use borrow.Author.Tests.{eqb-false, eqb-true, ltb-false, ltb-true, ne-eqb}
 use Rattle.model.proofs.Tests.{differ}
-use Rattle.model.specs.Calls.{short}
-use Rattle.model.specs.Packs.{bodiesOf, known?}
+use Rattle.calls.specs.Calls.{short}
+use Rattle.calls.specs.Packs.{bodiesOf, known?}
 use Rattle.model.specs.Records.{Record, all?, bodyIn, kindIn, lacking, lengthIn, numberIn, recordIn, recordsAfter, recordsOf, uncut?}
 
 number-two : (bs : List ℕ) → numberIn (take 2 bs) ≡ getD bs 0 0 + 256 * getD bs 1 0

@@ -13,18 +13,19 @@ use Rattle.model.specs.declared.Place.{Place}
 use Rattle.model.specs.Bytes.{put}
 use Rattle.model.specs.State.{putAt, state}
 use Rattle.model.specs.Rules.{nearest, printed, stored, tracked, unmark}
-use Rattle.screen.specs.declared.Frame.{Frame}
-use Rattle.screen.specs.Frame.{Ready}
-use Rattle.screen.specs.Acts.{Acts, Reads}
-use Rattle.screen.specs.Here.{cellIn, lost, shownHere}
-use Rattle.screen.specs.Run.{furtherBy, laidAll, printedAll, unmarked}
-use Rattle.screen.proofs.Acting.{likewise, stays, still, then, then-above}
-use Rattle.screen.proofs.Cells.{cell-room}
-use Rattle.screen.proofs.Steps.{cell-is, unmarked-layer}
+use Rattle.ground.specs.declared.Frame.{Frame}
+use Rattle.ground.specs.Frame.{Ready}
+use Rattle.ground.specs.Acts.{Acts, Reads}
+use Rattle.ground.specs.Here.{cellIn, lost, shownHere}
+use Rattle.ground.specs.Spots.{furtherBy, unmarked}
+use Rattle.screen.specs.Run.{laidAll, printedAll}
+use Rattle.ground.proofs.Acting.{likewise, stays, still, then, then-above}
+use Rattle.ground.proofs.Cells.{cell-room}
+use Rattle.ground.proofs.Steps.{cell-is, unmarked-layer}
 use Rattle.screen.proofs.Moves.{awaited-still, right-steps, waits-not}
 use Rattle.screen.proofs.Shown.{Spot, spot-next, spot-of}
 use Rattle.screen.proofs.Windows.{lost-next, lost-still}
-use Rattle.screen.proofs.Rows.{put-sets, unmark-none}
+use Rattle.ground.proofs.Rows.{put-sets, unmark-none}
 
 module _ {f : Frame} where
   stored-spot : {p : Place} {c l : List ℕ} {n : ℕ} (b : ℕ) → Ready f p c l → Spot f p n → Acts (stored b) f p p c l (set c (cellIn f p) b) (unmark n l)

@@ -11,8 +11,8 @@ use Rattle.model.specs.Sound.{Shaped, Sound, aloneRanges, arrayRanges, mode0, m
 use Rattle.model.specs.Judging.{limitsOf}
 use Rattle.model.proofs.Keep.{chosen, height-low, one-there, tall, wide, within}
 use Rattle.model.proofs.Tests.{by-test, cond-at}
-use Rattle.screen.specs.declared.Frame.{Frame}
-use Rattle.screen.specs.Frame.{Framed, FrameOf, Stands, limitsIn}
+use Rattle.ground.specs.declared.Frame.{Frame}
+use Rattle.ground.specs.Frame.{Framed, FrameOf, Stands, limitsIn}
 
 shaped-lines : {m l1 l2 c1 c2 : ℕ} → Shaped m l1 l2 c1 c2 → (l1 ≤ 48) × (l2 ≤ 48) × (c1 ≤ 80)
 shaped-lines (mode0 m p q a b c) = omega arith

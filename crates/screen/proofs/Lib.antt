@@ -1,14 +1,7 @@
-pub mod Acting
-pub mod LogicalLaws
-pub mod Carried
 pub mod Frames
-pub mod Cells
 pub mod Shown
-pub mod Steps
 pub mod Moves
-pub mod Regions
 pub mod Windows
 pub mod Sequences
-pub mod Rows
 pub mod Chunks
 pub mod Runs

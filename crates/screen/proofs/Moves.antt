@@ -13,15 +13,15 @@ use Rattle.model.specs.Screens.{columnsHere, here, linesHere}
 use Rattle.model.specs.Marks.{runningOn}
 use Rattle.model.specs.Sound.{mostWait}
 use Rattle.model.specs.Rules.{awaited, control, down, lifted, onward, placed, remarked, right, runsOn, stored, toColumn, unmark}
-use Rattle.screen.specs.declared.Frame.{Frame}
+use Rattle.ground.specs.declared.Frame.{Frame}
 use Rattle.model.proofs.Tests.{and-right, cond-at}
-use Rattle.screen.specs.Frame.{Ready, Stands}
-use Rattle.screen.specs.Acts.{Acts, ActsWith, Reads}
-use Rattle.screen.specs.Logical.{Remarks}
-use Rattle.screen.specs.Here.{cellIn, shownHere}
-use Rattle.screen.proofs.Acting.{at-value, likewise, stays, still, when-false, when-true}
-use Rattle.screen.proofs.Carried.{at-value-with, remarked-acts, then-with, unmarked-acts, when-false-with, when-true-with}
-use Rattle.screen.proofs.Steps.{cell-is, cursor-acts, here-is, moved, placed-acts, put-stands, unmarked-layer}
+use Rattle.ground.specs.Frame.{Ready, Stands}
+use Rattle.ground.specs.Acts.{Acts, ActsWith, Reads}
+use Rattle.ground.specs.Logical.{Remarks}
+use Rattle.ground.specs.Here.{cellIn, shownHere}
+use Rattle.ground.proofs.Acting.{at-value, likewise, stays, still, when-false, when-true}
+use Rattle.ground.proofs.Carried.{at-value-with, remarked-acts, then-with, unmarked-acts, when-false-with, when-true-with}
+use Rattle.ground.proofs.Steps.{cell-is, cursor-acts, here-is, moved, placed-acts, put-stands, unmarked-layer}
 
 -- tests: the cursor's line is above the last, its column before the last
 line-test : {f : Frame} {p : Place} {b : Bool} → ltb (p .line) (f .lines) ≡ b → Reads (λ (st : State). ltb (here st .line) (linesHere st)) f p b

@@ -16,18 +16,19 @@ use Rattle.model.specs.Screens.{placeOf}
 use Rattle.model.specs.Rules.{awaited, printed, right, stored, tracked}
 use Rattle.model.proofs.Waiting.{awaited-not}
 use Rattle.model.proofs.Tests.{and-left, and-right}
-use Rattle.screen.specs.declared.Frame.{Frame}
+use Rattle.ground.specs.declared.Frame.{Frame}
 use Rattle.screen.specs.declared.run.Run.{Run}
-use Rattle.screen.specs.Frame.{Ready}
-use Rattle.screen.specs.Acts.{Acts, ActsAbove, ActsWith, Reads, withHere}
-use Rattle.screen.specs.Here.{cellIn, lost}
-use Rattle.screen.specs.Run.{Fitting, Part, Printing, Ran, Uncovers, WholeRun, allPrint?, furtherBy, laidAll, printedAll, prints?, unmarked}
-use Rattle.screen.proofs.Acting.{placed-there}
-use Rattle.screen.proofs.Carried.{likewise-with, still-with, then-above-with, then-with, unmarked-acts}
-use Rattle.screen.proofs.Cells.{cell-room}
+use Rattle.ground.specs.Frame.{Ready}
+use Rattle.ground.specs.Acts.{Acts, ActsAbove, ActsWith, Reads, withHere}
+use Rattle.ground.specs.Here.{cellIn, lost}
+use Rattle.ground.specs.Spots.{furtherBy, unmarked}
+use Rattle.screen.specs.Run.{Fitting, Part, Printing, Ran, Uncovers, WholeRun, allPrint?, laidAll, printedAll, prints?}
+use Rattle.ground.proofs.Acting.{placed-there}
+use Rattle.ground.proofs.Carried.{likewise-with, still-with, then-above-with, then-with, unmarked-acts}
+use Rattle.ground.proofs.Cells.{cell-room}
 use Rattle.screen.proofs.Chunks.{laid-acts, laid-one}
 use Rattle.screen.proofs.Moves.{waits-not}
-use Rattle.screen.proofs.Rows.{put-sets}
+use Rattle.ground.proofs.Rows.{put-sets}
 use Rattle.screen.proofs.Shown.{Spot, spot-of}
 
 -- bytes behind others

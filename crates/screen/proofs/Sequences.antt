@@ -19,12 +19,12 @@ use Rattle.model.specs.Sequences.{codeOf, drawing, idle?, idleThere}
 use Rattle.model.proofs.Sequence.{the-type}
 use Rattle.model.proofs.Tests.{cond-at, differ}
 use Rattle.model.proofs.Cases.{none-passes}
-use Rattle.screen.specs.declared.Frame.{Frame}
-use Rattle.screen.specs.Frame.{Framed, Ready}
-use Rattle.screen.specs.Acts.{ActsAbove, ActsWith, Top, exceptDots}
+use Rattle.ground.specs.declared.Frame.{Frame}
+use Rattle.ground.specs.Frame.{Framed, Ready}
+use Rattle.ground.specs.Acts.{ActsAbove, ActsWith, Top, exceptDots}
 use Rattle.model.specs.OnScreen.{onScreen?, onScreenCodes}
 use Rattle.screen.specs.Obeys.{Obeys}
-use Rattle.screen.proofs.Carried.{dots-aside, likewise-with, unmarked-acts}
+use Rattle.ground.proofs.Carried.{dots-aside, likewise-with, unmarked-acts}
 use Rattle.screen.proofs.Windows.{topped-at, topped-whole}
 
 -- P11: a second byte in neither list is idle in no mode, and one that does not draw only in mode 3

@@ -12,13 +12,13 @@ use Rattle.model.specs.State.{State, putAt, state}
 use Rattle.model.specs.Screens.{height, here}
 use Rattle.model.specs.Rules.{shownAt}
 use Rattle.model.proofs.Tests.{by-test}
-use Rattle.screen.specs.declared.Frame.{Frame}
-use Rattle.screen.specs.Frame.{Framed}
-use Rattle.screen.specs.Acts.{Reads, withPlace}
-use Rattle.screen.specs.Here.{shownHere}
+use Rattle.ground.specs.declared.Frame.{Frame}
+use Rattle.ground.specs.Frame.{Framed}
+use Rattle.ground.specs.Acts.{Reads, withPlace}
+use Rattle.ground.specs.Here.{shownHere}
 use Rattle.screen.specs.Run.{Uncovers}
-use Rattle.screen.proofs.Acting.{framed-placed, placed-there}
-use Rattle.screen.proofs.Rows.{unmarked-empty}
+use Rattle.ground.proofs.Acting.{framed-placed, placed-there}
+use Rattle.ground.proofs.Rows.{unmarked-empty}
 
 -- line l under a window of top t over r rows: a where the rows show it, b where mode 1 shows it in the right half
 spot : Bool → ℕ → ℕ → ℕ → ℕ → ℕ → ℕ

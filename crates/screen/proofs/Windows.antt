@@ -11,12 +11,12 @@ use Rattle.model.specs.declared.Place.{Place}
 use Rattle.model.specs.State.{State, putAt, state, topAt}
 use Rattle.model.specs.Screens.{here}
 use Rattle.model.specs.Rules.{centred, emptied, held, missed, nearest, placed, topped}
-use Rattle.screen.specs.declared.Frame.{Frame}
-use Rattle.screen.specs.Frame.{Framed, LayerOf, Stands}
-use Rattle.screen.specs.Acts.{Acts, ActsAbove, Reads, Top, withPlace}
-use Rattle.screen.specs.Here.{earlier, greatest, later, lost}
-use Rattle.screen.proofs.Acting.{at-value, framed-placed, placed-there, still, then, when-false, when-true}
-use Rattle.screen.proofs.Steps.{emptied-acts, here-is, moved, placed-acts}
+use Rattle.ground.specs.declared.Frame.{Frame}
+use Rattle.ground.specs.Frame.{Framed, LayerOf, Stands}
+use Rattle.ground.specs.Acts.{Acts, ActsAbove, Reads, Top, withPlace}
+use Rattle.ground.specs.Here.{earlier, greatest, later, lost}
+use Rattle.ground.proofs.Acting.{at-value, framed-placed, placed-there, still, then, when-false, when-true}
+use Rattle.ground.proofs.Steps.{emptied-acts, here-is, moved, placed-acts}
 
 -- where the top goes
 -- 212

@@ -1,6 +1,2 @@
-pub mod Frame
-pub mod Acts
-pub mod Logical
-pub mod Here
 pub mod Obeys
 pub mod Run

@@ -8,8 +8,8 @@ use Rattle.model.specs.declared.Item.the-variants.{Sequence}
 use Rattle.model.specs.declared.Sequence.{Sequence as Seq}
 use Rattle.model.specs.Rules.{applyItem}
 use Rattle.model.specs.OnScreen.{onScreen?}
-use Rattle.screen.specs.declared.Frame.{Frame}
-use Rattle.screen.specs.Acts.{ActsWith, exceptDots}
+use Rattle.ground.specs.declared.Frame.{Frame}
+use Rattle.ground.specs.Acts.{ActsWith, exceptDots}
 
 -- one of these does what the model's rule for it does, whatever the message, the dots set aside (nothing, where it is idle in the mode: P11); any
 -- other leaves all as it was

@@ -7,11 +7,12 @@ use lib.ListN.{length, getD, take, drop}
 use lib.Dec.{leb}
 use Rattle.model.specs.declared.Place.{Place}
 use Rattle.model.specs.State.{State}
-use Rattle.model.specs.Rules.{awaited, printed, stored, unmark}
-use Rattle.screen.specs.declared.Frame.{Frame}
+use Rattle.model.specs.Rules.{awaited, printed, stored}
+use Rattle.ground.specs.declared.Frame.{Frame}
 use Rattle.screen.specs.declared.run.Run.{Run}
-use Rattle.screen.specs.Acts.{ActsWith, Reads}
-use Rattle.screen.specs.Here.{lost, shownHere}
+use Rattle.ground.specs.Acts.{ActsWith, Reads}
+use Rattle.ground.specs.Here.{lost, shownHere}
+use Rattle.ground.specs.Spots.{unmarked}
 
 -- bytes printed one after the other
 unfoldable pub printedAll : List ℕ → State → State
@@ -62,16 +63,7 @@ pub record Fitting (f : Frame) (p : Place) (n r : ℕ) : Type 0 where
   pub room : p .column + r ≤ f .columns + 1
   pub seen : 2 ≤ r → Reads lost f p false
 
--- the cursor so many columns further, and all else as it was
-abbrev pub furtherBy : ℕ → Place → Place
-furtherBy n p = record { line = p .line; column = p .column + n; top = p .top; waiting = p .waiting }
-
--- "emptying writes 0 in both": so many places in a row
-unfoldable pub unmarked : ℕ → ℕ → List ℕ → List ℕ
-unmarked p zero l = l
-unmarked p (suc n) l = unmarked (suc p) n (unmark p l)
-
--- the same from the place on that shows the cursor's cell
+-- so many places in a row are emptied, from the one on that shows the cursor's cell
 pub record Uncovers (f : Frame) (p : Place) (n : ℕ) (layer layer′ : List ℕ) : Type 0 where
   pub from : ℕ
   pub shows : Reads shownHere f p from

@@ -1,19 +1,19 @@
 // The cursor of the selected screen: storing where it stands, and moving it.
-use super::Frame;
-use super::lines;
-use super::logical;
-use super::marks;
-use super::places;
-use super::wide;
+use ground::Frame;
+use ground::lines;
+use ground::logical;
+use ground::marks;
+use ground::places;
+use ground::wide;
 use model::Place;
 use model::SHOWN;
 ghost use mathlib.Core.Path.{_≡_};
 ghost use lib.ListN.{length};
 ghost use Prim.Native.Nat.{_-_, _≤_, max};
 ghost use Rattle.model.specs.Rules.{awaited, stored, down, onward, right};
-ghost use Rattle.screen.specs.Frame.{LayerOf, Ready, Stands};
-ghost use Rattle.screen.specs.Acts.{Acts, ActsWith, Reads};
-ghost use Rattle.screen.specs.Here.{shownHere};
+ghost use Rattle.ground.specs.Frame.{LayerOf, Ready, Stands};
+ghost use Rattle.ground.specs.Acts.{Acts, ActsWith, Reads};
+ghost use Rattle.ground.specs.Here.{shownHere};
 ghost use Rattle.screen.specs.Run.{Uncovers};
 
 // The place that shows the cursor's cell, or 640 for none. Only in mode 1 is the window taller than the rows: the lines behind

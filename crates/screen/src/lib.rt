@@ -1,18 +1,19 @@
-// Everything that acts on the selected screen alone: its cells, the layer, its cursor and window, the marks of its lines. What it needs of the settings
-// is a frame, which a caller keeps beside the selected screen's place and the marks, so that a printed byte copies no settings.
+// Everything that acts on the selected screen alone: its cursor and window, runs of printed bytes, its sequences. Its cells, the layer and the marks of its lines
+// are changed by the crate `ground`. What it needs of the settings is a frame, which a caller keeps beside the selected screen's place and the marks, so that a
+// printed byte copies no settings.
 pub mod cursor;
-pub mod lines;
-mod logical;
-pub mod marks;
-pub mod places;
 pub mod run;
 pub mod window;
 
+use ground::Frame;
+use ground::lines;
+use ground::places;
+use ground::times;
 use model::Place;
 use model::Sequence;
 use model::Settings;
 ghost use mathlib.Core.Path.{_≡_};
-ghost use Prim.Native.Nat.{_+_, _*_, _-_, _<_, min};
+ghost use Prim.Native.Nat.{_+_, _-_, _<_};
 ghost use lib.Dec.{eqb};
 ghost use lib.ListN.{length};
 ghost use mathlib.Core.Bool.{cond, false, true};
@@ -22,29 +23,10 @@ ghost use Rattle.model.specs.Judging.{ranges, legal?};
 ghost use Rattle.model.specs.State.{State, putAt};
 ghost use Rattle.model.specs.Screens.{here};
 ghost use Rattle.model.specs.Rules.{printed, control, placed, right, stored, tracked, trackedFar};
-ghost use Rattle.screen.specs.Frame.{Stands, LayerOf, Ready, FrameOf, limitsIn};
-ghost use Rattle.screen.specs.Acts.{ActsAbove, ActsWith, exceptDots};
+ghost use Rattle.ground.specs.Frame.{Stands, LayerOf, Ready, FrameOf, limitsIn};
+ghost use Rattle.ground.specs.Acts.{ActsAbove, ActsWith, exceptDots};
 ghost use Rattle.model.specs.OnScreen.{onScreen?};
 ghost use Rattle.screen.specs.Obeys.{Obeys};
-
-// Of the selected screen: its first cell, its first mark, its lines and columns; the rows of the shown screen that show text and the window's height H; by
-// how many columns the picture shows it further right (mode 2, screen 2); the step of the window, whether it tracks the cursor, the rule of the last column, and
-// the mode, which no function here asks.
-// `bare` is no setting: it says that the layer is known to be empty, so that it need not be emptied again.
-pub struct Frame {
-    pub base: usize,
-    pub first: usize,
-    pub lines: u8,
-    pub columns: u8,
-    pub rows: u8,
-    pub height: u8,
-    pub shift: u8,
-    pub step: u8,
-    pub tracking: u8,
-    pub rule: u8,
-    pub mode: u8,
-    pub bare: bool,
-}
 
 // The frame of sound settings, under a layer that is known to be empty or not.
 pub fn frame_of(settings: Settings, bare: bool) -> Frame
@@ -234,25 +216,4 @@ fn shift_of(mode: u8, columns: u8) -> u8
     ensures { λ r. ⌜ r ≡ cond (eqb mode 2) (columns + 1) 0 ⌝ }
 {
     if mode == 2 { columns + 1 } else { 0 }
-}
-
-// A byte as an index.
-fn wide(x: u8) -> usize
-    ensures { λ r. ⌜ r ≡ x ⌝ }
-{
-    x as usize
-}
-
-// The lesser of two.
-fn least(x: usize, y: usize) -> usize
-    ensures { λ r. ⌜ r ≡ min x y ⌝ }
-{
-    if x < y { x } else { y }
-}
-
-// As many lines of so many columns as cells.
-fn times(x: u8, y: u8) -> usize
-    ensures { λ r. ⌜ (r ≡ x * y) × (r < 65536) ⌝ }
-{
-    wide(x) * wide(y)
 }

@@ -3,17 +3,17 @@ ghost use mathlib.Core.Path.{_≡_};
 ghost use Prim.Native.Nat.{_+_, _<_, _≤_};
 ghost use mathlib.Core.Bool.{false, true};
 ghost use lib.ListN.{drop, length, take};
-ghost use Rattle.screen.specs.Frame.{Ready, Stands};
-ghost use Rattle.screen.specs.Acts.{Acts, Reads};
-ghost use Rattle.screen.specs.Here.{lost};
+ghost use Rattle.ground.specs.Frame.{Ready, Stands};
+ghost use Rattle.ground.specs.Acts.{Acts, Reads};
+ghost use Rattle.ground.specs.Here.{lost};
 ghost use Rattle.screen.specs.Run.{Fitting, Part, Ran, WholeRun, allPrint?, printedAll, prints?};
-use crate::Frame;
 use crate::cursor;
-use crate::least;
-use crate::lines;
-use crate::places;
-use crate::wide;
 use crate::window;
+use ground::Frame;
+use ground::least;
+use ground::lines;
+use ground::places;
+use ground::wide;
 use model::Place;
 
 // Printable bytes are looked for in blocks of so many, and behind one that prints in long blocks.

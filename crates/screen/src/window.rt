@@ -1,14 +1,14 @@
 // The window of the selected screen: where its top goes, and that a top that changes empties the layer.
-use super::Frame;
-use super::marks;
-use super::places;
+use ground::Frame;
+use ground::marks;
+use ground::places;
 use model::Place;
 ghost use mathlib.Core.Path.{_≡_};
 ghost use Prim.Native.Nat.{_+_, _-_, _≤_};
 ghost use Rattle.model.specs.Rules.{topped, held, nearest, centred, tracked, trackedFar};
-ghost use Rattle.screen.specs.Frame.{Stands, LayerOf};
-ghost use Rattle.screen.specs.Acts.{ActsAbove, Reads, Top};
-ghost use Rattle.screen.specs.Here.{lost, earlier, later};
+ghost use Rattle.ground.specs.Frame.{Stands, LayerOf};
+ghost use Rattle.ground.specs.Acts.{ActsAbove, Reads, Top};
+ghost use Rattle.ground.specs.Here.{lost, earlier, later};
 
 // "A top that changes empties the whole layer."
 pub(crate) fn turn(frame: Frame, place: Place, top: u8, layer: &mut [u8]) -> Place

@@ -13,9 +13,9 @@ use Rattle.model.specs.Bytes.{joined}
 use Rattle.model.specs.State.{State}
 use Rattle.model.specs.Reading.{Read, uncut}
 use Rattle.model.specs.Records.{Record, bodyIn, lengthIn, recordIn, recordsAfter, uncut?}
-use Rattle.model.specs.Packs.{bodiesOf, itemsIn, readsEach, recordFrom, some?}
+use Rattle.calls.specs.Packs.{bodiesOf, itemsIn, readsEach, recordFrom, some?}
 use Rattle.model.specs.Items.{applyAll, blankAnswer, countedAll, eventsOf}
-use Rattle.model.specs.Blind.{Hidden}
+use Rattle.calls.specs.Blind.{Hidden}
 use Rattle.secrecy.specs.Secrecy.{printedInPack, revealed}
 use Rattle.model.proofs.Tests.{cond-at}
 use Rattle.model.proofs.Events.{events-append}

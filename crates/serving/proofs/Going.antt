@@ -19,9 +19,9 @@ use Rattle.model.specs.Rules.{applyItem}
 use Rattle.model.specs.Items.{applyAll, blankAnswer, copies, copyOf, counted, countedAll, eventsOf, obeyedBy, printerBytes}
 use Rattle.model.proofs.ByteLaws.{length-put}
 use Rattle.model.proofs.ItemLaws.{obeyed-item}
-use Rattle.model.proofs.Loop.{answers, answers-turn, ends, ends-turn, prints, prints-turn, readAt, rest, rest-end}
-use Rattle.model.proofs.Patterns.{obeyed-in-message}
-use Rattle.model.proofs.Printing.{length-copy}
+use Rattle.calls.proofs.Loop.{answers, answers-turn, ends, ends-turn, prints, prints-turn, readAt, rest, rest-end}
+use Rattle.calls.proofs.Patterns.{obeyed-in-message}
+use Rattle.calls.proofs.Printing.{length-copy}
 use Rattle.store.proofs.Laws.{put-front, put-rest}
 use Rattle.serving.specs.declared.Counts.{Counts}
 use Rattle.serving.specs.Counting.{answerAt, countsWith, noCounts}

@@ -20,7 +20,7 @@ use Rattle.model.specs.Sequences.{Row, codeOf, modeRowOf, modeRows, refusal, ro
 use Rattle.model.specs.Judging.{allowed, badOf, fitting, judged, legal?}
 use Rattle.model.specs.Reading.{afterEscape, decoded, ended, itemOf, kindOf, needed, ownBytes, unfinished?}
 use Rattle.model.specs.Rules.{applyItem, printed}
-use Rattle.model.proofs.Loop.{own-some}
+use Rattle.calls.proofs.Loop.{own-some}
 use Rattle.model.proofs.Tests.{cond-at, differ, elim-at}
 use Rattle.model.proofs.Gathering.{found}
 use Rattle.screen.specs.Run.{printedAll, prints?}

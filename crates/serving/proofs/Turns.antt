@@ -30,15 +30,15 @@ use Rattle.model.specs.OnScreen.{onScreen?, onScreenCodes, staysOnScreen?}
 use Rattle.model.proofs.Tests.{cond-at, differ}
 use Rattle.model.proofs.ItemLaws.{obeyed-item}
 use Rattle.model.proofs.Marking.{marks-96}
-use Rattle.model.proofs.Printing.{fits-room}
+use Rattle.calls.proofs.Printing.{fits-room}
 use Rattle.reader.specs.declared.Reading.{Reading}
 use Rattle.reader.specs.Reading.{ReadAt}
-use Rattle.screen.specs.declared.Frame.{Frame}
+use Rattle.ground.specs.declared.Frame.{Frame}
 use Rattle.screen.specs.declared.run.Run.{Run}
-use Rattle.screen.specs.Frame.{FrameOf, Framed, Ready, Stands, limitsIn}
-use Rattle.screen.specs.Acts.{withHere}
+use Rattle.ground.specs.Frame.{FrameOf, Framed, Ready, Stands, limitsIn}
+use Rattle.ground.specs.Acts.{withHere}
 use Rattle.screen.specs.Run.{printedAll}
-use Rattle.screen.proofs.Carried.{carried-here, framed-here, same-here}
+use Rattle.ground.proofs.Carried.{carried-here, framed-here, same-here}
 use Rattle.screen.proofs.Frames.{limits-are}
 use Rattle.serving.specs.declared.Counts.{Counts}
 use Rattle.serving.specs.Counting.{Countable, answerAt, countsWith, noCounts}

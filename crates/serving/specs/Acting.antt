@@ -20,9 +20,9 @@ use Rattle.model.specs.Rules.{applyItem}
 use Rattle.model.specs.Sequences.{codeOf, idle?}
 use Rattle.model.specs.Items.{copyOf, printerBytes}
 use Rattle.model.specs.OnScreen.{staysOnScreen?}
-use Rattle.screen.specs.declared.Frame.{Frame}
+use Rattle.ground.specs.declared.Frame.{Frame}
 use Rattle.screen.specs.declared.run.Run.{Run}
-use Rattle.screen.specs.Acts.{ActsWith, exceptDots}
+use Rattle.ground.specs.Acts.{ActsWith, exceptDots}
 use Rattle.screen.specs.Run.{Ran, prints?}
 
 -- a printed byte

@@ -10,16 +10,16 @@ ghost use Rattle.model.specs.OnScreen.{staysOnScreen?};
 ghost use lib.Dec.{eqb};
 ghost use Rattle.model.specs.Sequences.{codeOf};
 ghost use Rattle.reader.specs.Reading.{ReadAt};
-ghost use Rattle.screen.specs.Frame.{Ready, limitsIn};
+ghost use Rattle.ground.specs.Frame.{Ready, limitsIn};
 ghost use Rattle.serving.specs.Acting.{Offered, Moves, bareThen, clears?, dotsThen, Applying, Applied};
 use crate::counting::is_copy;
+use ground::Frame;
 use model::Item;
 use model::Limits;
 use model::Place;
 use model::Sequence;
 use model::Settings;
 use reader::Reading;
-use screen::Frame;
 use screen::run::Run;
 
 // The item at an offset, judged by the selected screen's limits.

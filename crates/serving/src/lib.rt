@@ -12,7 +12,7 @@ ghost use Prim.Native.Nat.{ℕ};
 ghost use mathlib.Core.List.{List};
 ghost use Rattle.model.specs.Picture.{painting};
 ghost use Rattle.paint.specs.Painted.{Visible};
-ghost use Rattle.screen.specs.Acts.{withPlace};
+ghost use Rattle.ground.specs.Acts.{withPlace};
 ghost use Rattle.serving.specs.Serves.{Servable, Serves};
 use acting::act;
 use acting::apply;

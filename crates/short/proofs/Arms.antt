@@ -16,11 +16,11 @@ use Rattle.model.specs.Checks.{member}
 use Rattle.model.specs.Screens.{here}
 use Rattle.model.specs.Rules.{applyItem, obeyed, printed, withDots}
 use Rattle.model.specs.OnScreen.{onScreen?}
-use Rattle.model.specs.Repaint.{calm?, lifts?, printLifts?}
+use Rattle.calls.specs.Repaint.{calm?, lifts?, printLifts?}
 use Rattle.model.proofs.Item.{the-type}
 use Rattle.model.proofs.Tests.{differ}
-use Rattle.screen.specs.declared.Frame.{Frame}
-use Rattle.screen.specs.Acts.{ActsWith}
+use Rattle.ground.specs.declared.Frame.{Frame}
+use Rattle.ground.specs.Acts.{ActsWith}
 use Rattle.screen.proofs.Sequences.{never-idle}
 use Rattle.serving.specs.Acting.{Moves, printed?}
 use Rattle.short.specs.declared.printing.Seen.{Seen}

@@ -19,7 +19,7 @@ use Rattle.model.proofs.Keep.{chosen}
 use Rattle.model.proofs.Tests.{differ, or-false}
 use Rattle.paint.specs.Painted.{Visible}
 use Rattle.reader.specs.Reading.{byItself}
-use Rattle.screen.specs.Acts.{withPlace}
+use Rattle.ground.specs.Acts.{withPlace}
 use Rattle.serving.specs.Acting.{printed?}
 
 -- the settings with the place back, and its top

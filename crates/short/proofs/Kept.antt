@@ -11,7 +11,7 @@ use Rattle.model.specs.Screens.{columnsHere, here, linesHere, placeOf}
 use Rattle.model.specs.Sequences.{codeOf}
 use Rattle.model.specs.Rules.{awaited, down, emptied, flagged, lifted, missed, obeyed, onLines, onward, placed, printed, remarked, right, runsOn, stored, toColumn, topped, tracked, withCells, withDots, withKeys, withKindPatterns, withLayer, withSettings}
 use Rattle.model.specs.OnScreen.{onScreen?}
-use Rattle.model.specs.Repaint.{wideCodes}
+use Rattle.calls.specs.Repaint.{wideCodes}
 use Rattle.model.proofs.Tests.{cond-at, differ}
 
 -- the same secret mode

@@ -14,17 +14,17 @@ use Rattle.model.specs.State.{State, state, withPlaces}
 use Rattle.model.specs.Screens.{placeOf}
 use Rattle.model.specs.Picture.{picture}
 use Rattle.model.specs.Items.{blankAnswer}
-use Rattle.model.specs.Calls.{Call, Promised, Terminal, firstOf, message, numberOf, quick, quickCalled, reasons, request, terminal}
-use Rattle.model.specs.Demand.{first, next, none}
-use Rattle.model.proofs.CallLaws.{accepted-number, refused-number}
-use Rattle.model.proofs.Loop.{answers, ends, prints, rest}
-use Rattle.model.proofs.Message.{promised-short, promised-short-refused}
+use Rattle.calls.specs.Calls.{Call, Promised, Terminal, firstOf, message, numberOf, quick, quickCalled, reasons, request, terminal}
+use Rattle.calls.specs.Lists.{first, next, none}
+use Rattle.calls.proofs.CallLaws.{accepted-number, refused-number}
+use Rattle.calls.proofs.Loop.{answers, ends, prints, rest}
+use Rattle.calls.proofs.Message.{promised-short, promised-short-refused}
 use Rattle.model.proofs.Tests.{differ}
-use Rattle.model.proofs.Theorem.{demand3}
+use Rattle.theorems.proofs.Theorem.{demand3}
 use Rattle.paint.specs.Painted.{Visible, painted}
-use Rattle.screen.specs.declared.Frame.{Frame}
-use Rattle.screen.specs.Frame.{FrameOf}
-use Rattle.screen.specs.Acts.{Acts, withHere, withPlace}
+use Rattle.ground.specs.declared.Frame.{Frame}
+use Rattle.ground.specs.Frame.{FrameOf}
+use Rattle.ground.specs.Acts.{Acts, withHere, withPlace}
 use Rattle.screen.specs.Run.{printedAll}
 use Rattle.serving.specs.Counting.{answerAt, noCounts}
 use Rattle.serving.specs.Serves.{Servable}

@@ -10,7 +10,7 @@ use lib.Dec.{ltb}
 use lib.Seq.{set-out, sets}
 use borrow.Author.Tests.{eq-eqb, ltb-false, ltb-true, ne-eqb}
 use Rattle.model.specs.Bytes.{put}
-use Rattle.screen.proofs.Rows.{put-sets}
+use Rattle.ground.proofs.Rows.{put-sets}
 use Rattle.short.specs.Seen.{shownFrom, veiled}
 
 -- a place from 640 on is none, whichever it is

@@ -12,15 +12,15 @@ use Rattle.model.specs.declared.Place.{Place}
 use Rattle.model.specs.State.{State, putAt, state}
 use Rattle.model.specs.Screens.{columnsHere, here, placeOf}
 use Rattle.model.specs.Rules.{awaited, printed, right, stored, tracked}
-use Rattle.model.specs.Repaint.{lowest?, printLifts?, printPlace}
+use Rattle.calls.specs.Repaint.{lowest?, printLifts?, printPlace}
 use Rattle.model.proofs.Waiting.{awaited-not}
-use Rattle.screen.specs.declared.Frame.{Frame}
-use Rattle.screen.specs.Frame.{Framed, Ready}
-use Rattle.screen.specs.Acts.{Acts, ActsWith, Reads, withHere, withPlace}
-use Rattle.screen.specs.Here.{lost, shownHere}
+use Rattle.ground.specs.declared.Frame.{Frame}
+use Rattle.ground.specs.Frame.{Framed, Ready}
+use Rattle.ground.specs.Acts.{Acts, ActsWith, Reads, withHere, withPlace}
+use Rattle.ground.specs.Here.{lost, shownHere}
 use Rattle.screen.specs.Run.{WholeRun, printedAll}
-use Rattle.screen.proofs.Acting.{framed-placed, placed-there}
-use Rattle.screen.proofs.Carried.{framed-here, likewise-with, then-with, unmarked-acts}
+use Rattle.ground.proofs.Acting.{framed-placed, placed-there}
+use Rattle.ground.proofs.Carried.{framed-here, likewise-with, then-with, unmarked-acts}
 use Rattle.screen.proofs.Chunks.{printed-spot}
 use Rattle.screen.proofs.Moves.{waits-not}
 use Rattle.screen.proofs.Runs.{Along, along-all, along-none, along-part, bytes-more}

@@ -1,5 +1,5 @@
 -- What is left of a short message gives the same shown screen: the invariant of its loop, and a turn of it. An item that is not wide leaves the picture but at
--- the place of a character that it prints (model's `untouched`), and that place is painted as it comes.
+-- the place of a character that it prints (calls' `untouched`), and that place is painted as it comes.
 use mathlib.Core.Path.{_∙_, _≡_, ap, refl, subst, sym}
 use Prim.Native.Nat.{_+_, _-_, _<_, _≤_, suc, zero, ℕ}
 use native.Mathlib.Nat.{add-zero, zero-add}
@@ -22,11 +22,11 @@ use Rattle.model.specs.Picture.{painting, picture}
 use Rattle.model.specs.Reading.{Read, byteOf, ownBytes, uncut}
 use Rattle.model.specs.Rules.{applyItem, printed}
 use Rattle.model.specs.Items.{applyAll, eventsOf, obeyedBy, printerBytes}
-use Rattle.model.specs.Repaint.{calm?, lifts?, movesTop?, painted?, placeBy, placesIn, printLifts?, printPlace, repainted, shownBehind, wide?, wideIn}
+use Rattle.calls.specs.Repaint.{calm?, lifts?, movesTop?, painted?, placeBy, placesIn, printLifts?, printPlace, repainted, shownBehind, wide?, wideIn}
 use Rattle.model.proofs.ByteLaws.{getD-listFrom, getD-put, length-listFrom, length-put, put-before, same-listFrom}
 use Rattle.model.proofs.Events.{AllLegal, legal-reads}
-use Rattle.model.proofs.Loop.{ends, ends-turn, readAt, rest, rest-end, rest-next}
-use Rattle.model.proofs.Repainting.{printed-own, untouched}
+use Rattle.calls.proofs.Loop.{ends, ends-turn, readAt, rest, rest-end, rest-next}
+use Rattle.calls.proofs.Repainting.{printed-own, untouched}
 use Rattle.model.proofs.Steps.{kept-printed}
 use Rattle.model.proofs.Tests.{or-false}
 use Rattle.paint.specs.Painted.{painted}

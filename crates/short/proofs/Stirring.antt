@@ -18,12 +18,12 @@ use Rattle.model.specs.Screens.{here, linesHere, placeOf}
 use Rattle.model.specs.Sequences.{codeOf, idle?}
 use Rattle.model.specs.Rules.{applyItem, obeyed, withDots}
 use Rattle.model.specs.OnScreen.{staysOnScreen?}
-use Rattle.model.specs.Repaint.{calm?, lifts?, lowest?, printLifts?, wideCodes}
+use Rattle.calls.specs.Repaint.{calm?, lifts?, lowest?, printLifts?, wideCodes}
 use Rattle.model.proofs.Tests.{cond-at, differ}
-use Rattle.screen.specs.declared.Frame.{Frame}
-use Rattle.screen.specs.Frame.{Framed}
-use Rattle.screen.specs.Acts.{Reads}
-use Rattle.screen.proofs.Acting.{placed-there}
+use Rattle.ground.specs.declared.Frame.{Frame}
+use Rattle.ground.specs.Frame.{Framed}
+use Rattle.ground.specs.Acts.{Reads}
+use Rattle.ground.proofs.Acting.{placed-there}
 use Rattle.serving.specs.Acting.{Moves, printed?}
 use Rattle.screen.specs.declared.run.Run.{Run}
 use Rattle.short.specs.Seen.{SeesItem, none, printing?, wideItem}

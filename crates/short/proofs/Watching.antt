@@ -24,19 +24,19 @@ use Rattle.model.specs.Rules.{applyItem, printed}
 use Rattle.model.specs.Items.{obeyedBy, printerBytes}
 use Rattle.model.specs.OnScreen.{staysOnScreen?}
 use Rattle.model.specs.Picture.{painting, picture}
-use Rattle.model.specs.Repaint.{calm?, lifts?, movesTop?, placeBy, printPlace, shownBehind, wide?}
+use Rattle.calls.specs.Repaint.{calm?, lifts?, movesTop?, placeBy, printPlace, shownBehind, wide?}
 use Rattle.paint.specs.Painted.{painted}
-use Rattle.model.proofs.Loop.{ends, readAt, rest}
-use Rattle.model.proofs.Patterns.{obeyed-in-message}
+use Rattle.calls.proofs.Loop.{ends, readAt, rest}
+use Rattle.calls.proofs.Patterns.{obeyed-in-message}
 use Rattle.model.proofs.Tests.{differ, or-false}
 use Rattle.reader.specs.declared.Reading.{Reading}
 use Rattle.reader.specs.Reading.{ReadAt}
-use Rattle.screen.specs.declared.Frame.{Frame}
-use Rattle.screen.specs.Frame.{FrameOf, Framed, limitsIn}
-use Rattle.screen.specs.Acts.{Acts, withHere}
+use Rattle.ground.specs.declared.Frame.{Frame}
+use Rattle.ground.specs.Frame.{FrameOf, Framed, limitsIn}
+use Rattle.ground.specs.Acts.{Acts, withHere}
 use Rattle.screen.specs.Run.{printedAll, prints?}
-use Rattle.screen.proofs.Acting.{placed-there}
-use Rattle.screen.proofs.Carried.{carried-here, framed-here, same-here, unmarked-acts}
+use Rattle.ground.proofs.Acting.{placed-there}
+use Rattle.ground.proofs.Carried.{carried-here, framed-here, same-here, unmarked-acts}
 use Rattle.serving.specs.declared.Counts.{Counts}
 use Rattle.serving.specs.Counting.{answerAt, countsWith, noCounts}
 use Rattle.serving.specs.Acting.{Applied, Moves, bareThen, dotsThen, printed?}

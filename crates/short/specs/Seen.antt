@@ -14,10 +14,10 @@ use Rattle.model.specs.State.{State, state}
 use Rattle.model.specs.Screens.{here, placeOf}
 use Rattle.model.specs.Rules.{applyItem, printed}
 use Rattle.model.specs.Sequences.{codeOf}
-use Rattle.model.specs.Repaint.{calm?, lifts?, printLifts?, printPlace}
-use Rattle.screen.specs.declared.Frame.{Frame}
+use Rattle.calls.specs.Repaint.{calm?, lifts?, printLifts?, printPlace}
+use Rattle.ground.specs.declared.Frame.{Frame}
 use Rattle.screen.specs.declared.run.Run.{Run}
-use Rattle.screen.specs.Frame.{Framed}
+use Rattle.ground.specs.Frame.{Framed}
 use Rattle.screen.specs.Run.{Part, Ran}
 use Rattle.serving.specs.Acting.{printed?}
 use Rattle.short.specs.declared.printing.Seen.{Seen}

@@ -9,13 +9,13 @@ use Rattle.model.specs.declared.Outcome.{Outcome}
 use Rattle.model.specs.declared.Place.{Place}
 use Rattle.model.specs.Bytes.{written}
 use Rattle.model.specs.State.{State, state}
-use Rattle.model.specs.Repaint.{shownBehind}
-use Rattle.model.specs.Calls.{Promised, Terminal, quickCalled}
-use Rattle.model.specs.Claims.{Quick}
+use Rattle.calls.specs.Repaint.{shownBehind}
+use Rattle.calls.specs.Calls.{Promised, Terminal, quickCalled}
+use Rattle.calls.specs.Claims.{Quick}
 use Rattle.model.specs.Items.{applyAll, blankAnswer, copies, countedAll, eventsOf}
-use Rattle.screen.specs.declared.Frame.{Frame}
-use Rattle.screen.specs.Acts.{Reads}
-use Rattle.screen.specs.Here.{lost}
+use Rattle.ground.specs.declared.Frame.{Frame}
+use Rattle.ground.specs.Acts.{Reads}
+use Rattle.ground.specs.Here.{lost}
 use Rattle.screen.specs.Run.{prints?}
 use Rattle.serving.specs.Serves.{itemsOf}
 

@@ -7,19 +7,19 @@ ghost use Prim.Native.Nat.{ℕ};
 ghost use lib.ListN.{length};
 ghost use Rattle.model.specs.Checks.{member};
 ghost use Rattle.model.specs.Sequences.{codeOf};
-ghost use Rattle.model.specs.Repaint.{calm?, lifts?, wideCodes};
-ghost use Rattle.screen.specs.Frame.{Ready, limitsIn};
-ghost use Rattle.screen.specs.Acts.{Reads};
+ghost use Rattle.calls.specs.Repaint.{calm?, lifts?, wideCodes};
+ghost use Rattle.ground.specs.Frame.{Ready, limitsIn};
+ghost use Rattle.ground.specs.Acts.{Reads};
 ghost use Rattle.serving.specs.Acting.{Moves, Offered};
 ghost use Rattle.short.specs.Seen.{SeesItem, Watches, printing?, runOf};
 use crate::printing::Seen;
 use crate::printing::lowest;
 use crate::printing::print_code;
 use crate::printing::print_run;
+use ground::Frame;
 use model::Item;
 use model::Place;
 use model::Sequence;
-use screen::Frame;
 
 // Whether an item that prints no character is one after which the picture may be another anywhere, or lifts.
 fn stirs(frame: Frame, place: Place, item: Item) -> bool

@@ -5,7 +5,7 @@ mod acting;
 mod printing;
 mod served;
 
-ghost use Rattle.model.specs.Calls.{terminal};
+ghost use Rattle.calls.specs.Calls.{terminal};
 ghost use Rattle.short.specs.Serving.{ShortPromised};
 use model::Outcome;
 use model::Settings;

@@ -6,14 +6,14 @@ ghost use Prim.Native.Nat.{ℕ, _+_, _<_, _≤_, min};
 ghost use lib.Dec.{ltb};
 ghost use lib.ListN.{drop, length, set, take};
 ghost use Rattle.model.specs.Rules.{printed};
-ghost use Rattle.screen.specs.Frame.{Ready};
-ghost use Rattle.screen.specs.Acts.{Acts, ActsWith, Reads};
-ghost use Rattle.screen.specs.Here.{lost};
+ghost use Rattle.ground.specs.Frame.{Ready};
+ghost use Rattle.ground.specs.Acts.{Acts, ActsWith, Reads};
+ghost use Rattle.ground.specs.Here.{lost};
 ghost use Rattle.screen.specs.Run.{printedAll, prints?};
 ghost use Rattle.short.specs.Seen.{SeenPart, SeenRun, Sees, shownFrom, veiled};
+use ground::Frame;
 use model::Place;
 use model::SHOWN;
-use screen::Frame;
 use screen::cursor;
 
 // A printed character: where the cursor and the window are then, and whether it is wide.
@@ -97,12 +97,12 @@ pub(crate) fn print_line(
     requires { ⌜ length (now shown) ≡ 640 ⌝ }
     ensures { λ r. ⌜ (Acts (printedAll (take count (drop at (now (message .entry))))) frame place r (now (cells .entry)) (now (layer .entry)) (now (cells .exit)) (now (layer .exit))) × ((marks : List ℕ) → Sees (take count (drop at (now (message .entry)))) frame place secret false (now (cells .entry)) (now (layer .entry)) marks (now (shown .entry)) (now (shown .exit))) ⌝ }
 {
-    let from = screen::lines::cell(frame, place);
+    let from = ground::lines::cell(frame, place);
     let spot = cursor::shown(frame, place);
     store::copy_in(cells, from, message, at, count);
-    screen::marks::empty_from(frame, spot, count, layer);
+    ground::marks::empty_from(frame, spot, count, layer);
     paint_bytes(secret, spot, message, at, count, shown);
-    screen::places::put_at(place, place.line, place.column + (count as u8))
+    ground::places::put_at(place, place.line, place.column + (count as u8))
 }
 
 // A printed byte, and ESC 37: the step that waited first, then the character where the cursor stands.

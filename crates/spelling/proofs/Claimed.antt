@@ -20,7 +20,7 @@ use Rattle.model.specs.Sequences.{codeOf}
 use Rattle.model.specs.Reading.{Read, byteOf, itemOf}
 use Rattle.model.specs.Judging.{allowed, badOf, fitting, judged, legal?}
 use Rattle.model.proofs.ByteLaws.{getD-listFrom, length-listFrom}
-use Rattle.model.proofs.Wholes.{AllWhole, more, none, uncut-whole}
+use Rattle.calls.proofs.Wholes.{AllWhole, more, none, uncut-whole}
 use Rattle.spelling.specs.Spelling.{Named, bytesOf, named, paramsOf, standing}
 use Rattle.spelling.specs.Claims.{ReadBack, Sent, Spelling, sentBytes}
 use Rattle.spelling.proofs.Told.{decoded-so, given-bytes, judged-anywhere, named-bytes, needed-alone, needed-then, rows-sent, rowsIn}

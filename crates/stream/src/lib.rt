@@ -4,7 +4,7 @@
 ghost use mathlib.Core.Path.{_≡_};
 ghost use Prim.Native.Nat.{_<_, _≤_};
 ghost use lib.ListN.{length};
-ghost use Rattle.model.specs.Calls.{Promised, closed, pieced, terminal};
+ghost use Rattle.calls.specs.Calls.{Promised, closed, pieced, terminal};
 ghost use Rattle.pieces.specs.Parts.{lineNumber};
 use model::Outcome;
 use model::Settings;

@@ -14,10 +14,10 @@ use Rattle.model.specs.State.{state}
 use Rattle.model.specs.Items.{blankAnswer}
 use Rattle.model.specs.Line.{line?}
 use Rattle.model.specs.Sound.{sound?}
-use Rattle.model.specs.Calls.{Promised, Terminal, called, firstOf, message, noneWaits, numberOf, reason, reasons, request, short, sized, soundIn, terminal}
-use Rattle.model.proofs.CallLaws.{accepted-number, refused-number}
-use Rattle.model.proofs.Loop.{answers, ends, prints, rest}
-use Rattle.model.proofs.Message.{promised-refused, promised-served}
+use Rattle.calls.specs.Calls.{Promised, Terminal, called, firstOf, message, noneWaits, numberOf, reason, reasons, request, short, sized, soundIn, terminal}
+use Rattle.calls.proofs.CallLaws.{accepted-number, refused-number}
+use Rattle.calls.proofs.Loop.{answers, ends, prints, rest}
+use Rattle.calls.proofs.Message.{promised-refused, promised-served}
 use Rattle.model.proofs.SoundLaws.{sound-true}
 use Rattle.model.proofs.Tests.{and-left, and-right}
 use Rattle.serving.specs.Serves.{Servable, Serves}

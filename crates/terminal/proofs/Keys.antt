@@ -14,10 +14,11 @@ use Rattle.model.specs.Bytes.{put}
 use Rattle.model.specs.State.{withTexts}
 use Rattle.model.specs.Sound.{Sound, arrayRanges, sound?}
 use Rattle.model.specs.Items.{blankAnswer}
-use Rattle.model.specs.Calls.{KeyPromised, firstOf, keyText, keyable, reason, reasons, soundIn, terminal}
+use Rattle.calls.specs.Calls.{KeyPromised, firstOf, keyText, reason, reasons, soundIn, terminal}
+use Rattle.model.specs.Keyable.{keyable}
 use Rattle.model.proofs.SoundLaws.{sound-true}
 use Rattle.model.proofs.Tests.{and-left, and-right}
-use Rattle.model.proofs.KeyCall.{keyNumber, promised-key, promised-key-refused}
+use Rattle.calls.proofs.KeyCall.{keyNumber, promised-key, promised-key-refused}
 
 -- a key's text has its place among the ten
 pub record Placed (k : ℕ) (x : List ℕ) (s : Settings) : Type 0 where

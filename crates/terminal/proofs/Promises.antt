@@ -9,8 +9,8 @@ use lib.Dec.{eqb}
 use borrow.Author.Tests.{eqb-true}
 use Rattle.model.specs.declared.Settings.{Settings}
 use Rattle.model.specs.State.{openedSettings}
-use Rattle.model.specs.Calls.{Terminal, sized}
-use Rattle.model.specs.Opening.{OpeningPromised, openedBy, openingNumber, ruled, unopened}
+use Rattle.calls.specs.Calls.{Terminal, sized}
+use Rattle.calls.specs.Opening.{OpeningPromised, openedBy, openingNumber, ruled, unopened}
 use Rattle.model.proofs.Tests.{and-left, and-right, differ}
 
 -- the sizes that number 1 is about

@@ -2,8 +2,8 @@
 pub mod numbers;
 mod opened;
 
-ghost use Rattle.model.specs.Calls.{KeyPromised, Promised, called, terminal};
-ghost use Rattle.model.specs.Opening.{OpeningPromised, PartPromised};
+ghost use Rattle.calls.specs.Calls.{KeyPromised, Promised, called, terminal};
+ghost use Rattle.calls.specs.Opening.{OpeningPromised, PartPromised};
 use model::Opened;
 use model::Outcome;
 use model::Settings;

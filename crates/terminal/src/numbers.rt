@@ -1,9 +1,10 @@
 // The numbers of a whole call, in their order.
 ghost use mathlib.Core.Path.{_≡_};
 ghost use mathlib.Core.List.{[]};
-ghost use Rattle.model.specs.Calls.{Asked, firstOf, keyable, reasons, sized, terminal};
+ghost use Rattle.calls.specs.Calls.{Asked, firstOf, reasons, sized, terminal};
+ghost use Rattle.model.specs.Keyable.{keyable};
 ghost use Rattle.model.specs.Items.{blankAnswer};
-ghost use Rattle.model.specs.Opening.{openingNumber, ruled, unopened};
+ghost use Rattle.calls.specs.Opening.{openingNumber, ruled, unopened};
 use model::Answer;
 use model::CELLS;
 use model::DOTS;

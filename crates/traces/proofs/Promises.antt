@@ -10,7 +10,7 @@ use borrow.Author.Tests.{le-leb, leb-true, lt-leb}
 use Rattle.model.specs.declared.Settings.{Settings}
 use Rattle.model.specs.Bytes.{onPart, put, written}
 use Rattle.model.specs.Sound.{keyRanges, plainRanges, sound?}
-use Rattle.model.specs.Calls.{Reason, allFree, firstOf, reason}
+use Rattle.calls.specs.Calls.{Reason, allFree, firstOf, reason}
 use Rattle.model.proofs.SoundLaws.{sound-true}
 use Rattle.model.specs.Records.{all?, recordsOf, uncut?}
 use Rattle.traces.specs.Strokes.{rising?, stroke?, strokesIn}

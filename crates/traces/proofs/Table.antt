@@ -7,7 +7,7 @@ use Rattle.model.specs.Marks.{markOf, marked?}
 use Rattle.model.specs.Reading.{needed, unfinished?}
 use Rattle.model.specs.Screens.{columnsOf, height, linesOf, placeOf, screens, textRows}
 use Rattle.model.specs.Sound.{aloneRanges, arrayRanges, inside?, insideRanges, keyRanges, marks?, otherRanges, plainRanges, second?, shapeRanges, sound?}
-use Rattle.model.specs.Calls.{allFree, firstOf}
+use Rattle.calls.specs.Calls.{allFree, firstOf}
 use Rattle.model.specs.Records.{all?, bodyIn, kindIn, lacking, lengthIn, numberIn, recordIn, recordsAfter, uncut?}
 use Rattle.traces.specs.Strokes.{rising?, stroke?, strokeOf, strokesIn}
 use Rattle.traces.specs.Codes.{bytesOf, countBelow, endOf, ends?, everyFrom, firstRepeat, repeatCount, sent, sentAt, sentBy}

@@ -8,7 +8,7 @@ use lib.Dec.{leb}
 use Rattle.model.specs.declared.Settings.{Settings}
 use Rattle.model.specs.Bytes.{written}
 use Rattle.model.specs.Sound.{sound?}
-use Rattle.model.specs.Calls.{Reason, reason, firstOf, allFree}
+use Rattle.calls.specs.Calls.{Reason, reason, firstOf, allFree}
 use Rattle.model.specs.Records.{recordsOf, all?, uncut?}
 use Rattle.traces.specs.declared.Repeats.{Repeats}
 use Rattle.traces.specs.Strokes.{strokesIn, stroke?, rising?}

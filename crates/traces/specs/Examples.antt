@@ -6,7 +6,7 @@ use mathlib.Core.List.{List, [], _∷_, _++_}
 use lib.ListN.{length}
 use lib.Dec.{eqb}
 use Rattle.model.specs.declared.Settings.{Settings}
-use Rattle.model.specs.Calls.{firstOf}
+use Rattle.calls.specs.Calls.{firstOf}
 use Rattle.model.specs.State.{openedKeys, openedSettings, repeatWith, withStored}
 use Rattle.traces.specs.Codes.{Code, bytesOf}
 use Rattle.traces.specs.Call.{listed, reasons}

@@ -3,7 +3,7 @@ ghost use mathlib.Core.Path.{_≡_};
 ghost use mathlib.Core.Bool.{true};
 ghost use Prim.Native.Nat.{_+_, _<_, _≤_};
 ghost use lib.ListN.{length, drop};
-ghost use Rattle.model.specs.Calls.{firstOf};
+ghost use Rattle.calls.specs.Calls.{firstOf};
 ghost use Rattle.model.specs.Records.{lengthIn, recordIn, recordsOf, all?, uncut?};
 ghost use Rattle.traces.specs.Strokes.{strokeOf, strokesIn, stroke?, rising?};
 ghost use Rattle.traces.specs.Call.{checks};

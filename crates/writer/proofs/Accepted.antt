@@ -16,7 +16,7 @@ use Rattle.model.specs.Picture.{copySizeOf}
 use Rattle.model.specs.Reading.{itemOf}
 use Rattle.model.specs.Judging.{badOf, judged, legal?, limitsOf}
 use Rattle.model.specs.Sound.{sound?}
-use Rattle.model.specs.Calls.{firstOf}
+use Rattle.calls.specs.Calls.{firstOf}
 use Rattle.model.proofs.Tests.{differ}
 use Rattle.store.proofs.Laws.{put-front, put-rest}
 use Rattle.spelling.specs.Spelling.{bytesOf, standing}

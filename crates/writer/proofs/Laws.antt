@@ -18,16 +18,16 @@ use Rattle.model.specs.declared.Item.{Item}
 use Rattle.model.specs.declared.Item.the-variants.{Printed, Control, Sequence, Refused}
 use Rattle.model.specs.Bytes.{put}
 use Rattle.model.specs.Picture.{copySizeOf}
-use Rattle.model.specs.Parameters.{NamedItem}
+use Rattle.theorems.specs.Parameters.{NamedItem}
 use Rattle.model.specs.Reading.{itemOf, needed, ownBytes}
 use Rattle.model.specs.Judging.{judged, limitsOf}
 use Rattle.model.specs.Screens.{columnsOf, height, linesOf}
 use Rattle.model.specs.Sound.{sound?}
-use Rattle.model.specs.Calls.{firstOf, reason}
+use Rattle.calls.specs.Calls.{firstOf, reason}
 use Rattle.model.proofs.Item.{the-type}
 use Rattle.model.proofs.ByteLaws.{length-put}
 use Rattle.model.proofs.Gathering.{needed-most}
-use Rattle.model.proofs.Parameters.{naming}
+use Rattle.theorems.proofs.Parameters.{naming}
 use Rattle.model.proofs.Tests.{cond-at}
 use Rattle.store.proofs.Laws.{put-front}
 use Rattle.reader.specs.Reading.{ReadAt}

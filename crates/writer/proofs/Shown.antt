@@ -10,7 +10,7 @@ use Rattle.model.specs.Picture.{copySizeOf}
 use Rattle.model.specs.Sequences.{find, idle?, modeRowOf, rowOf}
 use Rattle.model.specs.Reading.{afterEscape, afterMode, decoded, ended, gathered, itemOf, kindOf, needed, remaining, unfinished?}
 use Rattle.model.specs.Judging.{allowed, badOf, fitting, judgedRanges, legal?}
-use Rattle.model.specs.Calls.{firstOf}
+use Rattle.calls.specs.Calls.{firstOf}
 use Rattle.spelling.specs.Spelling.{bytesOf, paramsOf}
 use Rattle.spelling.specs.Given.{givenBytes}
 use Rattle.writer.specs.Writing.{bufferAfter, numberIn, numberOf, parameterIn, parameterOf, placeAfter, said, saidOfAll, space?}

@@ -14,7 +14,7 @@ use Rattle.model.specs.Picture.{copySizeOf}
 use Rattle.model.specs.Reading.{itemOf, needed}
 use Rattle.model.specs.Judging.{judged, limitsOf}
 use Rattle.model.specs.Sound.{sound?}
-use Rattle.model.specs.Calls.{Reason, firstOf, reason}
+use Rattle.calls.specs.Calls.{Reason, firstOf, reason}
 use Rattle.spelling.specs.Spelling.{bytesOf}
 use Rattle.spelling.specs.Given.{givenBytes}
 

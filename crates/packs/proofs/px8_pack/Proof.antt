@@ -1,7 +1,7 @@
 -- A number that is not 0 refuses the pack, and all is as it came; else its messages are sent.
 use mathlib.Core.Path.{_∙_, sym}
 use borrow.Author.Needs.{needs}
-use Rattle.model.specs.Calls.{terminal}
+use Rattle.calls.specs.Calls.{terminal}
 use Rattle.packs.proofs.Numbers.{pack-refused}
 use Rattle.packs.proofs.px8_pack.Statement.{statement}
 use Rattle.packs.proofs.px8_pack.Tie as tie

@@ -3,7 +3,7 @@ use mathlib.Core.Path.{_∙_, refl, sym}
 use mathlib.Core.Bool.{false, true}
 use borrow.Author.Needs.{needs}
 use borrow.Author.Tests.{not-false, not-true}
-use Rattle.model.specs.Calls.{sized, terminal}
+use Rattle.calls.specs.Calls.{sized, terminal}
 use Rattle.pieces.proofs.Refusals.{closing-numbered}
 use Rattle.pieces.proofs.closing_number.Statement.{statement}
 use Rattle.pieces.proofs.closing_number.Tie as tie

@@ -3,7 +3,7 @@ use mathlib.Core.Path.{_∙_, refl, sym}
 use mathlib.Core.Bool.{false, true}
 use borrow.Author.Needs.{needs}
 use borrow.Author.Tests.{le-leb, lt-leb, not-false, not-true}
-use Rattle.model.specs.Calls.{countable, sized, soundIn, terminal}
+use Rattle.calls.specs.Calls.{countable, sized, soundIn, terminal}
 use Rattle.pieces.proofs.Refusals.{line-numbered}
 use Rattle.pieces.proofs.line_number.Statement.{statement}
 use Rattle.pieces.proofs.line_number.Tie as tie

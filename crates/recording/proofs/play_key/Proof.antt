@@ -3,7 +3,7 @@ use mathlib.Core.Path.{refl, subst}
 use mathlib.Core.List.{[]}
 use borrow.Author.Needs.{needs}
 use Rattle.model.specs.declared.Answer.{Answer}
-use Rattle.model.specs.Calls.{KeyPromised}
+use Rattle.calls.specs.Calls.{KeyPromised}
 use Rattle.recording.proofs.play_key.Statement.{statement}
 use Rattle.recording.proofs.play_key.Tie as tie
 

@@ -7,7 +7,7 @@ use Rattle.model.specs.Checks.{member}
 use Rattle.model.specs.Rules.{obeyed}
 use Rattle.model.specs.OnScreen.{onScreen?}
 use Rattle.model.proofs.Cases.{ranged}
-use Rattle.screen.proofs.Carried.{unmarked-acts}
+use Rattle.ground.proofs.Carried.{unmarked-acts}
 use Rattle.screen.proofs.Sequences.{clears, idles, never-idle, obeys, off-screen, turns}
 use Rattle.screen.proofs.Windows.{first-top, greatest-top}
 use Rattle.screen.proofs.act.Statement.{statement}

@@ -1,7 +1,7 @@
 -- `print` meets its contract: the step that waited, and the rest of the rule.
 use borrow.Author.Needs.{needs}
 use Rattle.model.specs.Rules.{printed}
-use Rattle.screen.proofs.Carried.{then-with}
+use Rattle.ground.proofs.Carried.{then-with}
 use Rattle.screen.proofs.print.Statement.{statement}
 use Rattle.screen.proofs.print.Tie as tie
 

@@ -1,6 +1,6 @@
 -- `print_here` meets its contract: it stores, moves right and tracks, as the rule does.
 use borrow.Author.Needs.{needs}
-use Rattle.screen.proofs.Carried.{then-above-with, then-with, unmarked-acts}
+use Rattle.ground.proofs.Carried.{then-above-with, then-with, unmarked-acts}
 use Rattle.screen.proofs.print_here.Statement.{statement}
 use Rattle.screen.proofs.print_here.Tie as tie
 

@@ -1,9 +1,9 @@
 -- `put` meets its contract: the cursor placed, then the window tracked as ESC 215 moves it.
 use native.Mathlib.Omega.{arith}
 use borrow.Author.Needs.{needs}
-use Rattle.screen.proofs.Acting.{then-above}
+use Rattle.ground.proofs.Acting.{then-above}
 use Rattle.screen.proofs.Moves.{put-acts}
-use Rattle.screen.proofs.Steps.{put-stands}
+use Rattle.ground.proofs.Steps.{put-stands}
 use Rattle.screen.proofs.put.Statement.{statement}
 use Rattle.screen.proofs.put.Tie as tie
 

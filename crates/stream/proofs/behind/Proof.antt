@@ -1,7 +1,7 @@
 -- Its number tells where it goes; one that is not 0 is the piece's own.
 use mathlib.Core.Path.{_∙_}
 use borrow.Author.Needs.{needs}
-use Rattle.model.specs.Calls.{piece, terminal}
+use Rattle.calls.specs.Calls.{piece, terminal}
 use Rattle.pieces.proofs.Pieces.{promised-not}
 use Rattle.pieces.proofs.Unsound.{line-refused}
 use Rattle.stream.proofs.behind.Statement.{statement}

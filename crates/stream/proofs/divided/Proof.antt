@@ -5,8 +5,8 @@ use native.Mathlib.Omega.{arith}
 use lib.ListN.{length}
 use lib.Seq.{length-take-le}
 use borrow.Author.Needs.{needs}
-use Rattle.model.specs.Calls.{terminal}
-use Rattle.model.proofs.Printing.{buffer-length}
+use Rattle.calls.specs.Calls.{terminal}
+use Rattle.calls.proofs.Printing.{buffer-length}
 use Rattle.line.proofs.Arrays.{unmapped}
 use Rattle.pieces.proofs.Ends.{Ended, Rest, array-long, ended, rest-ended}
 use Rattle.pieces.proofs.Piecing.{addable, behind-few, both-near, both-served, first-fits, first-refused}

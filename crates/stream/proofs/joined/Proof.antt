@@ -5,7 +5,7 @@ use native.Mathlib.Omega.{arith}
 use lib.ListN.{length}
 use lib.Seq.{length-take-le}
 use borrow.Author.Needs.{needs}
-use Rattle.model.specs.Calls.{terminal}
+use Rattle.calls.specs.Calls.{terminal}
 use Rattle.line.proofs.Arrays.{unmapped}
 use Rattle.pieces.proofs.Ends.{Ended, array-long, ended}
 use Rattle.pieces.proofs.Piecing.{first-near, first-refused, one-served, rest-few}

@@ -5,7 +5,7 @@ use lib.ListN.{length}
 use lib.Seq.{length-take-le}
 use borrow.Author.Needs.{needs}
 use Rattle.model.specs.Line.{LineSound}
-use Rattle.model.specs.Calls.{terminal}
+use Rattle.calls.specs.Calls.{terminal}
 use Rattle.line.proofs.Arrays.{unmapped}
 use Rattle.pieces.specs.Parts.{closingNumber}
 use Rattle.pieces.proofs.Closing.{closing-by, closing-near, closing-not, closing-served, closing-sound}

@@ -2,7 +2,7 @@
 use mathlib.Core.Path.{sym}
 use lib.Seq.{length-take-le}
 use borrow.Author.Tests.{le-leb, lt-leb}
-use Rattle.model.specs.Opening.{firstPart}
+use Rattle.calls.specs.Opening.{firstPart}
 use borrow.Author.Needs.{needs}
 use Rattle.terminal.proofs.printed.Statement.{statement}
 use Rattle.terminal.proofs.printed.Tie as tie

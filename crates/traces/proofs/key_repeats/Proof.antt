@@ -2,7 +2,7 @@
 use mathlib.Core.Path.{_∙_, _≡_, sym}
 use native.Mathlib.Omega.{arith}
 use lib.ListN.{length}
-use Rattle.model.specs.Calls.{firstOf}
+use Rattle.calls.specs.Calls.{firstOf}
 use Rattle.traces.specs.Call.{checks, sentIn}
 use Rattle.traces.proofs.Promises.{at-most, interval-least, refused, room-enough, room-short, served, too-small, whole}
 use borrow.Author.Needs.{needs}

@@ -7,8 +7,8 @@ use lib.ListN.{drop, length}
 use borrow.Author.Needs.{needs}
 use borrow.Author.Tests.{le-leb, lt-leb, not-false, not-true}
 use Rattle.model.specs.Records.{Record, all?, recordsOf}
-use Rattle.model.specs.Packs.{known?}
-use Rattle.model.specs.Calls.{firstOf, knownIn, packable, short, shortIn}
+use Rattle.calls.specs.Packs.{known?}
+use Rattle.calls.specs.Calls.{firstOf, knownIn, packable, short, shortIn}
 use Rattle.packs.specs.Bytes.{ofBytes}
 use Rattle.packs.proofs.Walking.{Whole, behind, fits, known-on, over, short-on}
 use Rattle.packs.proofs.Numbers.{bytes-numbered}

@@ -2,7 +2,7 @@
 use mathlib.Core.Path.{_∙_, refl, sym}
 use borrow.Author.Needs.{needs}
 use borrow.Author.Tests.{eq-eqb, ne-eqb, not-false, not-true}
-use Rattle.model.specs.Calls.{noneWaits, sized, soundIn, terminal}
+use Rattle.calls.specs.Calls.{noneWaits, sized, soundIn, terminal}
 use Rattle.packs.proofs.Numbers.{pack-numbered}
 use Rattle.packs.proofs.judging.pack_number.Statement.{statement}
 use Rattle.packs.proofs.judging.pack_number.Tie as tie

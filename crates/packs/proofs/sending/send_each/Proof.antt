@@ -4,7 +4,7 @@ use Prim.Native.Nat.{_+_, _-_, _≤_}
 use native.Mathlib.Omega.{arith}
 use lib.ListN.{length}
 use borrow.Author.Needs.{needs}
-use Rattle.model.proofs.Printing.{buffer-length}
+use Rattle.calls.proofs.Printing.{buffer-length}
 use Rattle.packs.proofs.Turns.{Loop, addable, again, begin, end, going-length, numbers, record-fits, servable}
 use Rattle.packs.proofs.sending.send_each.Statement.{statement}
 use Rattle.packs.proofs.sending.send_each.Tie as tie

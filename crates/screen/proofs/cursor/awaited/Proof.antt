@@ -1,7 +1,7 @@
 -- `cursor::awaited` meets its contract: the step where the cursor waits, else nothing.
 use native.Mathlib.Omega.{arith}
 use borrow.Author.Needs.{needs}
-use Rattle.screen.proofs.Carried.{unmarked-acts}
+use Rattle.ground.proofs.Carried.{unmarked-acts}
 use Rattle.screen.proofs.Moves.{awaited-steps, awaited-still}
 use Rattle.screen.proofs.cursor.awaited.Statement.{statement}
 use Rattle.screen.proofs.cursor.awaited.Tie as tie

@@ -1,7 +1,7 @@
 -- `cursor::down` meets its contract: a line further down, or on the last line a lift; the cursor is put anew in both.
 use native.Mathlib.Omega.{arith}
 use borrow.Author.Needs.{needs}
-use Rattle.screen.proofs.Carried.{unmarked-acts}
+use Rattle.ground.proofs.Carried.{unmarked-acts}
 use Rattle.screen.proofs.Moves.{down-lifts, down-moves}
 use Rattle.screen.proofs.cursor.down.Statement.{statement}
 use Rattle.screen.proofs.cursor.down.Tie as tie

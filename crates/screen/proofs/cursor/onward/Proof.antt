@@ -1,7 +1,7 @@
 -- `cursor::onward` meets its contract: column 1, a line down, and the line above is marked.
 use native.Mathlib.Omega.{arith}
 use borrow.Author.Needs.{needs}
-use Rattle.screen.proofs.Carried.{then-with, unmarked-acts}
+use Rattle.ground.proofs.Carried.{then-with, unmarked-acts}
 use Rattle.screen.proofs.Moves.{column-acts, onward-marks}
 use Rattle.screen.proofs.cursor.onward.Statement.{statement}
 use Rattle.screen.proofs.cursor.onward.Tie as tie

@@ -1,7 +1,7 @@
 -- `cursor::right` meets its contract: a column further; in the last one it waits, or goes to column 1 of the next line, as the rule says.
 use native.Mathlib.Omega.{arith}
 use borrow.Author.Needs.{needs}
-use Rattle.screen.proofs.Carried.{unmarked-acts}
+use Rattle.ground.proofs.Carried.{unmarked-acts}
 use Rattle.screen.proofs.Moves.{right-steps, right-waits, right-wraps}
 use Rattle.screen.proofs.cursor.right.Statement.{statement}
 use Rattle.screen.proofs.cursor.right.Tie as tie

@@ -1,7 +1,7 @@
 -- `cursor::store` meets its contract: the cursor's cell is one of the screen's, and the layer is emptied where it is shown.
 use native.Mathlib.Omega.{arith}
 use borrow.Author.Needs.{needs}
-use Rattle.screen.proofs.Cells.{cell-room}
+use Rattle.ground.proofs.Cells.{cell-room}
 use Rattle.screen.proofs.Moves.{stored-acts}
 use Rattle.screen.proofs.cursor.store.Statement.{statement}
 use Rattle.screen.proofs.cursor.store.Tie as tie

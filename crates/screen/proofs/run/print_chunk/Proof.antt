@@ -1,7 +1,7 @@
 -- `print_chunk` meets its contract: as many cells from the cursor's on, as many places from the one that shows it.
 use native.Mathlib.Omega.{arith}
 use borrow.Author.Needs.{needs}
-use Rattle.screen.proofs.Cells.{cell-room}
+use Rattle.ground.proofs.Cells.{cell-room}
 use Rattle.screen.proofs.Chunks.{copied-acts}
 use Rattle.screen.proofs.run.print_chunk.Statement.{statement}
 use Rattle.screen.proofs.run.print_chunk.Tie as tie

@@ -4,7 +4,7 @@ use mathlib.Core.Path.{refl}
 use Prim.Native.Nat.{_-_}
 use native.Mathlib.Omega.{arith}
 use borrow.Author.Needs.{needs}
-use Rattle.screen.proofs.Cells.{cell-room}
+use Rattle.ground.proofs.Cells.{cell-room}
 use Rattle.screen.proofs.Runs.{line-laid, part-line}
 use Rattle.screen.proofs.run.print_line.Statement.{statement}
 use Rattle.screen.proofs.run.print_line.Tie as tie

@@ -9,7 +9,7 @@ use lib.Dec.{eqb}
 use borrow.Author.Needs.{needs}
 use Rattle.model.specs.declared.Item.{Item}
 use Rattle.model.proofs.Cases.{none-passes}
-use Rattle.screen.specs.Frame.{limitsIn}
+use Rattle.ground.specs.Frame.{limitsIn}
 use Rattle.serving.specs.Acting.{Offered}
 use Rattle.short.specs.Seen.{printing?}
 use Rattle.short.proofs.Arms.{code-arm, other-arm, plain-item, run-arm}

@@ -4,7 +4,7 @@ use Prim.Native.Nat.{ℕ}
 use mathlib.Core.List.{List, [], _∷_}
 use borrow.Author.Needs.{needs}
 use Rattle.model.specs.Checks.{member}
-use Rattle.model.specs.Repaint.{wideCodes}
+use Rattle.calls.specs.Repaint.{wideCodes}
 use Rattle.model.proofs.Cases.{none-passes}
 use Rattle.short.proofs.acting.changes.Statement.{statement}
 use Rattle.short.proofs.acting.changes.Tie as tie

@@ -1,7 +1,7 @@
 -- `stirs` meets its contract: code 12, code 10 on the last line, and the sequences of the list; a refusal is none.
 use mathlib.Core.Path.{refl}
 use borrow.Author.Needs.{needs}
-use Rattle.model.specs.Repaint.{calm?, lifts?}
+use Rattle.calls.specs.Repaint.{calm?, lifts?}
 use Rattle.model.proofs.Tests.{differ}
 use Rattle.short.proofs.Stirring.{control-stirs, sequence-stirs}
 use Rattle.short.proofs.acting.stirs.Statement.{statement}

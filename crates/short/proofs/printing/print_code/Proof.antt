@@ -6,7 +6,7 @@ use mathlib.Core.Bool.{Bool, _&&_, not}
 use lib.Dec.{eqb, ltb}
 use borrow.Author.Needs.{needs}
 use Rattle.model.specs.Rules.{printed}
-use Rattle.screen.proofs.Carried.{then-with}
+use Rattle.ground.proofs.Carried.{then-with}
 use Rattle.short.proofs.Seeing.{sees-one}
 use Rattle.short.proofs.printing.print_code.Statement.{statement}
 use Rattle.short.proofs.printing.print_code.Tie as tie

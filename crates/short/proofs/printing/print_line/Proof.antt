@@ -1,7 +1,7 @@
 -- `print_line`: as many cells from the cursor's on, as many places of the layer and of the shown screen from the one that shows it.
 use native.Mathlib.Omega.{arith}
 use borrow.Author.Needs.{needs}
-use Rattle.screen.proofs.Cells.{cell-room}
+use Rattle.ground.proofs.Cells.{cell-room}
 use Rattle.screen.proofs.Chunks.{copied-acts}
 use Rattle.short.proofs.Seeing.{painted-line}
 use Rattle.short.proofs.printing.print_line.Statement.{statement}

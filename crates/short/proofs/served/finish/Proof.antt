@@ -8,7 +8,7 @@ use Rattle.model.specs.State.{state, withPlaces}
 use Rattle.model.specs.Picture.{painting, picture}
 use Rattle.model.proofs.Keep.{chosen}
 use Rattle.paint.specs.Painted.{painted}
-use Rattle.screen.specs.Acts.{withPlace}
+use Rattle.ground.specs.Acts.{withPlace}
 use Rattle.short.proofs.Ends.{visible}
 use Rattle.short.proofs.served.finish.Statement.{statement}
 use Rattle.short.proofs.served.finish.Tie as tie

@@ -6,8 +6,8 @@ use borrow.Author.Needs.{needs}
 use lib.ListN.{getD, length}
 use borrow.Author.Tests.{eqb-true}
 use Rattle.model.proofs.Tests.{differ}
-use Rattle.screen.specs.Acts.{Reads}
-use Rattle.screen.specs.Here.{lost}
+use Rattle.ground.specs.Acts.{Reads}
+use Rattle.ground.specs.Here.{lost}
 use Rattle.short.proofs.Ends.{first-prints, fitting}
 use Rattle.short.proofs.served.in_line.Statement.{statement}
 use Rattle.short.proofs.served.in_line.Tie as tie

@@ -3,7 +3,7 @@ use mathlib.Core.Path.{_∙_, _≡_, refl, sym}
 use mathlib.Core.Bool.{_&&_, false, true}
 use borrow.Author.Needs.{needs}
 use borrow.Author.Tests.{le-leb, lt-leb}
-use Rattle.model.specs.Calls.{short, sized, terminal}
+use Rattle.calls.specs.Calls.{short, sized, terminal}
 use Rattle.model.specs.Line.{line?}
 use Rattle.model.specs.Sound.{sound?}
 use Rattle.soundness.proofs.Chains.{sound-line, sound-places, sound-shape}

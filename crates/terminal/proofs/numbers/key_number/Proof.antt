@@ -2,7 +2,7 @@
 use mathlib.Core.Path.{_∙_, refl, sym}
 use mathlib.Core.Bool.{false, true}
 use borrow.Author.Needs.{needs}
-use Rattle.model.specs.Calls.{firstOf}
+use Rattle.calls.specs.Calls.{firstOf}
 use Rattle.terminal.proofs.Keys.{keyed-number}
 use Rattle.terminal.proofs.numbers.key_number.Statement.{statement}
 use Rattle.terminal.proofs.numbers.key_number.Tie as tie

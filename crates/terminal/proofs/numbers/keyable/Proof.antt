@@ -1,6 +1,6 @@
 -- The comparisons are those of `keyable`.
 use mathlib.Core.Path.{refl}
-use Rattle.model.specs.Calls.{keyable}
+use Rattle.model.specs.Keyable.{keyable}
 use Rattle.terminal.proofs.numbers.keyable.Statement.{statement}
 use Rattle.terminal.proofs.numbers.keyable.Tie as tie
 

@@ -1,6 +1,6 @@
 -- The comparisons are those of `ruled`.
 use mathlib.Core.Path.{refl}
-use Rattle.model.specs.Opening.{ruled}
+use Rattle.calls.specs.Opening.{ruled}
 use Rattle.terminal.proofs.numbers.ruled.Statement.{statement}
 use Rattle.terminal.proofs.numbers.ruled.Tie as tie
 

@@ -1,6 +1,6 @@
 -- The comparisons are those of `sized`.
 use mathlib.Core.Path.{refl}
-use Rattle.model.specs.Calls.{sized}
+use Rattle.calls.specs.Calls.{sized}
 use Rattle.terminal.proofs.numbers.stores_sized.Statement.{statement}
 use Rattle.terminal.proofs.numbers.stores_sized.Tie as tie
 

@@ -3,7 +3,7 @@ use mathlib.Core.Path.{_∙_, ap, refl, sym}
 use native.Mathlib.Omega.{arith}
 use lib.ListN.{length}
 use borrow.Author.Tests.{le-leb, lt-leb}
-use Rattle.model.specs.Calls.{firstOf}
+use Rattle.calls.specs.Calls.{firstOf}
 use Rattle.traces.proofs.Promises.{checked}
 use borrow.Author.Needs.{needs}
 use Rattle.traces.proofs.strokes.call_number.Statement.{statement}

@@ -1,0 +1,4 @@
+pub mod Quickly
+pub mod Worked
+pub mod QuickLaws
+pub mod Bays

@@ -1,0 +1,68 @@
+-- The quick forms are the definitions: what an accepted call gives and what a refused one gives (CallLaws), the painting by rows (PaintLaws).
+use mathlib.Core.Path.{_∙_, _≡_, ap, refl}
+use Prim.Native.Nat.{ℕ}
+use mathlib.Core.Bool.{Bool, _&&_, cond, false, true}
+use mathlib.Core.List.{List, [], _∷_}
+use lib.ListN.{replicate}
+use Rattle.model.specs.Sound.{Good}
+use Rattle.calls.specs.Repaint.{shownBehind}
+use Rattle.model.specs.Items.{applyAll}
+use Rattle.calls.specs.Calls.{Request, Terminal, accepted, allFree, answerOf, eventsBy, message, noneWaits, paints?, printedBy, quick?, readsBy, reasons, request, served, short, terminal}
+use Rattle.calls.specs.Opening.{openedTerminal, ruled}
+use Rattle.calls.specs.Lists.{Resumed}
+use Rattle.examples.specs.Examples.{Example, Fact, allHold, allRight, isRight}
+use Rattle.examples.specs.Runs.{Run, Turn, allRun, turnsHold}
+use Rattle.model.proofs.Tests.{by-test, elim-at}
+use Rattle.calls.proofs.PaintLaws.{painted-by-rows}
+use Rattle.calls.proofs.CallLaws.{accepted-answer, accepted-leaves, accepted-prints, after, refused-answer, refused-leaves, refused-prints, resumed-opened, sized-good, sound-good}
+use Rattle.examples.proofs.Quickly.{allQuick, answered, copiedBy, left, quickRight, quickRuns, quickTurns, refusedRight, servedRight}
+
+-- a call
+module _ (t : Terminal) (q : Request) where
+  accepted-left : accepted t q ≡ true → served t q ≡ left t q
+  unfolding after left
+  accepted-left e = accepted-leaves t q e ∙ (λ i. let st = applyAll (eventsBy t q) (t .state) in record { state = st; shown = cond (paints? (q .asked)) (painted-by-rows st i) (cond (quick? (q .asked)) (shownBehind (readsBy t q) (t .state) st (t .shown)) (t .shown)) })
+
+  accepted-right : (fs : List Fact) → accepted t q ≡ true → allHold fs (served t q) (answerOf t q) (printedBy t q) ≡ servedRight fs t q
+  unfolding servedRight answered copiedBy
+  accepted-right fs e = λ i. allHold fs (accepted-left e i) (accepted-answer t q e i) (accepted-prints t q e i)
+
+  refused-right : (fs : List Fact) → accepted t q ≡ false → allHold fs (served t q) (answerOf t q) (printedBy t q) ≡ refusedRight fs t q
+  unfolding refusedRight
+  refused-right fs e = λ i. allHold fs (refused-leaves t q e i) (refused-answer t q e i) (refused-prints t q e i)
+
+-- examples
+opened-accepts : (m : List ℕ) (room : ℕ) → accepted (openedTerminal 1) (request (message m) room) ≡ short m
+unfolding accepted reasons allFree noneWaits ruled
+opened-accepts m room =
+    let r : Resumed (openedTerminal 1) = resumed-opened 1 refl in
+    let g : Good (openedTerminal 1 .state) = record { sound = r .sound; cells-are = r .cells-are; layer-are = r .layer-is; dots-are = r .dots-are } in
+    (λ i. sized-good (openedTerminal 1) g (r .shown-is) i && (short m && (sound-good (openedTerminal 1) g i && (true && true))))
+    ∙ by-test (λ (b : Bool). (b && true) ≡ b) (short m) refl refl
+
+quick-right : (e : Example) → isRight e ≡ quickRight e
+unfolding isRight quickRight
+quick-right e =
+    let q : Request = request (message (e .sent)) (e .room) in
+    elim-at (λ (b : Bool). isRight e ≡ b) (short (e .sent)) _ _
+    (λ s. accepted-right (openedTerminal 1) q (e .facts) (opened-accepts (e .sent) (e .room) ∙ s)) (λ s. refused-right (openedTerminal 1) q (e .facts) (opened-accepts (e .sent) (e .room) ∙ s))
+
+pub all-quick : (es : List Example) → allRight es ≡ allQuick es
+unfolding allRight allQuick
+all-quick [] = refl
+all-quick (e ∷ es) = λ i. elim (quick-right e i) [ true ↦ all-quick es i | false ↦ false ]
+
+-- calls one after the other
+quick-turns : (t : Terminal) (xs : List Turn) → turnsHold t xs ≡ quickTurns t xs
+unfolding turnsHold quickTurns
+quick-turns t [] = refl
+quick-turns t (x ∷ xs) =
+    let q : Request = request (x .asked) (x .room) in
+    elim-at (λ (b : Bool). turnsHold t (x ∷ xs) ≡ b) (accepted t q) _ _
+    (λ e. (λ i. elim (accepted-right t q (x .facts) e i) [ true ↦ turnsHold (accepted-left t q e i) xs | false ↦ false ]) ∙ ap (λ (b : Bool). elim (servedRight (x .facts) t q) [ true ↦ b | false ↦ false ]) (quick-turns (left t q) xs))
+    (λ e. (λ i. elim (refused-right t q (x .facts) e i) [ true ↦ turnsHold (refused-leaves t q e i) xs | false ↦ false ]) ∙ ap (λ (b : Bool). elim (refusedRight (x .facts) t q) [ true ↦ b | false ↦ false ]) (quick-turns t xs))
+
+pub quick-runs : (rs : List Run) → allRun rs ≡ quickRuns rs
+unfolding allRun quickRuns
+quick-runs [] = refl
+quick-runs (r ∷ rs) = λ i. elim (quick-turns (terminal (r .given) (replicate 3840 32) (replicate 1280 0) (replicate 3840 0) (replicate 640 32)) (r .turns) i) [ true ↦ quick-runs rs i | false ↦ false ]

@@ -1,0 +1,55 @@
+-- Quick forms of what the tables of examples ask: calls whose acceptance is asked once, where the definition asks it for each part of what a call gives, and the
+-- painting of ByRows in the crate `calls`. That they are the definitions is proved in QuickLaws; here stands what Worked computes.
+use Prim.Native.Nat.{ℕ}
+use mathlib.Core.Bool.{Bool, true, false, cond}
+use mathlib.Core.List.{List, [], _∷_}
+use lib.ListN.{replicate}
+use Rattle.model.specs.declared.Answer.{Answer}
+use Rattle.calls.specs.Repaint.{shownBehind}
+use Rattle.model.specs.Items.{applyAll, blankAnswer, copies, countedAll, eventsOf}
+use Rattle.calls.specs.Calls.{Request, Terminal, accepted, eventsBy, message, numberOf, paints?, quick?, readsBy, request, short, takenBy, terminal}
+use Rattle.calls.specs.Opening.{openedTerminal}
+use Rattle.examples.specs.Examples.{Example, Fact, allHold}
+use Rattle.examples.specs.Runs.{Run, Turn}
+use Rattle.calls.proofs.ByRows.{byRows}
+
+-- what an accepted call leaves, its answer, its printer bytes
+unfoldable pub left : Terminal → Request → Terminal
+left t q = let st = applyAll (eventsBy t q) (t .state) in record { state = st; shown = cond (paints? (q .asked)) (byRows st) (cond (quick? (q .asked)) (shownBehind (readsBy t q) (t .state) st (t .shown)) (t .shown)) }
+
+unfoldable pub answered : Terminal → Request → Answer
+answered t q = countedAll (readsBy t q) (blankAnswer 0 (takenBy (q .asked)))
+
+unfoldable pub copiedBy : Terminal → Request → List ℕ
+copiedBy t q = copies (eventsOf (readsBy t q)) (t .state)
+
+-- the facts of a call, accepted or refused
+unfoldable pub servedRight : List Fact → Terminal → Request → Bool
+servedRight fs t q = allHold fs (left t q) (answered t q) (copiedBy t q)
+
+unfoldable pub refusedRight : List Fact → Terminal → Request → Bool
+refusedRight fs t q = allHold fs t (blankAnswer (numberOf t q) 0) []
+
+-- an example: the opening accepts every message that is not too long
+unfoldable pub quickRight : Example → Bool
+quickRight e =
+    let q : Request = request (message (e .sent)) (e .room) in
+    elim (short (e .sent)) [ true ↦ servedRight (e .facts) (openedTerminal 1) q | false ↦ refusedRight (e .facts) (openedTerminal 1) q ]
+
+unfoldable pub allQuick : List Example → Bool
+allQuick [] = true
+allQuick (e ∷ es) = elim (quickRight e) [ true ↦ allQuick es | false ↦ false ]
+
+-- calls one after the other
+unfoldable pub quickTurns : Terminal → List Turn → Bool
+quickTurns t [] = true
+quickTurns t (x ∷ xs) =
+    let q : Request = request (x .asked) (x .room) in
+    elim (accepted t q) [
+      | true ↦ elim (servedRight (x .facts) t q) [ true ↦ quickTurns (left t q) xs | false ↦ false ]
+      | false ↦ elim (refusedRight (x .facts) t q) [ true ↦ quickTurns t xs | false ↦ false ]
+    ]
+
+unfoldable pub quickRuns : List Run → Bool
+quickRuns [] = true
+quickRuns (r ∷ rs) = elim (quickTurns (terminal (r .given) (replicate 3840 32) (replicate 1280 0) (replicate 3840 0) (replicate 640 32)) (r .turns)) [ true ↦ quickRuns rs | false ↦ false ]

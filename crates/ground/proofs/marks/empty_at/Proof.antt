@@ -1,0 +1,23 @@
+-- `marks::empty_at` meets its contract: a bare layer stays, and a place below 640 has its mark and its code in the layer.
+use mathlib.Core.Path.{sym}
+use native.Mathlib.Omega.{arith}
+use lib.ListN.{length-set}
+use borrow.Author.Tests.{le-ltb, lt-ltb}
+use borrow.Author.Needs.{needs}
+use Rattle.model.specs.Rules.{unmark}
+use Rattle.ground.proofs.Rows.{unmark-empty}
+use Rattle.ground.proofs.marks.empty_at.Statement.{statement}
+use Rattle.ground.proofs.marks.empty_at.Tie as tie
+
+pub empty-at-spec : {M : Type 1} → statement M
+unfolding unmark
+empty-at-spec =
+    tie.close
+    (tie.spec
+    (λ c. sym (unmark-empty (c .before .args .shown) _ (c .before .pre .empty (c .if1 .taken))))
+    (λ c. search needs)
+    (λ c. search needs)
+    (λ c. simp length-set (omega arith))
+    (λ c. simp length-set)
+    (λ c. rw (lt-ltb _ _ (c .if2 .taken)))
+    (λ c. rw (le-ltb _ _ (c .if2 .left))))

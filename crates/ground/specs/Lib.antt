@@ -1,0 +1,5 @@
+pub mod Frame
+pub mod Acts
+pub mod Logical
+pub mod Here
+pub mod Spots

@@ -1,0 +1,12 @@
+pub mod KeyLine
+pub mod OneByOne
+pub mod Theorem
+pub mod Parameters
+pub mod Former
+pub mod Freely
+pub mod Flow
+pub mod Uncut
+pub mod Sending
+pub mod Parts
+pub mod PackLoop
+pub mod Witness

@@ -1,0 +1,4 @@
+pub mod Demand
+pub mod Stream
+pub mod Sending
+pub mod Parameters
