@@ -1,4 +1,4 @@
--- A quick form of the painting: by rows, each list walked once, where the definition goes to each of 640 places from the start. That it is the painting is proved in PaintLaws.
+-- The painting by rows, by which the tables of examples are computed: each list walked once, where the definition goes to each of 640 places from the start. That it is the painting is proved in PaintLaws.
 use Prim.Native.Nat.{ℕ, suc, zero, _+_, _-_, _*_}
 use mathlib.Core.Bool.{Bool, true, false, _&&_, _||_}
 use mathlib.Core.List.{List, [], _∷_, _++_}
@@ -38,6 +38,6 @@ unfoldable pub rowsFrom : State → ℕ → ℕ → List ℕ
 rowsFrom st q zero = []
 rowsFrom st q (suc n) = row st q ++ rowsFrom st (suc q) n
 
--- the painting; under secret the definition is quick
+-- the painting; under secret the definition costs little
 unfoldable pub byRows : State → List ℕ
 byRows st = elim (eqb (st .settings .secret) 1) [ true ↦ painting st | false ↦ rowsFrom st 0 8 ]

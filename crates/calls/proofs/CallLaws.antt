@@ -371,3 +371,10 @@ module _ (t : Terminal) (o : Opening t) where
 
   pub opening-resumed : Resumed t
   opening-resumed = subst Resumed (sym opening-leaves) (resumed-opened (o .rule) opening-ruled)
+
+-- a call that kept its promise: its number, and that 0 says it was accepted
+pub number-is : (c : Call) → Promised c → c .answer .number ≡ numberOf (c .given) (requestOf c)
+number-is c p = ap (λ (a : Answer). a .number) (p .answer-is) ∙ answer-number (c .given) (requestOf c)
+
+pub is-accepted : (c : Call) → Promised c → c .answer .number ≡ 0 → accepted (c .given) (requestOf c) ≡ true
+is-accepted c p e = accepted-number (c .given) (requestOf c) (sym (number-is c p) ∙ e)

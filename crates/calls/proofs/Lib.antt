@@ -8,11 +8,14 @@ pub mod LineAfter
 pub mod Promises
 pub mod Message
 pub mod Repainting
-pub mod QuickCall
-pub mod Blind
+pub mod ShortCall
+pub mod SecretRules
 pub mod KeyCall
-pub mod Sums
 pub mod Offsets
+pub mod PieceServings
+pub mod OverRequests
+pub mod PackRequests
+pub mod PackLoop
 pub mod Wholes
 pub mod Joining
 pub mod Bounds

@@ -5,14 +5,14 @@ use native.Mathlib.Nat.{add-zero, zero-add}
 use native.Mathlib.Omega.{arith}
 use mathlib.Core.Bool.{Bool, _&&_, cond, false, true}
 use mathlib.Core.List.{List, [], _++_, _∷_, append-assoc, append-nil}
-use lib.ListN.{getD, length, length-append}
+use lib.ListN.{getD, length, length-append, take}
 use lib.Dec.{eqb, ltb}
 use borrow.Author.Tests.{ltb-false}
 use Rattle.model.specs.declared.Answer.{Answer}
 use Rattle.model.specs.declared.Item.{Item}
 use Rattle.model.specs.declared.Item.the-variants.{Control, Printed, Refused, Sequence}
 use Rattle.model.specs.declared.Settings.{Settings}
-use Rattle.model.specs.Bytes.{joined, listFrom}
+use Rattle.model.specs.Bytes.{joined, listFrom, written}
 use Rattle.model.specs.Line.{heldIn}
 use Rattle.model.specs.State.{State}
 use Rattle.model.specs.Picture.{copied, copiedRows, copySizeOf, dotCopy, pictureCopy}
@@ -21,13 +21,14 @@ use Rattle.model.specs.Reading.{Read, itemOf, uncut}
 use Rattle.model.specs.Judging.{allowed, fitting, limitsOf}
 use Rattle.model.specs.Items.{Event, applyAll, blankAnswer, bytesRead, copies, copyOf, counted, countedAll, happened, eventsOf, obeyedBy, printerBytes, printsOf, read, readsOf}
 use Rattle.calls.specs.Packs.{bodiesOf, readsEach}
-use Rattle.calls.specs.Calls.{Asked, Call, Promised, Request, Terminal, accepted, answerOf, closing, eventsBy, eventsIn, itemBytes, besideItems, keyText, message, numberOf, pack, packed?, packedBy, piece, printedBy, quick, readsBy, readsIn, request, requestOf, sentBy, startOf, takenBy, takenIn}
+use Rattle.calls.specs.Calls.{Asked, Call, Promised, Request, Terminal, accepted, answerOf, closing, eventsBy, eventsIn, itemBytes, besideItems, keyText, message, numberOf, pack, packed?, packedBy, piece, printedBy, quick, readsBy, readsIn, request, requestOf, sentBy, startOf, takenBy, takenIn, partOf}
 use Rattle.calls.specs.Claims.{InBodies, InOrder, noBody, oneBody}
 use Rattle.model.proofs.Tests.{cond-at, cond₂}
 use Rattle.model.proofs.ByteLaws.{length-listFrom, length-written}
 use Rattle.model.proofs.Gathering.{AllSome, joined-uncut, none, some, some-gathered, some-last, some-uncut}
 use Rattle.model.proofs.Events.{events-append}
-use Rattle.calls.proofs.Sums.{counted-append}
+use Rattle.model.proofs.AnswerLaws.{counted-append}
+use lib.Seq.{take-at}
 
 pub length-rows : (f : ℕ → ℕ) (r n : ℕ) → length (copiedRows f r n) ≡ n * 82
 unfolding copiedRows
@@ -254,3 +255,12 @@ module _ (t : Terminal) (q : Request) (e : accepted t q ≡ true) where
   unfolding readsBy
   in-bodies p f =
       subst (InBodies (bodiesOf p)) (sym (reads-accepted ∙ ap (λ (a : Asked). readsBy t (request a (q .room))) f)) (bodies-each (bodiesOf p) (t .state) (q .room))
+
+-- the printer bytes of a call
+pub printed-in : (c : Call) → Promised c → (length (printedBy (c .given) (requestOf c)) ≡ c .answer .printed) × (length (c .printer) ≡ length (c .buffer))
+printed-in c p = (sym (ap (λ (a : Answer). a .printed) (p .answer-is) ∙ printed-is (c .given) (requestOf c)), buffer-length c p)
+
+-- the first part of its buffer is what it printed
+pub part-is : (c : Call) → Promised c → partOf c ≡ printedBy (c .given) (requestOf c)
+unfolding written
+part-is c p = ap (take (c .answer .printed)) (p .printer-is) ∙ take-at (printedBy (c .given) (requestOf c)) _ (c .answer .printed) (printed-in c p .0)

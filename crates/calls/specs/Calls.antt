@@ -5,7 +5,7 @@ use mathlib.Core.Path.{_≡_}
 use Prim.Native.Nat.{ℕ, _+_, _-_}
 use mathlib.Core.Bool.{Bool, true, false, cond, _&&_}
 use mathlib.Core.List.{List, [], _∷_, _++_}
-use lib.ListN.{length}
+use lib.ListN.{length, take}
 use lib.Dec.{leb, eqb}
 use Rattle.model.specs.declared.Settings.{Settings}
 use Rattle.model.specs.declared.Answer.{Answer}
@@ -273,6 +273,10 @@ pub record Call : Type 0 where
 -- what it is worked out from: its printer room is the length of its buffer
 abbrev pub requestOf : Call → Request
 requestOf c = request (c .asked) (length (c .buffer))
+
+-- the bytes that a call printed: the first part of its buffer
+abbrev pub partOf : Call → List ℕ
+partOf c = take (c .answer .printed) (c .printer)
 
 -- what each call promises: "its answer, the settings and each lent byte afterwards"
 pub record Promised (c : Call) : Type 0 where

@@ -1,4 +1,4 @@
-pub mod Quickly
+pub mod Computing
 pub mod Worked
-pub mod QuickLaws
+pub mod ComputingLaws
 pub mod Bays

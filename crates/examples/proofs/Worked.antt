@@ -1,5 +1,5 @@
 -- The tables of examples worked out: the bays', P10's and P11's among them, all under one statement that antt computes, the lists of calls of P1, P2, P5, P9
--- and P11 under another, both by the quick forms (Quickly); one run of P1's by the definitions themselves; P9's openings; P11's dots, those that stay and
+-- and P11 under another, both by the forms of Computing; one run of P1's by the definitions themselves; P9's openings; P11's dots, those that stay and
 -- the sizes of their store; and P6's packs, by the definitions.
 use mathlib.Core.Path.{_≡_, refl}
 use mathlib.Core.Bool.{true}
@@ -34,18 +34,18 @@ use Rattle.calls.specs.Lists.{claimed}
 use Rattle.examples.specs.PackRuns.{allPacked, packClaims, packNumbers, packRuns, recordsHold}
 use Rattle.calls.specs.Repaint.{calm?, lifts?, lowest?, movesTop?, placeBy, printLifts?, painted?, placesIn, printPlace, repainted, wide?, wideIn}
 use Rattle.examples.specs.ShortRuns.{afterAll, allLooks, allSighted, shortClaims, shortLooks, sighted}
-use Rattle.examples.proofs.Quickly.{allQuick, answered, copiedBy, left, quickRight, quickRuns, quickTurns, refusedRight, servedRight}
+use Rattle.examples.proofs.Computing.{allComputed, answered, copiedBy, left, computedRight, computedRuns, computedTurns, refusedRight, servedRight}
 use Rattle.calls.proofs.ByRows.{below, byRows, overlaid, row, rowsFrom}
 
-pub examples : allQuick (marked ++ (unmarked ++ (added ++ (parameters ++ loadCurve)))) ≡ true
-unfolding copySizeOf dotCopy pictureCopy withDots dotsCleared weight dotAt withDot acted longer shorter flat offsetAt strokePlaced lineDot maskBit stepped drawn stroke idle? judgedRanges screens aloneRanges second? joined onPart blanked scrolledUp scrolledDown put member passes inRanges? firstBad linesOf columnsOf placeOf textRows height base size lineAt cellAt keyRanges plainRanges arrayRanges insideRanges shapeRanges otherRanges inside? zeros? line? markOf marked? marks? sound? windowAt halves sides textAt under covered pictureAt picture painting copiedRows copied find rowOf modeRowOf afterMode afterEscape needed unfinished? gathered remaining kindOf decoded ended itemOf byteOf legal? badOf allowed fitting withSettings withCells withLayer placed emptied shownAt unmark mark stored onLines listed remarked lifted down toColumn runningOn runsOn onward right awaited topped held centred nearest missed tracked trackedFar printed unmarkedFrom cleared control blankFrom running endOf erased marksUp marksDown endUnmarked shifted modeSet flagged displaying keyLine withKeys withKindPatterns obeyed applyItem readsOf happened applyAll copies countedAll itemBytes sized soundIn firstOf allFree reasons numberOf accepted noneWaits countable keyable besideItems startOf takenBy readsBy eventsBy holds allHold marked unmarked added parameters loadCurve overlaid below row rowsFrom byRows left answered copiedBy servedRight refusedRight quickRight allQuick
+pub examples : allComputed (marked ++ (unmarked ++ (added ++ (parameters ++ loadCurve)))) ≡ true
+unfolding copySizeOf dotCopy pictureCopy withDots dotsCleared weight dotAt withDot acted longer shorter flat offsetAt strokePlaced lineDot maskBit stepped drawn stroke idle? judgedRanges screens aloneRanges second? joined onPart blanked scrolledUp scrolledDown put member passes inRanges? firstBad linesOf columnsOf placeOf textRows height base size lineAt cellAt keyRanges plainRanges arrayRanges insideRanges shapeRanges otherRanges inside? zeros? line? markOf marked? marks? sound? windowAt halves sides textAt under covered pictureAt picture painting copiedRows copied find rowOf modeRowOf afterMode afterEscape needed unfinished? gathered remaining kindOf decoded ended itemOf byteOf legal? badOf allowed fitting withSettings withCells withLayer placed emptied shownAt unmark mark stored onLines listed remarked lifted down toColumn runningOn runsOn onward right awaited topped held centred nearest missed tracked trackedFar printed unmarkedFrom cleared control blankFrom running endOf erased marksUp marksDown endUnmarked shifted modeSet flagged displaying keyLine withKeys withKindPatterns obeyed applyItem readsOf happened applyAll copies countedAll itemBytes sized soundIn firstOf allFree reasons numberOf accepted noneWaits countable keyable besideItems startOf takenBy readsBy eventsBy holds allHold marked unmarked added parameters loadCurve overlaid below row rowsFrom byRows left answered copiedBy servedRight refusedRight computedRight allComputed
 examples = refl
 
-pub runs : quickRuns (streams ++ (keyLines ++ (logicalLines ++ (lateWraps ++ curveRuns)))) ≡ true
-unfolding copySizeOf dotCopy pictureCopy withDots dotsCleared weight dotAt withDot acted longer shorter flat offsetAt strokePlaced lineDot maskBit stepped drawn stroke idle? judgedRanges screens aloneRanges second? padded lined texted joined onPart blanked scrolledUp scrolledDown put member passes inRanges? firstBad linesOf columnsOf placeOf textRows height base size lineAt cellAt keyRanges plainRanges arrayRanges insideRanges shapeRanges otherRanges inside? zeros? line? markOf marked? marks? sound? windowAt halves sides textAt under covered pictureAt picture painting copiedRows copied find rowOf modeRowOf afterMode afterEscape needed unfinished? gathered remaining kindOf decoded ended itemOf byteOf legal? badOf allowed fitting withSettings withCells withLayer placed emptied shownAt unmark mark stored onLines listed remarked lifted down toColumn runningOn runsOn onward right awaited topped held centred nearest missed tracked trackedFar printed unmarkedFrom cleared control blankFrom running endOf erased marksUp marksDown endUnmarked shifted modeSet flagged displaying keyLine withKeys withKindPatterns obeyed applyItem readsOf happened applyAll copies countedAll itemBytes sized soundIn firstOf allFree reasons numberOf accepted noneWaits countable keyable besideItems startOf takenBy readsBy eventsBy holds allHold streams keyLines logicalLines lateWraps curveRuns overlaid below row rowsFrom byRows left answered copiedBy servedRight refusedRight quickTurns quickRuns
+pub runs : computedRuns (streams ++ (keyLines ++ (logicalLines ++ (lateWraps ++ curveRuns)))) ≡ true
+unfolding copySizeOf dotCopy pictureCopy withDots dotsCleared weight dotAt withDot acted longer shorter flat offsetAt strokePlaced lineDot maskBit stepped drawn stroke idle? judgedRanges screens aloneRanges second? padded lined texted joined onPart blanked scrolledUp scrolledDown put member passes inRanges? firstBad linesOf columnsOf placeOf textRows height base size lineAt cellAt keyRanges plainRanges arrayRanges insideRanges shapeRanges otherRanges inside? zeros? line? markOf marked? marks? sound? windowAt halves sides textAt under covered pictureAt picture painting copiedRows copied find rowOf modeRowOf afterMode afterEscape needed unfinished? gathered remaining kindOf decoded ended itemOf byteOf legal? badOf allowed fitting withSettings withCells withLayer placed emptied shownAt unmark mark stored onLines listed remarked lifted down toColumn runningOn runsOn onward right awaited topped held centred nearest missed tracked trackedFar printed unmarkedFrom cleared control blankFrom running endOf erased marksUp marksDown endUnmarked shifted modeSet flagged displaying keyLine withKeys withKindPatterns obeyed applyItem readsOf happened applyAll copies countedAll itemBytes sized soundIn firstOf allFree reasons numberOf accepted noneWaits countable keyable besideItems startOf takenBy readsBy eventsBy holds allHold streams keyLines logicalLines lateWraps curveRuns overlaid below row rowsFrom byRows left answered copiedBy servedRight refusedRight computedTurns computedRuns
 runs = refl
 
--- "A piece takes all its bytes" is of the definition that the quick forms pass by
+-- "A piece takes all its bytes" is of the definition that these forms pass by
 pub first-run : allRun (take 1 streams) ≡ true
 unfolding copySizeOf dotCopy pictureCopy withDots dotsCleared weight dotAt withDot acted longer shorter flat offsetAt strokePlaced lineDot maskBit stepped drawn stroke idle? judgedRanges screens aloneRanges second? padded lined texted joined onPart blanked scrolledUp scrolledDown put member passes inRanges? firstBad linesOf columnsOf placeOf textRows height base size lineAt cellAt keyRanges plainRanges arrayRanges insideRanges shapeRanges otherRanges inside? zeros? line? markOf marked? marks? sound? windowAt halves sides textAt under covered pictureAt picture painting copiedRows copied find rowOf modeRowOf afterMode afterEscape needed unfinished? gathered remaining kindOf decoded ended itemOf byteOf legal? badOf allowed fitting withSettings withCells withLayer placed emptied shownAt unmark mark stored onLines listed remarked lifted down toColumn runningOn runsOn onward right awaited topped held centred nearest missed tracked trackedFar printed unmarkedFrom cleared control blankFrom running endOf erased marksUp marksDown endUnmarked shifted modeSet flagged displaying keyLine withKeys withKindPatterns obeyed applyItem readsOf happened applyAll copies countedAll itemBytes sized soundIn firstOf allFree reasons numberOf accepted noneWaits countable keyable besideItems startOf takenBy takenIn readsBy readsIn eventsBy eventsIn shownAfter served answerOf printedBy holds allHold turnsHold allRun streams
 first-run = refl

@@ -16,7 +16,7 @@ pub mod Following
 pub mod Events
 pub mod Lines
 pub mod Logical
-pub mod Waiting
+pub mod LateWrap
 pub mod Carried
 pub mod Places
 pub mod ShownPlace
@@ -24,3 +24,7 @@ pub mod Views
 pub mod KeyLaws
 pub mod DotLaws
 pub mod DotsStay
+pub mod ParameterLaws
+pub mod AnswerLaws
+pub mod HiddenLaws
+pub mod SingleItems

@@ -12,8 +12,12 @@ pub mod Judging
 pub mod Rules
 pub mod OnScreen
 pub mod Items
+pub mod Answers
+pub mod Parameters
+pub mod Hidden
 pub mod Records
 pub mod Keyable
 pub mod Kept
 pub mod Dot
 pub mod Strokes
+pub mod SingleItems

@@ -16,12 +16,12 @@ use Rattle.model.specs.Records.{lengthIn}
 use Rattle.calls.specs.Packs.{bodiesOf}
 use Rattle.model.specs.Items.{blankAnswer}
 use Rattle.calls.specs.Calls.{Promised, Request, Terminal, accepted, called, firstOf, message, numberOf, pack, packCalled, reasons, request, terminal}
-use Rattle.calls.specs.Answers.{together}
+use Rattle.model.specs.Answers.{together}
 use Rattle.model.proofs.ByteLaws.{length-written}
 use Rattle.calls.proofs.CallLaws.{accepted-number, number-accepted}
 use Rattle.calls.proofs.Bounds.{bounded}
-use Rattle.theorems.proofs.OneByOne.{AllShort, Quiet, alsoShort, pack-quiet, quiet-accepted}
-use Rattle.theorems.proofs.PackLoop.{Going, begins, bodies-within, ends, goes-on, recordThen}
+use Rattle.calls.proofs.PackRequests.{AllShort, Quiet, alsoShort, pack-quiet, quiet-accepted}
+use Rattle.calls.proofs.PackLoop.{Going, begins, bodies-within, ends, goes-on, recordThen}
 use Rattle.records.proofs.Laws.{bodies-at, bodies-over}
 use Rattle.pieces.specs.Parts.{Addable, bothOf}
 use Rattle.serving.specs.Serves.{Servable, Serves}

@@ -20,11 +20,11 @@ use Rattle.model.specs.Reading.{gathered, remaining, uncut}
 use Rattle.model.specs.Rules.{withSettings}
 use Rattle.model.specs.Items.{lined}
 use Rattle.calls.specs.Calls.{Promised, Request, Terminal, accepted, called, eventsIn, firstOf, message, noneWaits, numberOf, ownReasons, paints?, piece, pieced, reason, request, served, terminal}
-use Rattle.calls.specs.Answers.{together}
+use Rattle.model.specs.Answers.{together}
 use Rattle.calls.proofs.CallLaws.{accepted-number, accepted-sized, accepted-sound, answer-number, left-is, legal-in, number-good, sized-served, state-served}
 use Rattle.model.proofs.Events.{good-all}
 use Rattle.calls.proofs.Offsets.{further}
-use Rattle.theorems.proofs.Parts.{printsIn, stateOf, taking}
+use Rattle.calls.proofs.PieceServings.{printsIn, stateOf, taking}
 use Rattle.terminal.proofs.Promises.{sizes}
 use Rattle.pieces.specs.Parts.{bothOf, countedFrom}
 use Rattle.pieces.proofs.Pieces.{Part, part-of, promised-two}

@@ -12,7 +12,7 @@ use Rattle.calls.specs.Calls.{Asked, Promised, Request, Terminal, accepted, cal
 use Rattle.calls.specs.Claims.{countAfter, waitsAfter}
 use Rattle.calls.proofs.CallLaws.{accepted-number, answer-number, left-is, refused-answer, refused-leaves, refused-number, refused-prints}
 use Rattle.calls.proofs.Offsets.{further}
-use Rattle.theorems.proofs.Parts.{taking}
+use Rattle.calls.proofs.PieceServings.{taking}
 use Rattle.calls.proofs.Promises.{promised-none}
 use Rattle.pieces.proofs.Pieces.{call, part-of, promised-one}
 

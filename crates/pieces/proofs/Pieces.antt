@@ -21,12 +21,12 @@ use Rattle.calls.specs.Packs.{readsEach}
 use Rattle.model.specs.Items.{applyAll, blankAnswer, copies, countedAll, eventsOf, lined, readsOf}
 use Rattle.calls.specs.Calls.{Asked, Call, Promised, Request, Terminal, accepted, answerOf, besideItems, called, firstOf, itemBytes, message, numberOf, packed?, packedBy, paints?, piece, printedBy, readsBy, reasons, request, served, startOf, takenBy}
 use Rattle.calls.specs.Claims.{countAfter, waitsAfter}
-use Rattle.calls.specs.Answers.{together}
+use Rattle.model.specs.Answers.{together}
 use Rattle.calls.proofs.CallLaws.{accepted-answer, accepted-number, accepted-painted, accepted-prints, answer-number, left-is, plain-record, refused-number}
 use Rattle.calls.proofs.LineAfter.{leaves, leaves-lined}
 use Rattle.model.proofs.Lined.{applied-lined, copies-lined, reads-lined}
 use Rattle.calls.proofs.Offsets.{further}
-use Rattle.theorems.proofs.Parts.{itemsOf, later-counts, later-prints, later-state, piece-answer, piece-prints, piece-state, printsIn, stateOf, taking, taking-all, written-twice}
+use Rattle.calls.proofs.PieceServings.{itemsOf, later-counts, later-prints, later-state, piece-answer, piece-prints, piece-state, printsIn, stateOf, taking, taking-all, written-twice}
 use Rattle.calls.proofs.Printing.{printed-is}
 use Rattle.calls.proofs.Promises.{promised-by, promised-none}
 

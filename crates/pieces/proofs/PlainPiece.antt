@@ -21,7 +21,7 @@ use Rattle.calls.proofs.CallLaws.{accepted-number, accepted-sound, answer-numbe
 use Rattle.model.proofs.Gathering.{none-unfinished}
 use Rattle.calls.proofs.LineAfter.{leaves-lined, self-lined}
 use Rattle.calls.proofs.Offsets.{further}
-use Rattle.theorems.proofs.Parts.{taking}
+use Rattle.calls.proofs.PieceServings.{taking}
 use Rattle.calls.proofs.Wholes.{whole-read, whole-rest}
 use Rattle.line.specs.Whole.{wholeEnd}
 use Rattle.pieces.specs.Parts.{countedFrom}

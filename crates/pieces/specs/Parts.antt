@@ -8,7 +8,7 @@ use Rattle.model.specs.declared.Answer.{Answer}
 use Rattle.model.specs.declared.Settings.{Settings}
 use Rattle.calls.specs.Calls.{Terminal, countable, short, sized, soundIn}
 use Rattle.model.specs.Line.{line?}
-use Rattle.calls.specs.Answers.{together}
+use Rattle.model.specs.Answers.{together}
 
 -- "offsets count from the stream's start": the first refusal's offset, if there is one; so many bytes taken
 abbrev pub countedFrom : ℕ → ℕ → Answer → Answer

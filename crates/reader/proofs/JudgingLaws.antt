@@ -28,7 +28,7 @@ use Rattle.reader.specs.Judging.{Finds, FindsFrom, verdict}
 use Rattle.model.proofs.Tests.{and-left, and-right, by-test, cond-at, differ}
 use Rattle.model.proofs.Arms.{key-of}
 use Rattle.model.proofs.Cases.{none-passes}
-use Rattle.theorems.proofs.Parameters.{naming}
+use Rattle.model.proofs.ParameterLaws.{refused-by}
 
 -- the cases of `Sequence`, by their numbers: those with no parameter that is judged, and those that are no copy
 abbrev pub free : List ℕ
@@ -227,7 +227,7 @@ module _ (q : Seq) (s : Limits) (room : ℕ) (v : Verdict) (found : Finds (judge
 
   pub judged-bad : v .good ≡ false → Refused 11 (v .parameter) ≡ judged (Sequence q) s room
   unfolding badOf
-  judged-bad e = ap (λ (n : ℕ). Refused 11 n) (found .first e) ∙ sym (naming .first q s room (legal-is ∙ e) .0)
+  judged-bad e = ap (λ (n : ℕ). Refused 11 n) (found .first e) ∙ sym (refused-by q s room (legal-is ∙ e))
 
 -- an item that is no sequence is not judged
 pub unjudged : (i : Item) (s : Limits) (room : ℕ) → OneOf (0 ∷ 1 ∷ 3 ∷ []) (tagOf item-type i) → i ≡ judged i s room

@@ -14,7 +14,7 @@ use Rattle.model.specs.Bytes.{put}
 use Rattle.model.specs.State.{State, state}
 use Rattle.model.specs.Screens.{placeOf}
 use Rattle.model.specs.Rules.{awaited, printed, right, stored, tracked}
-use Rattle.model.proofs.Waiting.{awaited-not}
+use Rattle.model.proofs.LateWrap.{awaited-not}
 use Rattle.model.proofs.Tests.{and-left, and-right}
 use Rattle.ground.specs.declared.Frame.{Frame}
 use Rattle.screen.specs.declared.run.Run.{Run}

@@ -19,10 +19,10 @@ use Rattle.model.specs.Judging.{allowed, fitting, judged, limitsOf}
 use Rattle.model.specs.Rules.{applyItem, obeyed, printed}
 use Rattle.model.specs.Items.{Event, applyAll, copies, copyOf, counted, countedAll, eventsOf, happened, itemRead, keySet, lineLeft, obeyedBy, printerBytes, read, readsOf}
 use Rattle.calls.specs.Repaint.{calm?, lifts?, movesTop?, placeBy, placesIn, wide?, wideIn}
-use Rattle.calls.specs.Blind.{Hidden, reveals}
+use Rattle.model.specs.Hidden.{Hidden, reveals}
 use Rattle.secrecy.specs.Secrecy.{revealed}
 use Rattle.model.proofs.Tests.{by-test, differ, elim-at, or-false}
-use Rattle.calls.proofs.Blind.{blind}
+use Rattle.calls.proofs.SecretRules.{blind}
 use Rattle.secrecy.proofs.Reading.{Twin, Twins, bytes, codes, judged-code, more, none, same}
 
 -- what two items that were read have in common

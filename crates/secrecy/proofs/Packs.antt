@@ -15,7 +15,7 @@ use Rattle.model.specs.Reading.{Read, uncut}
 use Rattle.model.specs.Records.{Record, bodyIn, lengthIn, recordIn, recordsAfter, uncut?}
 use Rattle.calls.specs.Packs.{bodiesOf, itemsIn, readsEach, recordFrom, some?}
 use Rattle.model.specs.Items.{applyAll, blankAnswer, countedAll, eventsOf}
-use Rattle.calls.specs.Blind.{Hidden}
+use Rattle.model.specs.Hidden.{Hidden}
 use Rattle.secrecy.specs.Secrecy.{printedInPack, revealed}
 use Rattle.model.proofs.Tests.{cond-at}
 use Rattle.model.proofs.Events.{events-append}

@@ -13,14 +13,14 @@ use Rattle.model.specs.Reading.{Read, gathered, lastly, remaining, uncut}
 use Rattle.model.specs.Records.{uncut?}
 use Rattle.calls.specs.Packs.{bodiesOf, recordFrom}
 use Rattle.model.specs.Items.{Event, applyAll, eventsOf, happened, lineLeft, readsOf}
-use Rattle.calls.specs.Blind.{Hidden}
+use Rattle.model.specs.Hidden.{Hidden}
 use Rattle.calls.specs.Calls.{Asked, Request, Terminal, accepted, allFree, besideItems, closing, itemBytes, keyText, message, pack, packable, packed?, paints?, piece, quick, quick?, readsBy, reasons, recordOf, request, sized, startOf, takenBy}
 use Rattle.secrecy.specs.Secrecy.{AlikeStart, SameKind, closings, handed, keyTexts, messages, packs, pieces, printedAt, printedInPack, quicks, readAsPrinted, revealed}
 use Rattle.model.proofs.Tests.{and-left, and-right}
-use Rattle.calls.proofs.Blind.{blind}
+use Rattle.calls.proofs.SecretRules.{blind}
 use Rattle.calls.proofs.Printing.{reads-accepted}
 use Rattle.calls.proofs.CallLaws.{accepted-sound, plain-record}
-use Rattle.theorems.proofs.Flow.{held-counted}
+use Rattle.model.proofs.LineLaws.{held-counted}
 use Rattle.secrecy.proofs.Reading.{InStep, Twins, in-step, printed-value, twins-self, valueAt, whole-step}
 use Rattle.secrecy.proofs.Items.{Along, along}
 use Rattle.secrecy.proofs.Packs.{TwinBodies, along-each, printed-in-pack, record-each, twin-bodies, twins-long, twins-some, valueIn}

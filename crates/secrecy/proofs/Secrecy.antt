@@ -17,16 +17,16 @@ use Rattle.calls.specs.Packs.{bodiesOf}
 use Rattle.model.specs.Rules.{withSettings}
 use Rattle.model.specs.Items.{blankAnswer, countedAll, eventsOf, texted}
 use Rattle.calls.specs.Repaint.{painted?, repainted, shownBehind}
-use Rattle.calls.specs.Blind.{Hidden}
+use Rattle.model.specs.Hidden.{Hidden}
 use Rattle.calls.specs.Calls.{Asked, Call, Promised, Reason, Request, Terminal, accepted, allFree, answerOf, besideItems, closing, countable, eventsBy, eventsIn, firstOf, keyText, knownIn, message, noneWaits, numberOf, pack, packable, paints?, piece, printedBy, quick, quick?, readsBy, readsIn, reason, reasons, recordOf, request, requestOf, served, short, shortIn, sized, soundIn, takenBy}
 use Rattle.model.specs.Keyable.{keyable}
 use Rattle.calls.specs.Lists.{Made, Nth, eventsOver, first, later, next, requests}
 use Rattle.secrecy.specs.Secrecy.{Alike, AlikeCalls, AlikeStart, SameKind, SameSeen, Secrecy, closings, handed, inBoth, keyTexts, messages, packs, pair, pieces, printedAt, printedInPack, quicks, readAsPrinted, revealed}
-use Rattle.calls.proofs.Blind.{blind}
+use Rattle.calls.proofs.SecretRules.{blind}
 use Rattle.model.proofs.Events.{good-all}
 use Rattle.calls.proofs.CallLaws.{accepted-answer, accepted-leaves, accepted-pack, accepted-prints, accepted-quick, accepted-sized, accepted-sound, after, left-is, legal-in, refused-answer, refused-leaves, refused-prints, refused-record, sizes, state-served}
 use Rattle.calls.proofs.LineAfter.{leaves, leaves-texted}
-use Rattle.theorems.proofs.Uncut.{part-is}
+use Rattle.calls.proofs.Printing.{part-is}
 use Rattle.secrecy.proofs.Items.{along-copies, along-counts, along-end, along-places, along-wide, revealed-append}
 use Rattle.secrecy.proofs.Pairs.{Paired, hidden-of, paired}
 

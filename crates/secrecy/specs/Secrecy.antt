@@ -15,10 +15,9 @@ use Rattle.model.specs.Sequences.{codeOf}
 use Rattle.model.specs.Reading.{Read}
 use Rattle.calls.specs.Packs.{bodiesOf, itemsIn}
 use Rattle.model.specs.Items.{Event, itemRead, lineLeft, keySet, eventsOf, applyAll, blankAnswer, countedAll}
-use Rattle.calls.specs.Blind.{shared, reveals}
-use Rattle.calls.specs.Calls.{Terminal, Asked, message, piece, closing, keyText, pack, quick, request, accepted, readsIn, Call}
+use Rattle.model.specs.Hidden.{shared, reveals}
+use Rattle.calls.specs.Calls.{Terminal, Asked, message, piece, closing, keyText, pack, quick, request, accepted, readsIn, Call, partOf}
 use Rattle.calls.specs.Lists.{Made, Nth, requests, eventsOver}
-use Rattle.theorems.specs.Stream.{partOf}
 
 -- "bytes read as printed": of an item that begins at an offset, whether byte o is its printed character's value. Document 01: "A printed character is a
 -- printed byte or an accepted 37": its own byte, or 37's parameter

@@ -4,7 +4,7 @@ use Prim.Native.Nat.{_+_, _≤_, ℕ}
 use native.Mathlib.Nat.{zero-add}
 use native.Mathlib.Omega.{arith}
 use mathlib.Core.Bool.{false, true}
-use mathlib.Core.List.{List, [], _∷_}
+use mathlib.Core.List.{List}
 use lib.ListN.{drop, length, set, take}
 use Rattle.model.specs.declared.Answer.{Answer}
 use Rattle.model.specs.declared.Outcome.{Outcome}
@@ -15,12 +15,11 @@ use Rattle.model.specs.Screens.{placeOf}
 use Rattle.model.specs.Picture.{picture}
 use Rattle.model.specs.Items.{blankAnswer}
 use Rattle.calls.specs.Calls.{Call, Promised, Terminal, firstOf, message, numberOf, quick, quickCalled, reasons, request, terminal}
-use Rattle.calls.specs.Lists.{first, next, none}
 use Rattle.calls.proofs.CallLaws.{accepted-number, refused-number}
 use Rattle.calls.proofs.Loop.{answers, ends, prints, rest}
 use Rattle.calls.proofs.Message.{promised-short, promised-short-refused}
+use Rattle.calls.proofs.ShortCall.{quick-in}
 use Rattle.model.proofs.Tests.{differ}
-use Rattle.theorems.proofs.Theorem.{demand3}
 use Rattle.paint.specs.Painted.{Visible, painted}
 use Rattle.ground.specs.declared.Frame.{Frame}
 use Rattle.ground.specs.Frame.{FrameOf}
@@ -32,11 +31,11 @@ use Rattle.short.specs.Seen.{Sees}
 use Rattle.short.specs.Serving.{InLine, ServesShort, ShortPromised}
 use Rattle.short.proofs.Watching.{Watch, watch-ends, watch-first, watch-run}
 
--- a call that is promised is a list of one, of which demand 3 says the rest
+-- of a call that is promised the rest follows
 and-places : {m : List ℕ} {given : Terminal} {buffer : List ℕ} {answer : Answer} {left : Terminal} {printer : List ℕ} → Promised (quickCalled m given buffer answer left printer) → ShortPromised m given buffer answer left printer
 and-places {m} {given} {buffer} {answer} {left} {printer} p =
     let c : Call = quickCalled m given buffer answer left printer in
-    (p, λ e. demand3 given (c ∷ []) (next refl p none) .short-message 0 c first e m refl)
+    (p, λ e. quick-in c p e m refl)
 
 module _ (s : Settings) (m cells layer dots shown buffer : List ℕ) where
   abbrev given : Terminal

@@ -13,7 +13,7 @@ use Rattle.model.specs.State.{State, putAt, state}
 use Rattle.model.specs.Screens.{columnsHere, here, placeOf}
 use Rattle.model.specs.Rules.{awaited, printed, right, stored, tracked}
 use Rattle.calls.specs.Repaint.{lowest?, printLifts?, printPlace}
-use Rattle.model.proofs.Waiting.{awaited-not}
+use Rattle.model.proofs.LateWrap.{awaited-not}
 use Rattle.ground.specs.declared.Frame.{Frame}
 use Rattle.ground.specs.Frame.{Framed, Ready}
 use Rattle.ground.specs.Acts.{Acts, ActsWith, Reads, withHere, withPlace}

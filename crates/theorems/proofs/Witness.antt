@@ -9,8 +9,8 @@ use Rattle.model.specs.Bytes.{written}
 use Rattle.calls.specs.Calls.{Asked, Call, Promised, Terminal, answerOf, closing, piece, printedBy, recordOf, request, served}
 use Rattle.model.specs.Line.{limit}
 use Rattle.calls.specs.Lists.{Made, Start, next, none}
-use Rattle.theorems.specs.Stream.{Cut, Stream, cuts, ends}
-use Rattle.theorems.proofs.Uncut.{however-cut}
+use Rattle.theorems.specs.Streams.{Cut, Stream, cuts, ends}
+use Rattle.theorems.proofs.Streams.{however-cut}
 
 -- what is asked, and the buffer that is lent
 pub record Asking : Type 0 where

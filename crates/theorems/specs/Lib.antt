@@ -1,4 +1,4 @@
-pub mod Demand
-pub mod Stream
-pub mod Sending
-pub mod Parameters
+pub mod Demand3
+pub mod Streams
+pub mod Packs
+pub mod WhichParameter

@@ -18,7 +18,7 @@ use Rattle.model.specs.declared.Item.{Item}
 use Rattle.model.specs.declared.Item.the-variants.{Printed, Control, Sequence, Refused}
 use Rattle.model.specs.Bytes.{put}
 use Rattle.model.specs.Picture.{copySizeOf}
-use Rattle.theorems.specs.Parameters.{NamedItem}
+use Rattle.model.specs.Parameters.{NamedItem}
 use Rattle.model.specs.Reading.{itemOf, needed, ownBytes}
 use Rattle.model.specs.Judging.{judged, limitsOf}
 use Rattle.model.specs.Screens.{columnsOf, height, linesOf}
@@ -27,7 +27,7 @@ use Rattle.calls.specs.Calls.{firstOf, reason}
 use Rattle.model.proofs.Item.{the-type}
 use Rattle.model.proofs.ByteLaws.{length-put}
 use Rattle.model.proofs.Gathering.{needed-most}
-use Rattle.theorems.proofs.Parameters.{naming}
+use Rattle.model.proofs.ParameterLaws.{read-named}
 use Rattle.model.proofs.Tests.{cond-at}
 use Rattle.store.proofs.Laws.{put-front}
 use Rattle.reader.specs.Reading.{ReadAt}
@@ -178,7 +178,7 @@ unfolding saidOfAll said
 quiet-word s bs v w z =
     w .parameter-is ∙ cond-at (λ (i : Item). numberIn i ≡ 0 → parameterIn i ≡ 0) (ltb (needed bs) (length bs)) (Refused 10 0) (said s bs)
     (λ e. quiet (Refused 10 0) (record { eleven = λ k. absurd (omega (arith, k)); another = λ k. refl }))
-    (λ e. quiet (said s bs) (naming .items 0 bs (limitsOf s) (copySizeOf (s .mode)))) (sym (w .number-is) ∙ z)
+    (λ e. quiet (said s bs) (read-named 0 bs (limitsOf s) (copySizeOf (s .mode)))) (sym (w .number-is) ∙ z)
 
 -- what is written of a named sequence: the reader takes all its bytes
 pub wanted-named : (s : Settings) (q : Seq) (rows : List ℕ) (bs : List ℕ) → length rows ≡ 8 → bs ≡ bytesOf q rows → _≡_ {A = Wanted} (record { word = saidOfAll s bs; bytes = bs }) (wanted s q rows)

@@ -6,11 +6,9 @@ use native.Mathlib.Omega.{arith}
 use mathlib.Core.Bool.{false, true}
 use mathlib.Core.List.{List, [], _++_, _∷_}
 use lib.ListN.{length, length-append, take}
-use lib.Seq.{take-at}
 use lib.Dec.{leb}
 use borrow.Author.Tests.{le-leb}
 use Rattle.model.specs.declared.Settings.{Settings}
-use Rattle.model.specs.Bytes.{written}
 use Rattle.model.specs.State.{State}
 use Rattle.model.specs.Line.{heldIn, limit}
 use Rattle.model.specs.Sound.{Good, Sound}
@@ -20,16 +18,17 @@ use Rattle.model.specs.Items.{applyAll, blankAnswer, copies, countedAll, events
 use Rattle.calls.specs.Calls.{Asked, Call, Promised, Request, Terminal, accepted, answerOf, closing, countable, firstOf, itemBytes, message, numberOf, ownReasons, piece, printedBy, readsBy, readsIn, reason, request, requestOf, served, sized, startOf, takenBy}
 use Rattle.calls.specs.Claims.{countAfter, waitsAfter}
 use Rattle.calls.specs.Lists.{Made, left, next, none, requests, stands}
-use Rattle.theorems.specs.Stream.{As, AsMessage, Cut, HoweverCut, Stream, Uncut, closes, cuts, ends, goes, met13, partOf, partsOf, readsOver, skips, summed}
-use Rattle.calls.specs.Answers.{together}
+use Rattle.theorems.specs.Streams.{As, AsMessage, Cut, HoweverCut, Stream, Uncut, closes, cuts, ends, goes, met13, partsOf, readsOver, skips, summed}
+use Rattle.model.specs.Answers.{together}
 use Rattle.model.proofs.Lined.{applied-lined}
 use Rattle.model.proofs.Events.{good-all}
-use Rattle.calls.proofs.Printing.{reads-accepted}
-use Rattle.calls.proofs.CallLaws.{accepted-answer, accepted-leaves, accepted-prints, accepted-sized, after, left-is, legal-in, message-accepted, number-good, refused-leaves, refused-number, sized-served, state-served}
+use Rattle.calls.proofs.Printing.{reads-accepted, part-is}
+use Rattle.calls.proofs.CallLaws.{accepted-answer, accepted-leaves, accepted-prints, accepted-sized, after, left-is, legal-in, message-accepted, number-good, refused-leaves, refused-number, sized-served, state-served, is-accepted, number-is}
 use Rattle.calls.proofs.LineAfter.{count-lined, held-lined, leaves-lined, line-after, self-lined}
-use Rattle.theorems.proofs.Freely.{ahead, reads-free}
-use Rattle.theorems.proofs.Flow.{Flow, answersOver, flow-counts, flow-items, flow-prints, flow-shown, flow-sound, flow-state, printedOver}
-use Rattle.theorems.proofs.Theorem.{exact-all, is-accepted, number-is, printed-in, start-resumed}
+use Rattle.theorems.proofs.AlwaysRoom.{ahead, reads-with-room}
+use Rattle.theorems.proofs.StreamRequests.{Streaming, streaming-counts, streaming-items, streaming-prints, streaming-shown, streaming-sound, streaming-state}
+use Rattle.calls.proofs.OverRequests.{answersOver, printedOver}
+use Rattle.theorems.proofs.Demand3.{exact-all, start-resumed}
 
 -- a call that kept its promise, as the request that it is worked out from
 asked-accepted : (c : Call) (a : Asked) (t : Terminal) → c .given ≡ t → Promised c → c .asked ≡ a → c .answer .number ≡ 0 → accepted t (request a (length (c .buffer))) ≡ true
@@ -38,16 +37,16 @@ asked-accepted c a t g p f e = (λ i. accepted (sym g i) (request (sym f i) (len
 pub left-served : (c : Call) (t : Terminal) → c .given ≡ t → Promised c → c .left ≡ served t (requestOf c)
 left-served c t g p = left-is c p ∙ ap (λ (x : Terminal). served x (requestOf c)) g
 
-flow-of : {t : Terminal} {cs : List Call} {bs : List ℕ} → Made t cs → Stream cs bs → Flow t (requests cs) bs
-flow-of {t} (next {c = c} g p none) (closes f e) =
-    subst (λ (a : Asked). Flow t (request a (length (c .buffer)) ∷ []) []) (sym f) (Flow.closes (asked-accepted c closing t g p f e))
-flow-of {t} (next {c = c} {cs = cs} g p r) (goes {m = m} {bs = bs} f e s) =
+streaming-of : {t : Terminal} {cs : List Call} {bs : List ℕ} → Made t cs → Stream cs bs → Streaming t (requests cs) bs
+streaming-of {t} (next {c = c} g p none) (closes f e) =
+    subst (λ (a : Asked). Streaming t (request a (length (c .buffer)) ∷ []) []) (sym f) (Streaming.closes (asked-accepted c closing t g p f e))
+streaming-of {t} (next {c = c} {cs = cs} g p r) (goes {m = m} {bs = bs} f e s) =
     let l : c .left ≡ served t (request (piece m) (length (c .buffer))) = left-served c t g p ∙ ap (λ (a : Asked). served t (request a (length (c .buffer)))) f in
-    subst (λ (a : Asked). Flow t (request a (length (c .buffer)) ∷ requests cs) (m ++ bs)) (sym f)
-    (Flow.goes (asked-accepted c (piece m) t g p f e) (subst (λ (x : Terminal). Flow x (requests cs) bs) l (flow-of r s)))
-flow-of {t} (next {c = c} {cs = cs} g p r) (skips {bs = bs} e s) =
+    subst (λ (a : Asked). Streaming t (request a (length (c .buffer)) ∷ requests cs) (m ++ bs)) (sym f)
+    (Streaming.goes (asked-accepted c (piece m) t g p f e) (subst (λ (x : Terminal). Streaming x (requests cs) bs) l (streaming-of r s)))
+streaming-of {t} (next {c = c} {cs = cs} g p r) (skips {bs = bs} e s) =
     let n : accepted t (requestOf c) ≡ false = refused-number t (requestOf c) (λ z. e (number-is c p ∙ ap (λ (x : Terminal). numberOf x (requestOf c)) g ∙ z)) in
-    Flow.skips n (subst (λ (x : Terminal). Flow x (requests cs) bs) (left-served c t g p ∙ refused-leaves t (requestOf c) n) (flow-of r s))
+    Streaming.skips n (subst (λ (x : Terminal). Streaming x (requests cs) bs) (left-served c t g p ∙ refused-leaves t (requestOf c) n) (streaming-of r s))
 
 -- the answers and the printed parts are those of the rules
 pub summed-is : {t : Terminal} {cs : List Call} → Made t cs → summed cs ≡ answersOver t (requests cs)
@@ -55,10 +54,6 @@ unfolding summed answersOver
 summed-is none = refl
 summed-is {t} (next {c = c} {cs = cs} g p r) =
     λ i. together ((p .answer-is ∙ ap (λ (x : Terminal). answerOf x (requestOf c)) g) i) ((summed-is r ∙ ap (λ (x : Terminal). answersOver x (requests cs)) (left-served c t g p)) i)
-
-pub part-is : (c : Call) → Promised c → partOf c ≡ printedBy (c .given) (requestOf c)
-unfolding written
-part-is c p = ap (take (c .answer .printed)) (p .printer-is) ∙ take-at (printedBy (c .given) (requestOf c)) _ (c .answer .printed) (printed-in c p .0)
 
 pub parts-are : {t : Terminal} {cs : List Call} → Made t cs → partsOf cs ≡ printedOver t (requests cs)
 unfolding partsOf printedOver
@@ -80,21 +75,21 @@ pub uncut-as : Uncut
 unfolding ahead
 uncut-as t cs bs room made z stream e f =
     let s : Settings = t .state .settings in
-    let flow : Flow t (requests cs) bs = flow-of made stream in
-    let sound : Sound s = flow-sound flow in
+    let streaming : Streaming t (requests cs) bs = streaming-of made stream in
+    let sound : Sound s = streaming-sound streaming in
     let u : List Read = readsOf (uncut bs) 0 (t .state) room in
     let none-held : heldIn s ≡ [] = ap (λ (h : ℕ). take h (s .waiting)) (quiet-held s sound z) in
-    let same : readsOver t (requests cs) ≡ u = flow-items flow e ∙ (λ i. ahead (none-held i) (z i) (t .state) bs) ∙ sym (reads-free (uncut bs) 0 (t .state) room f) in
+    let same : readsOver t (requests cs) ≡ u = streaming-items streaming e ∙ (λ i. ahead (none-held i) (z i) (t .state) bs) ∙ sym (reads-with-room (uncut bs) 0 (t .state) room f) in
     let x : left t cs ≡ stands t (requests cs) = exact-all made in
-    let at : stands t (requests cs) .state ≡ lined [] 0 (applyAll (eventsOf u) (t .state)) = flow-state flow ∙ ap (λ (rs : List Read). lined [] 0 (applyAll (eventsOf rs) (t .state))) same in
+    let at : stands t (requests cs) .state ≡ lined [] 0 (applyAll (eventsOf u) (t .state)) = streaming-state streaming ∙ ap (λ (rs : List Read). lined [] 0 (applyAll (eventsOf rs) (t .state))) same in
     let st : left t cs .state ≡ applyAll (eventsOf u) (t .state) = ap (λ (x : Terminal). x .state) x ∙ at ∙ quiet-state (t .state) sound z u in
     let end : left t cs .state ≡ lined [] 0 (applyAll (eventsOf u) (t .state)) = ap (λ (x : Terminal). x .state) x ∙ at in
     record {
       items = same;
-      counts = summed-is made ∙ flow-counts flow ∙ ap (λ (rs : List Read). countedAll rs (blankAnswer 0 (length bs))) same;
+      counts = summed-is made ∙ streaming-counts streaming ∙ ap (λ (rs : List Read). countedAll rs (blankAnswer 0 (length bs))) same;
       state = st;
-      printed = parts-are made ∙ flow-prints flow ∙ ap (λ (rs : List Read). copies (eventsOf rs) (t .state)) same;
-      shown = ap (λ (x : Terminal). x .shown) x ∙ flow-shown flow ∙ ap painting (ap (λ (x : Terminal). x .state) (sym x) ∙ st);
+      printed = parts-are made ∙ streaming-prints streaming ∙ ap (λ (rs : List Read). copies (eventsOf rs) (t .state)) same;
+      shown = ap (λ (x : Terminal). x .shown) x ∙ streaming-shown streaming ∙ ap painting (ap (λ (x : Terminal). x .state) (sym x) ∙ st);
       forgets = (
         ap (λ (y : State). heldIn (y .settings)) end ∙ held-lined [] 0 (applyAll (eventsOf u) (t .state)),
         ap (λ (y : State). y .settings .count) end ∙ count-lined [] 0 (applyAll (eventsOf u) (t .state)),
@@ -129,21 +124,21 @@ however-cut t cs bs room start made z cut h =
     (s, λ e f. uncut-as t cs bs room made z s e f)
 
 -- the first accepted call of a stream is made of the terminal itself, so its stores have their sizes
-flow-sized : {t : Terminal} {qs : List Request} {bs : List ℕ} → Flow t qs bs → sized t ≡ true
-flow-sized {t} (Flow.closes {room = room} a) = accepted-sized t (request closing room) a refl
-flow-sized {t} (Flow.goes {m = m} {room = room} a s) = accepted-sized t (request (piece m) room) a refl
-flow-sized (Flow.skips a s) = flow-sized s
+streaming-sized : {t : Terminal} {qs : List Request} {bs : List ℕ} → Streaming t qs bs → sized t ≡ true
+streaming-sized {t} (Streaming.closes {room = room} a) = accepted-sized t (request closing room) a refl
+streaming-sized {t} (Streaming.goes {m = m} {room = room} a s) = accepted-sized t (request (piece m) room) a refl
+streaming-sized (Streaming.skips a s) = streaming-sized s
 
 pub as-message : AsMessage
 unfolding readsBy itemBytes startOf after takenBy waitsAfter countAfter
 as-message t cs bs c made z stream g p f l e₁ e₂ =
     let s : Settings = t .state .settings in
-    let flow : Flow t (requests cs) bs = flow-of made stream in
-    let sound : Sound s = flow-sound flow in
+    let streaming : Streaming t (requests cs) bs = streaming-of made stream in
+    let sound : Sound s = streaming-sound streaming in
     let room : ℕ = length (c .buffer) in
     let q : Request = request (message bs) room in
     let fq : requestOf c ≡ q = ap (λ (a : Asked). request a room) f in
-    let ok : accepted t q ≡ true = message-accepted t bs room (flow-sized flow) sound (quiet-held s sound z) l in
+    let ok : accepted t q ≡ true = message-accepted t bs room (streaming-sized streaming) sound (quiet-held s sound z) l in
     let u : List Read = readsOf (uncut bs) 0 (t .state) room in
     let ru : readsIn t (requestOf c) ≡ u = ap (readsIn t) fq ∙ reads-accepted t q ok in
     let one : As u bs t cs = uncut-as t cs bs room made z stream e₁ (subst (λ (rs : List Read). met13 rs ≡ false) ru e₂) in

@@ -1,45 +1,21 @@
--- Document 02, P8, of the rules by themselves: what two runs in secret mode need not have in common is the bytes of cells, layer and key texts, and no rule
+-- Document 02, P8, of the rules by themselves: what two runs in secret mode need not have in common is the bytes of cells, layer and key texts (Hidden in the crate `model`), and no rule
 -- looks at these to work out anything else. So no setting, no dot, no judgement and no painted place depends on them, nor, while secret is on, a place
 -- of the picture or a printed copy. What follows for lists of calls is said in the crate `secrecy`.
 use mathlib.Core.Path.{_≡_}
 use Prim.Native.Nat.{ℕ}
-use mathlib.Core.Bool.{Bool, false}
-use mathlib.Core.List.{List, []}
+use mathlib.Core.Bool.{false}
+use mathlib.Core.List.{List}
 use lib.ListN.{length}
-use lib.Dec.{eqb}
-use Rattle.model.specs.declared.Settings.{Settings}
 use Rattle.model.specs.declared.Item.{Item}
-use Rattle.model.specs.declared.Item.the-variants.{Printed, Control, Sequence, Refused}
-use Rattle.model.specs.Bytes.{blanked}
-use Rattle.model.specs.State.{State, state, withTexts}
+use Rattle.model.specs.State.{State}
 use Rattle.model.specs.Screens.{here}
 use Rattle.model.specs.Sound.{sound?}
-use Rattle.model.specs.Sequences.{codeOf}
 use Rattle.model.specs.Picture.{picture, copied}
 use Rattle.model.specs.Judging.{limitsOf}
 use Rattle.model.specs.Rules.{printed, applyItem}
 use Rattle.model.specs.Items.{lined, texted}
 use Rattle.calls.specs.Repaint.{lifts?, placeBy}
-
--- the settings without the codes of the key texts: as many blanks in their place
-abbrev pub shared : Settings → Settings
-shared s = withTexts s (blanked (s .texts))
-
--- what stands without these, and without the bytes of cells and layer
-abbrev pub common : State → State
-common st = state (shared (st .settings)) [] [] (st .dots)
-
--- "equal .. but for the bytes of cells, layer and key texts", "secret on"
-pub record Hidden (a b : State) : Type 0 where
-  pub same : common a ≡ common b
-  pub on : a .settings .secret ≡ 1
-
--- ESC 125, "read as a sequence"
-abbrev pub reveals : Item → Bool
-reveals (Printed c) = false
-reveals (Control c) = false
-reveals (Sequence q) = eqb (codeOf q) 125
-reveals (Refused n p) = false
+use Rattle.model.specs.Hidden.{Hidden, reveals}
 
 -- the claim
 pub record Blind (a b : State) : Type 0 where

@@ -7,10 +7,10 @@ use lib.ListN.{length, take}
 use borrow.Author.Tests.{eq-eqb}
 use Rattle.model.specs.declared.Settings.{Settings}
 use Rattle.calls.specs.Calls.{Asked, Call, Terminal, firstOf, message, noneWaits, ownReasons, reason, request, served, short}
-use Rattle.theorems.specs.Demand.{AllMessages, AsBefore, another, noMore}
+use Rattle.theorems.specs.Demand3.{AllMessages, AsBefore, another, noMore}
 use Rattle.calls.specs.Lists.{requests, stands, stood}
 use Rattle.calls.proofs.LineAfter.{quiet-served}
-use Rattle.theorems.proofs.Theorem.{demand3}
+use Rattle.theorems.proofs.Demand3.{demand3}
 
 quiet-stood : {cs : List Call} → AllMessages cs → (t : Terminal) → t .state .settings .held ≡ 0 → (n : ℕ) → stood t cs n .state .settings .held ≡ 0
 unfolding stands

@@ -1,5 +1,5 @@
 -- P6: a pack call and the message calls that it stands for, and whole lists of calls with each pack replaced by its messages: their requests are those of
--- `oneByOne` and `unpacked`, of which OneByOne has it.
+-- `oneByOne` and `unpacked`, of which Unpacking has it, and PackRequests in the crate `calls`.
 use mathlib.Core.Path.{_∙_, _≡_, ap, refl, subst, sym}
 use Prim.Native.Nat.{_+_, _-_, _≤_, ℕ}
 use mathlib.Core.Bool.{Bool, cond, false, true}
@@ -10,13 +10,15 @@ use Rattle.model.specs.Bytes.{written}
 use Rattle.calls.specs.Packs.{bodiesOf}
 use Rattle.calls.specs.Calls.{Asked, Call, Request, Terminal, accepted, answerOf, eventsIn, message, numberOf, pack, packedBy, printedBy, recordOf, request, requestOf, served}
 use Rattle.calls.specs.Lists.{Made, Nth, eventsOver, first, later, left, next, none, oneByOne, requests, stands, standsFor, unpacked}
-use Rattle.theorems.specs.Sending.{OneByOne, Replaced, Replacing, Sent, acceptedPack, allSent, firstIn, noCall, refusedPack, sameCall, sentNext}
-use Rattle.theorems.specs.Stream.{partsOf}
-use Rattle.calls.proofs.CallLaws.{number-accepted, refused-leaves, refused-number}
-use Rattle.theorems.proofs.Flow.{answersOver, printedOver}
-use Rattle.theorems.proofs.OneByOne.{AllShort, Quiet, alsoShort, answers-unpacked, events-unpacked, pack-answer, pack-events, pack-prints, pack-quiet, pack-record, pack-short, pack-stands, prints-unpacked, quiet-accepted, quiet-left, refusedFrom, stands-unpacked}
-use Rattle.theorems.proofs.Theorem.{exact-all, is-accepted, number-is}
-use Rattle.theorems.proofs.Uncut.{left-served, part-is, parts-are, summed-is}
+use Rattle.theorems.specs.Packs.{OneByOne, Replaced, Replacing, Sent, acceptedPack, allSent, firstIn, noCall, refusedPack, sameCall, sentNext}
+use Rattle.theorems.specs.Streams.{partsOf}
+use Rattle.calls.proofs.CallLaws.{number-accepted, refused-leaves, refused-number, is-accepted, number-is}
+use Rattle.calls.proofs.OverRequests.{answersOver, printedOver}
+use Rattle.calls.proofs.PackRequests.{AllShort, Quiet, alsoShort, pack-answer, pack-events, pack-prints, pack-quiet, pack-record, pack-short, pack-stands, quiet-accepted, quiet-left, refusedFrom}
+use Rattle.theorems.proofs.Unpacking.{answers-unpacked, events-unpacked, prints-unpacked, stands-unpacked}
+use Rattle.theorems.proofs.Demand3.{exact-all}
+use Rattle.theorems.proofs.Streams.{left-served, parts-are, summed-is}
+use Rattle.calls.proofs.Printing.{part-is}
 
 -- a call as it was asked, from a terminal
 asked-of : (c : Call) (a : Asked) (room : ℕ) → c .asked ≡ a → length (c .buffer) ≡ room → requestOf c ≡ request a room

@@ -6,7 +6,7 @@ use native.Mathlib.Nat.{le-of-suc-le-suc, not-suc-le-zero}
 use native.Mathlib.Omega.{arith}
 use mathlib.Core.Bool.{Bool, _&&_, cond, false, true}
 use mathlib.Core.List.{List, [], _++_, _∷_}
-use lib.ListN.{getD, length, length-append, take}
+use lib.ListN.{length, length-append, take}
 use lib.Seq.{take-append-add}
 use Rattle.model.specs.declared.Answer.{Answer}
 use Rattle.model.specs.declared.Settings.{Settings}
@@ -14,31 +14,28 @@ use Rattle.model.specs.Bytes.{joined, written}
 use Rattle.model.specs.State.{State}
 use Rattle.model.specs.Screens.{base, cellAt, columnsOf, lineAt, linesOf, size}
 use Rattle.model.specs.Line.{heldIn}
-use Rattle.model.specs.Picture.{picture}
-use Rattle.model.specs.Reading.{Read, uncut}
-use Rattle.model.specs.Checks.{member}
-use Rattle.calls.specs.Repaint.{placesIn}
 use Rattle.model.specs.Sound.{Good, Sound}
 use Rattle.model.specs.Items.{Event, applyAll, blankAnswer, bytesRead, copies, countedAll, readsOf, texted}
 use Rattle.model.specs.Records.{recordsAfter}
 use Rattle.calls.specs.Packs.{bodiesOf, readsEach, recordFrom}
 use Rattle.calls.specs.Calls.{Asked, Call, Promised, Request, Terminal, accepted, answerOf, eventsIn, firstOf, itemBytes, keyText, message, numberOf, ownReasons, pack, packed?, paints?, printedBy, quick, readsBy, readsIn, recordOf, request, requestOf, sentBy, served, startOf, takenBy}
 use Rattle.model.specs.Kept.{Apart, On, Standing, movesWindow, setsMode}
-use Rattle.calls.specs.Claims.{InBodies, InOrder, Plain, PlaceAfter, Quick, Shown, ShownIn, aboveRow8, countAfter, waitsAfter}
-use Rattle.theorems.specs.Demand.{Demand, Demand3}
+use Rattle.calls.specs.Claims.{InBodies, InOrder, Quick, Shown, ShownIn, aboveRow8, countAfter, waitsAfter}
+use Rattle.theorems.specs.Demand3.{Demand, Demand3}
 use Rattle.calls.specs.Lists.{Made, NoKey, Nth, Resumed, Start, Still, Stretch, before, claimed, event, eventsOver, first, itemCount, later, left, next, none, opening, requests, resumed, stands, stood}
 use Rattle.model.proofs.Frames.{SameScreen, Spared}
 use Rattle.model.proofs.Keep.{same-refl, same-trans, spared-refl, spared-trans, within}
 use Rattle.model.proofs.DotsStay.{event-dots}
 use Rattle.model.proofs.ItemLaws.{Obeyed}
 use Rattle.model.proofs.Events.{AllLegal, at-next, cell-inside, chained, event-at, good-at, legal-append, refused-nothing, same-window, unchanged, window-at}
-use Rattle.calls.proofs.CallLaws.{accepted-answer, accepted-number, accepted-prints, answer-number, left-is, legal-in, number-accepted, number-good, opening-resumed, opening-shown, refused-answer, refused-leaves, refused-number, refused-prints, shown-accepted, sized-served, state-served}
-use Rattle.calls.proofs.Printing.{buffer-length, in-bodies, ordered, printed-is, reads-accepted, taken-is}
+use Rattle.calls.proofs.CallLaws.{accepted-answer, accepted-prints, left-is, legal-in, number-accepted, number-good, opening-resumed, opening-shown, refused-answer, refused-leaves, refused-number, refused-prints, shown-accepted, sized-served, state-served, number-is, is-accepted}
+use Rattle.calls.proofs.Printing.{in-bodies, ordered, reads-accepted, taken-is, printed-in}
 use Rattle.calls.proofs.LineAfter.{leaves-none, leaves-texted, line-after, once, whole}
-use Rattle.theorems.proofs.KeyLine.{above-stands, shown-above, shown-served, shown-stands}
-use Rattle.calls.proofs.QuickCall.{alters, as-old, each-place, quick-reads, row-8, same-answer, same-prints, same-state}
-use Rattle.theorems.proofs.OneByOne.{events-unpacked, stands-unpacked, state-stands}
+use Rattle.theorems.proofs.ShownOverCalls.{above-stands, shown-above, shown-served, shown-stands}
+use Rattle.theorems.proofs.Unpacking.{events-unpacked, stands-unpacked}
+use Rattle.calls.proofs.OverRequests.{state-stands}
 use Rattle.model.proofs.Places.{one-cell}
+use Rattle.calls.proofs.ShortCall.{quick-in}
 
 legal-over : (t : Terminal) (qs : List Request) → AllLegal (eventsOver t qs) (t .state)
 unfolding eventsOver
@@ -91,16 +88,10 @@ left-unaltered c p e = (
   p .printer-is ∙ ap (λ (ys : List ℕ). written ys (c .buffer)) (refused-prints (c .given) (requestOf c) e),
 )
 
-pub number-is : (c : Call) → Promised c → c .answer .number ≡ numberOf (c .given) (requestOf c)
-number-is c p = ap (λ (a : Answer). a .number) (p .answer-is) ∙ answer-number (c .given) (requestOf c)
-
 unaltered : (c : Call) → Promised c → (c .answer .number ≡ 0 → ⊥) → (c .left ≡ c .given) × (c .answer ≡ blankAnswer (c .answer .number) 0) × (c .printer ≡ c .buffer)
 unaltered c p n =
     let z = left-unaltered c p (refused-number (c .given) (requestOf c) (λ e. n (number-is c p ∙ e))) in
     (z .0, z .1 ∙ ap (λ (n : ℕ). blankAnswer n 0) (sym (number-is c p)), z .2)
-
-pub is-accepted : (c : Call) → Promised c → c .answer .number ≡ 0 → accepted (c .given) (requestOf c) ≡ true
-is-accepted c p e = accepted-number (c .given) (requestOf c) (sym (number-is c p) ∙ e)
 
 -- the shown screen: an accepted call that paints makes it true
 painted : (c : Call) → Promised c → c .answer .number ≡ 0 → paints? (c .asked) ≡ true → Shown (c .left)
@@ -175,10 +166,6 @@ apart-of s h = record {
 standing-of : {st : State} → Good st → Standing st
 standing-of g = record { sound = g .sound; inside = g .sound .inside; apart = apart-of _ (g .sound); cells-are = g .cells-are; layer-is = g .layer-are; dots-are = g .dots-are }
 
--- the printer bytes of a call
-pub printed-in : (c : Call) → Promised c → (length (printedBy (c .given) (requestOf c)) ≡ c .answer .printed) × (length (c .printer) ≡ length (c .buffer))
-printed-in c p = (sym (ap (λ (a : Answer). a .printed) (p .answer-is) ∙ printed-is (c .given) (requestOf c)), buffer-length c p)
-
 -- the bytes of a call, and its line
 abbrev Once : Terminal → Call → Type 0
 Once x c = (heldIn (x .state .settings) ++ sentBy (c .asked) ≡ joined (bytesRead (readsIn x (requestOf c))) ++ heldIn (c .left .state .settings))
@@ -225,25 +212,6 @@ empty-in c p e f =
       p .record-is ∙ ap (recordOf (c .given)) fq ∙ ap (λ (b : Bool). cond (true && b) 0 0) a,
       p .printer-is ∙ ap (λ (ys : List ℕ). written ys (c .buffer)) (ap (printedBy (c .given)) fq ∙ accepted-prints (c .given) q a),
     )
-
--- a short message
-quick-in : (c : Call) → Promised c → c .answer .number ≡ 0 → (m : List ℕ) → c .asked ≡ quick m → Quick c m
-quick-in c p e m f =
-    let t : Terminal = c .given in
-    let room : ℕ = length (c .buffer) in
-    let fq : requestOf c ≡ request (quick m) room = ap (λ (a : Asked). request a room) f in
-    let ok : accepted t (request (quick m) room) ≡ true = subst (λ (q : Request). accepted t q ≡ true) fq (is-accepted c p e) in
-    let x : c .left ≡ served t (request (quick m) room) = left-is c p ∙ ap (served t) fq in
-    let rs : readsIn t (requestOf c) ≡ readsOf (uncut m) 0 (t .state) room = ap (readsIn t) fq ∙ quick-reads t m room ok in
-    record {
-      old-state = ap (λ (y : Terminal). y .state) x ∙ same-state t m room;
-      old-answer = p .answer-is ∙ ap (answerOf t) fq ∙ same-answer t m room;
-      old-printer = p .printer-is ∙ ap (λ (ys : List ℕ). written ys (c .buffer)) (ap (printedBy t) fq ∙ same-prints t m room);
-      each = λ n h. subst (λ (y : Terminal). PlaceAfter t y n) (sym x) (each-place t m room ok n h);
-      row-8 = λ n l h. subst (λ (y : Terminal). getD (y .shown) n 0 ≡ picture (y .state) n) (sym x) (row-8 t m room ok n l h);
-      alters = λ h n l z. ap (λ (y : Terminal). getD (y .shown) n 0) x ∙ alters t m room ok (subst (λ (l : List Read). Plain l (t .state)) rs h) n l (subst (λ (l : List Read). member n (placesIn l (t .state)) ≡ false) rs z);
-      as-old = λ h. x ∙ as-old t m room ok h;
-    }
 
 line-in : (c : Call) → Promised c → c .answer .number ≡ 0 → LineIs (c .given) c
 line-in c p e =

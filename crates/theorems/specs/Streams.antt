@@ -4,7 +4,7 @@ use mathlib.Core.Path.{_≡_}
 use Prim.Native.Nat.{ℕ, _≤_}
 use mathlib.Core.Bool.{Bool, false, _||_}
 use mathlib.Core.List.{List, [], _∷_, _++_}
-use lib.ListN.{length, take}
+use lib.ListN.{length}
 use lib.Dec.{eqb}
 use Rattle.model.specs.declared.Answer.{Answer}
 use Rattle.model.specs.declared.Item.{Item}
@@ -13,9 +13,9 @@ use Rattle.model.specs.Line.{limit, heldIn}
 use Rattle.model.specs.Picture.{painting}
 use Rattle.model.specs.Reading.{Read, uncut}
 use Rattle.model.specs.Items.{readsOf, eventsOf, applyAll, copies, blankAnswer, countedAll}
-use Rattle.calls.specs.Calls.{Terminal, message, piece, closing, Request, Call, requestOf, Promised, readsIn, served}
+use Rattle.calls.specs.Calls.{Terminal, message, piece, closing, Request, Call, requestOf, Promised, readsIn, served, partOf}
 use Rattle.calls.specs.Lists.{Made, Start, left, requests}
-use Rattle.calls.specs.Answers.{together}
+use Rattle.model.specs.Answers.{together}
 
 -- "a closed stream with no other accepted call between its own": calls of which those that are accepted are pieces and then one closing,
 -- and the bytes of these pieces, one behind the other. A call of any kind that is refused may stand between
@@ -33,10 +33,6 @@ readsOver t (q ∷ qs) = readsIn t q ++ readsOver (served t q) qs
 unfoldable pub summed : List Call → Answer
 summed [] = blankAnswer 0 0
 summed (c ∷ cs) = together (c .answer) (summed cs)
-
--- the bytes that a call printed: the first part of its buffer
-abbrev pub partOf : Call → List ℕ
-partOf c = take (c .answer .printed) (c .printer)
 
 -- "printer bytes", over its calls together
 unfoldable pub partsOf : List Call → List ℕ

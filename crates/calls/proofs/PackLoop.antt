@@ -14,19 +14,19 @@ use Rattle.model.specs.declared.Answer.{Answer}
 use Rattle.model.specs.Bytes.{joined, written}
 use Rattle.model.specs.Reading.{Read}
 use Rattle.model.specs.Records.{Record, bodyIn, lengthIn, recordIn, recordsAfter}
 use Rattle.calls.specs.Packs.{bodiesOf}
 use Rattle.model.specs.Items.{blankAnswer, countedAll}
 use Rattle.calls.specs.Calls.{Promised, Request, Terminal, accepted, answerOf, called, message, pack, packCalled, printedBy, readsBy, recordOf, request, served, takenBy}
 use Rattle.calls.specs.Lists.{oneByOne, stands}
-use Rattle.calls.specs.Answers.{together}
+use Rattle.model.specs.Answers.{together}
 use Rattle.model.proofs.Tests.{cond-at}
 use Rattle.calls.proofs.Printing.{printed-is, taken-is}
 use Rattle.calls.proofs.CallLaws.{accepted-answer, answer-number, left-is, number-accepted}
-use Rattle.calls.proofs.Sums.{joint, joint-refused, together-assoc}
-use Rattle.theorems.proofs.Flow.{answersOver, printedOver}
+use Rattle.model.proofs.AnswerLaws.{joint, joint-refused, together-assoc}
+use Rattle.calls.proofs.OverRequests.{answersOver, printedOver}
 use Rattle.calls.proofs.Bounds.{Bounded, bounded}
-use Rattle.theorems.proofs.Parts.{written-twice}
-use Rattle.theorems.proofs.OneByOne.{AllShort, Quiet, alsoShort, pack-answer, pack-prints, pack-quiet, pack-record, pack-short, pack-stands, quiet-accepted, quiet-left, refusedFrom}
+use Rattle.calls.proofs.PieceServings.{written-twice}
+use Rattle.calls.proofs.PackRequests.{AllShort, Quiet, alsoShort, pack-answer, pack-prints, pack-quiet, pack-record, pack-short, pack-stands, quiet-accepted, quiet-left, refusedFrom}
 
 -- the bodies are among the bytes of the pack, and no more than these
 within-after : (n : ℕ) (bs : List ℕ) → let ms = map (λ (r : Record). r .body) (recordsAfter n bs) in (length (joined ms) ≤ length bs - n) × (length ms ≤ length bs - n)

@@ -1,4 +1,4 @@
--- P10's claim (specs/Parameters): by induction over the checks, by a test and an equation of every row of the tables of sequences, and
+-- P10, of sequences and items (specs/Parameters): by induction over the checks, by a test and an equation of every row of the tables of sequences, and
 -- over the items that an answer counts.
 use mathlib.Core.Path.{_∙_, _≡_, ap, refl, subst, sym}
 use mathlib.Core.Logic.{⊎-elim}
@@ -10,30 +10,24 @@ use mathlib.Core.List.{List, [], _∷_, map}
 use lib.ListN.{drop, getD, length}
 use lib.Dec.{eqb, leb, ltb}
 use borrow.Author.Tests.{eq-eqb, eqb-true, leb-true, ne-eqb}
 use Rattle.model.specs.declared.Answer.{Answer}
 use Rattle.model.specs.declared.Limits.{Limits}
 use Rattle.model.specs.declared.Item.{Item}
 use Rattle.model.specs.declared.Item.the-variants.{Control, Printed, Refused, Sequence}
 use Rattle.model.specs.declared.Sequence.{Sequence as Seq}
 use Rattle.model.specs.declared.Sequence.the-variants.{Select}
 use Rattle.model.specs.Bytes.{listFrom}
 use Rattle.model.specs.Checks.{Check, firstBad, free, inRanges?, member, passes}
 use Rattle.model.specs.Sequences.{Row, codeOf, find, modeRowOf, modeRows, refusal, rowOf, rows}
 use Rattle.model.specs.State.{State}
 use Rattle.model.specs.Picture.{copySizeOf}
-use Rattle.model.specs.Reading.{Read, decoded, ended, itemOf, kindOf, uncut, unfinished?}
-use Rattle.calls.specs.Packs.{readsEach}
+use Rattle.model.specs.Reading.{Read, decoded, ended, itemOf, kindOf, unfinished?}
 use Rattle.model.specs.Judging.{allowed, badOf, fitting, judged, judgedRanges, legal?, limitsOf, ranges}
-use Rattle.model.specs.Items.{blankAnswer, counted, countedAll, obeyedBy, read, readsOf}
-use Rattle.calls.specs.Calls.{Request, Terminal, accepted, answerOf, numberOf, readsIn, requestOf, takenIn}
-use Rattle.calls.proofs.Printing.{reads-either}
-use Rattle.calls.proofs.Sums.{counted-append}
+use Rattle.model.specs.Items.{counted, countedAll, obeyedBy, read, readsOf}
 use Rattle.model.specs.Kept.{isRefusal}
-use Rattle.calls.specs.Lists.{stood}
-use Rattle.theorems.specs.Parameters.{FirstBad, FirstRefusal, Named, NamedItem, Naming, behind, here, none, sentAt, valuesOf}
+use Rattle.model.specs.Parameters.{FirstBad, FirstRefusal, Named, NamedItem, behind, here, none, sentAt, valuesOf}
 use Rattle.model.proofs.Tests.{by-test, cond-at, differ, elim-at}
 use Rattle.model.proofs.Gathering.{found}
-use Rattle.theorems.proofs.Theorem.{demand3}
 
 -- all pass exactly if none is found
 bad-none : (n : ℕ) (cs : List Check) → 1 ≤ n → inRanges? cs ≡ eqb (firstBad n cs) 0
@@ -95,7 +89,12 @@ item-named at bs =
     (λ e. found (λ r. named? (r .made p (at + 2))) (refusal 0 2 10 0) rows (getD bs 1 0) refl refl))
     (λ e. elim-at N (ltb (getD bs 0 0) 32) (Control (getD bs 0 0)) (Printed (getD bs 0 0)) (λ e. refl) (λ e. refl)))
 
-refused-first : (q : Seq) (s : Limits) → legal? q s ≡ false → FirstBad 1 (judgedRanges q s) (badOf q s)
+-- a sequence is legal exactly if it has no bad parameter
+pub legal-named : (q : Seq) (s : Limits) → legal? q s ≡ eqb (badOf q s) 0
+unfolding legal? badOf
+legal-named q s = bad-none 1 (judgedRanges q s) (omega arith)
+
+pub refused-first : (q : Seq) (s : Limits) → legal? q s ≡ false → FirstBad 1 (judgedRanges q s) (badOf q s)
 unfolding legal? badOf
 refused-first q s e = bad-first 1 (judgedRanges q s) e
 
@@ -109,7 +108,7 @@ judged-named (Sequence q) s room h =
     (λ e. record { eleven = λ f. refused-first q s e .low; another = λ f. absurd (f refl) })
 judged-named (Refused n p) s room h = h
 
-read-named : (at : ℕ) (bs : List ℕ) (s : Limits) (room : ℕ) → NamedItem (judged (itemOf at bs) s room)
+pub read-named : (at : ℕ) (bs : List ℕ) (s : Limits) (room : ℕ) → NamedItem (judged (itemOf at bs) s room)
 read-named at bs s room = judged-named (itemOf at bs) s room (true-named (itemOf at bs) (item-named at bs))
 
 -- what is equal in every row of a table, all rows at once, is equal in the one that is found
@@ -147,6 +146,11 @@ decoded-numbered at bs s =
     (λ e. found-equal f g (refusal 0 2 10 0) rows (getD bs 1 0) refl refl))
     (λ e. elim-at (Numbered p s) (ltb (getD bs 0 0) 32) (Control (getD bs 0 0)) (Printed (getD bs 0 0)) (λ e. refl) (λ e. refl))
 
+-- of a sequence that is read
+pub numbered : (at : ℕ) (bs : List ℕ) (q : Seq) (s : Limits) → decoded at bs ≡ Sequence q
+    → let p : ℕ → ℕ = λ n. getD bs (n + 1) 0 in valuesOf (sentAt (codeOf q) p) 1 (ranges q s) ≡ listFrom (sentAt (codeOf q) p) 1 (length (ranges q s))
+numbered at bs q s e = subst (Numbered (λ n. getD bs (n + 1) 0) s) e (decoded-numbered at bs s)
+
 -- counting hands on a number and its parameter together
 counted-named : (i : Item) (at n : ℕ) (a : Answer) → NamedItem i → Named (a .first) (a .parameter) → Named (counted i at n a .first) (counted i at n a .parameter)
 counted-named (Printed c) at n a h g = g
@@ -158,7 +162,7 @@ counted-named (Refused k p) at n a h g = go (eqb (a .refused) 0)
     go true = h
     go false = g
 
-all-named : (bss : List (List ℕ)) (at : ℕ) (st : State) (room : ℕ) (a : Answer) → Named (a .first) (a .parameter)
+pub all-named : (bss : List (List ℕ)) (at : ℕ) (st : State) (room : ℕ) (a : Answer) → Named (a .first) (a .parameter)
     → Named (countedAll (readsOf bss at st room) a .first) (countedAll (readsOf bss at st room) a .parameter)
 unfolding countedAll readsOf
 all-named [] at st room a g = g
@@ -167,24 +171,8 @@ all-named (bs ∷ bss) at st room a g =
     all-named bss (at + length bs) (obeyedBy r st) (room - r .prints) (counted (r .item) at (r .prints) a)
     (counted-named (r .item) at (r .prints) a (read-named at bs (limitsOf (st .settings)) room) g)
 
-none-named : Named 0 0
+pub none-named : Named 0 0
 none-named = record { eleven = λ e. absurd (omega arith); another = λ e. refl }
-
--- P6: of messages one after the other too
-each-named : (ms : List (List ℕ)) (st : State) (room : ℕ) (a : Answer) → Named (a .first) (a .parameter) → let b = countedAll (readsEach ms st room) a in Named (b .first) (b .parameter)
-unfolding countedAll readsEach
-each-named [] st room a g = g
-each-named (m ∷ ms) st room a g =
-    let rs : List Read = readsOf (uncut m) 0 st room in
-    subst (λ (b : Answer). Named (b .first) (b .parameter)) (sym (counted-append rs _ a)) (each-named ms _ _ (countedAll rs a) (all-named (uncut m) 0 st room a g))
-
-answer-named : (t : Terminal) (q : Request) → Named (answerOf t q .first) (answerOf t q .parameter)
-unfolding answerOf readsIn countedAll
-answer-named t q =
-    let none : Answer = blankAnswer (numberOf t q) (takenIn t q) in
-    let Names : List Read → Type 0 = λ rs. Named (countedAll rs none .first) (countedAll rs none .parameter) in
-    cond-at Names (accepted t q) _ []
-    (λ e. reads-either Names t q (λ ms. each-named ms (t .state) (q .room) none none-named) (λ bss at. all-named bss at (t .state) (q .room) none none-named)) (λ e. none-named)
 
 -- once an item is refused, what is first stays
 kept-first : (i : Item) (at n : ℕ) (a : Answer) → eqb (a .refused) 0 ≡ false
@@ -205,13 +193,13 @@ all-kept (r ∷ rs) a e =
     (z .0 ∙ k .1, z .1 ∙ k .2, z .2 ∙ k .3)
 
 -- an answer with nothing refused yet
-abbrev NoneYet : Answer → Type 0
+abbrev pub NoneYet : Answer → Type 0
 NoneYet a = (a .refused ≡ 0) × (a .first ≡ 0) × (a .parameter ≡ 0) × (a .offset ≡ 0)
 
-abbrev FirstIn : List Read → Answer → Type 0
+abbrev pub FirstIn : List Read → Answer → Type 0
 FirstIn rs a = FirstRefusal rs (a .first) (a .parameter) (a .offset)
 
-first-in : (rs : List Read) (a : Answer) → NoneYet a → FirstIn rs (countedAll rs a)
+pub first-in : (rs : List Read) (a : Answer) → NoneYet a → FirstIn rs (countedAll rs a)
 unfolding countedAll
 first-in [] a h = rw (h .1, h .2, h .3) none
 first-in (r ∷ rs) a h = go (r .item) refl (first-in rs)
@@ -225,15 +213,11 @@ first-in (r ∷ rs) a h = go (r .item) refl (first-in rs)
         let z = all-kept rs b (ne-eqb (b .refused) 0 (λ f. omega arith)) in
         rw (z .0, z .1, z .2, h .0) (here e)
 
-refused-by : (q : Seq) (s : Limits) (room : ℕ) → legal? q s ≡ false → judged (Sequence q) s room ≡ Refused 11 (badOf q s)
+pub refused-by : (q : Seq) (s : Limits) (room : ℕ) → legal? q s ≡ false → judged (Sequence q) s room ≡ Refused 11 (badOf q s)
 unfolding allowed fitting
 refused-by q s room e = ap (λ (b : Bool). fitting (s .mode) (cond b (Sequence q) (Refused 11 (badOf q s))) room) e
 
-answer-first : (t : Terminal) (q : Request) → FirstIn (readsIn t q) (answerOf t q)
-unfolding answerOf
-answer-first t q = first-in (readsIn t q) (blankAnswer (numberOf t q) (takenIn t q)) (refl, refl, refl, refl)
-
-mode-byte : (at : ℕ) (bs : List ℕ) → getD bs 0 0 ≡ 27 → getD bs 1 0 ≡ 208 → 3 < getD bs 2 0 → decoded at bs ≡ Refused 11 1
+pub mode-byte : (at : ℕ) (bs : List ℕ) → getD bs 0 0 ≡ 27 → getD bs 1 0 ≡ 208 → 3 < getD bs 2 0 → decoded at bs ≡ Refused 11 1
 unfolding decoded kindOf modeRowOf find
 mode-byte at bs e f l =
     let k = getD bs 2 0 in
@@ -243,16 +227,3 @@ mode-byte at bs e f l =
     (λ t. elim-at (λ r. r .made p (at + 2) ≡ Refused 11 1) (eqb (getD bs 1 0) 208) (modeRowOf k) (rowOf (getD bs 1 0))
     (λ t. rw (d 0 (omega arith), d 1 (omega arith), d 2 (omega arith), d 3 (omega arith))) (λ t. absurd (differ (sym (eq-eqb _ _ f) ∙ t))))
     (λ t. absurd (differ (sym (eq-eqb _ _ e) ∙ t)))
-
-pub naming : Naming
-unfolding legal? badOf
-naming =
-    record {
-      legal = λ q s. bad-none 1 (judgedRanges q s) (omega arith);
-      first = λ q s room e. (refused-by q s room e, refused-first q s e);
-      numbered = λ at bs q s e. subst (Numbered (λ n. getD bs (n + 1) 0) s) e (decoded-numbered at bs s);
-      mode-byte = mode-byte;
-      items = read-named;
-      passed-on = λ t cs made n c h. subst (FirstIn (readsIn (stood t cs n) (requestOf c))) (sym (demand3 t cs made .answers n c h)) (answer-first _ (requestOf c));
-      answers = λ t cs made n c h. subst (λ (a : Answer). Named (a .first) (a .parameter)) (sym (demand3 t cs made .answers n c h)) (answer-named _ (requestOf c));
-    }

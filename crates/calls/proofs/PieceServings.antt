@@ -18,16 +18,16 @@ use Rattle.model.specs.Line.{heldIn}
 use Rattle.model.specs.Reading.{Read, gathered, remaining, uncut}
 use Rattle.model.specs.Judging.{limitsOf}
 use Rattle.model.specs.Items.{applyAll, blankAnswer, copies, copyOf, counted, countedAll, eventsOf, happened, lined, obeyedBy, read, readsOf}
 use Rattle.calls.specs.Calls.{Terminal, accepted, answerOf, itemBytes, piece, printedBy, readsBy, request, served, startOf, takenBy}
 use Rattle.calls.specs.Claims.{countAfter, waitsAfter}
-use Rattle.calls.specs.Answers.{together}
+use Rattle.model.specs.Answers.{together}
 use Rattle.model.proofs.Gathering.{joined-uncut}
 use Rattle.model.proofs.Events.{applied-append}
 use Rattle.calls.proofs.Printing.{length-copy, prints-append}
 use Rattle.calls.proofs.CallLaws.{accepted-answer, accepted-prints}
 use Rattle.calls.proofs.LineAfter.{leaves-lined}
 use Rattle.calls.proofs.Offsets.{further, further-counts, further-effect, further-prints}
-use Rattle.calls.proofs.Sums.{joint}
+use Rattle.model.proofs.AnswerLaws.{joint}
 
 -- reading goes on where it stopped: from the next offset, from what stands then, in the room that is left
 pub reads-append : (xs ys : List (List ℕ)) (at : ℕ) (st : State) (room : ℕ) → let rs = readsOf xs at st room in

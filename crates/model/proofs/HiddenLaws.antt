@@ -1,43 +1,42 @@
--- P8, of the rules by themselves (specs/Blind): each step of a rule works out settings and dots from settings and dots alone, so each keeps what two states
+-- P8, of the rules by themselves (specs/Hidden): each step of a rule works out settings and dots from settings and dots alone, so each keeps what two states
 -- share; only 125 ends secret, and with secret on every place of the picture is blank.
 use mathlib.Core.Path.{_∙_, _≡_, ap, refl, sym}
 use Prim.Native.Nat.{_*_, _+_, _-_, max, min, ℕ}
 use native.Mathlib.Omega.{arith}
-use mathlib.Core.Bool.{Bool, _&&_, _||_, cond, false, not}
+use mathlib.Core.Bool.{Bool, _&&_, false}
 use mathlib.Core.List.{List, [], _∷_}
 use lib.ListN.{length, length-append, length-drop, length-replicate, length-take, replicate}
 use lib.Dec.{eqb, ltb}
 use borrow.Author.Tests.{eq-eqb}
 use Rattle.model.specs.declared.Place.{Place}
 use Rattle.model.specs.declared.Settings.{Settings}
 use Rattle.model.specs.declared.Sequence.{Sequence as Seq}
 use Rattle.model.specs.declared.Sequence.the-variants.{Arrows1, Arrows2, Arrows3, CapsOff, CapsOn, Charset, Clear, Copy, CursorKind, CursorOff, CursorOn, Display, DrawDot, DrawLine, EraseLine, EraseRest, InsOff, InsOn, LinesDown, LinesUp, Mark, Mode0, Mode1, Mode2, Mode3, Nothing, NumOff, NumOn, Pattern, PrintCode, Put, Repeat, RepeatDelay, RepeatInterval, SecretOff, SecretOn, Select, Shift, Step, StringsOff, StringsOn, Tracking, WindowBottom, WindowCursor, WindowDown, WindowTop, WindowUp}
 use Rattle.model.specs.declared.Item.{Item}
 use Rattle.model.specs.declared.Item.the-variants.{Control, Printed, Refused, Sequence}
 use Rattle.model.specs.Bytes.{blanked, onPart, put}
 use Rattle.model.specs.State.{State, home, putAt, state, topAt, waitAt, withTexts}
 use Rattle.model.specs.Screens.{columnsHere, columnsOf, height, here, linesHere, linesOf, placeOf, screens, textRows}
 use Rattle.model.specs.Marks.{endOf, markOf, marksDown, marksUp, runningOn, unmarkedFrom}
 use Rattle.model.specs.Checks.{inRanges?, range}
 use Rattle.model.specs.Line.{line?}
 use Rattle.model.specs.Sound.{arrayRanges, inside?, marks?, otherRanges, plainRanges, second?, shapeRanges, sound?}
 use Rattle.model.specs.Picture.{copied, copiedRows, dotCopy, picture, pictureAt, pictureCopy}
 use Rattle.model.specs.Sequences.{codeOf, idle?}
 use Rattle.model.specs.Dot.{twoBytes, withDot}
 use Rattle.model.specs.Strokes.{lined as stroke}
 use Rattle.model.specs.Judging.{limitsOf}
-use Rattle.model.specs.Rules.{applyItem, awaited, blankFrom, centred, cleared, control, displaying, dotsCleared, down, emptied, erased, flagged, held, keyLine, lifted, marksHere, missed, modeSet, nearest, obeyed, onLines, onward, placed, point, printed, remarked, right, runsOn, shifted, shownAt, stored, toColumn, topped, tracked, trackedFar, withCells, withDots, withKeys, withKindPatterns, withLayer, withSettings}
+use Rattle.model.specs.Rules.{applyItem, awaited, blankFrom, centred, cleared, control, displaying, dotsCleared, down, emptied, erased, flagged, held, keyLine, lifted, marksHere, missed, modeSet, nearest, obeyed, onLines, onward, placed, point, printed, remarked, right, runsOn, shifted, stored, toColumn, topped, tracked, trackedFar, withCells, withDots, withKeys, withKindPatterns, withLayer, withSettings}
 use Rattle.model.specs.Items.{lined, texted}
-use Rattle.calls.specs.Repaint.{lifts?, lowest?, placeBy, printLifts?, printPlace}
-use Rattle.calls.specs.Blind.{Blindness, Hidden, common, reveals, shared}
+use Rattle.model.specs.Hidden.{Hidden, common, reveals, shared}
 use Rattle.model.proofs.Tests.{cond₂, differ, elim-at}
 
 -- what stands without the bytes of cells and layer
 abbrev bare : State → State
 bare st = state (st .settings) [] [] (st .dots)
 
 -- what is worked out from what is shared
-of : {A : Type 0} {a b : State} (f : State → A) → Hidden a b → f (common a) ≡ f (common b)
+pub of : {A : Type 0} {a b : State} (f : State → A) → Hidden a b → f (common a) ≡ f (common b)
 of f h = λ i. f (h .same i)
 
 -- the steps that touch settings or stores
@@ -97,7 +96,7 @@ hidden-right h =
     cond₂ Hidden _ _ _ _ _ _ (of (λ (x : State). ltb (here x .column) (columnsHere x)) h) (λ e. hidden-column _ _ (of (λ (x : State). here x .column + 1) h) h)
     (λ e. cond₂ Hidden _ _ _ _ _ _ (of (λ (x : State). eqb (x .settings .rule) 2) h) (λ f. hidden-placed _ _ h (of (λ (x : State). waitAt (here x)) h)) (λ f. hidden-onward h))
 
-hidden-awaited : {a b : State} → Hidden a b → Hidden (awaited a) (awaited b)
+pub hidden-awaited : {a b : State} → Hidden a b → Hidden (awaited a) (awaited b)
 unfolding awaited placeOf
 hidden-awaited h = cond₂ Hidden _ _ _ _ _ _ (of (λ (x : State). eqb (here x .waiting) 1) h) (λ e. hidden-onward h) (λ e. h)
 
@@ -119,7 +118,7 @@ unfolding trackedFar centred held missed height linesOf placeOf textRows
 hidden-trackedFar h = cond₂ Hidden _ _ _ _ _ _ (of (λ (x : State). eqb (x .settings .tracking) 1 && missed x) h) (λ e. hidden-topped _ _ (of centred h) h) (λ e. h)
 
 -- printing, whatever the two bytes
-hidden-printed : {a b : State} (c d : ℕ) → Hidden a b → Hidden (printed c a) (printed d b)
+pub hidden-printed : {a b : State} (c d : ℕ) → Hidden a b → Hidden (printed c a) (printed d b)
 unfolding printed
 hidden-printed c d h = hidden-tracked (hidden-right (hidden-stored c d (hidden-awaited h)))
 
@@ -203,7 +202,7 @@ hidden-obeyed m Nothing v h = h
 hidden-obeyed m (Shift n) v h = record { same = of (λ (st : State). bare (obeyed m (Shift n) st)) h; on = h .on }
 
 -- an item, with the same bytes; what is idle in a mode is idle on both sides
-hidden-item : (m : ℕ → ℕ) (i : Item) {a b : State} → reveals i ≡ false → Hidden a b → Hidden (applyItem m i a) (applyItem m i b)
+pub hidden-item : (m : ℕ → ℕ) (i : Item) {a b : State} → reveals i ≡ false → Hidden a b → Hidden (applyItem m i a) (applyItem m i b)
 unfolding applyItem
 hidden-item m (Printed c) v h = hidden-printed c c h
 hidden-item m (Control c) v h = hidden-control c h
@@ -211,7 +210,7 @@ hidden-item m (Sequence q) v h = cond₂ Hidden _ _ _ _ _ _ (of (λ (x : State).
 hidden-item m (Refused x p) v h = h
 
 -- a line that is left, and a key's text: as many codes as before, whatever they are
-hidden-lined : {a b : State} (w : List ℕ) (n : ℕ) → Hidden a b → Hidden (lined w n a) (lined w n b)
+pub hidden-lined : {a b : State} (w : List ℕ) (n : ℕ) → Hidden a b → Hidden (lined w n a) (lined w n b)
 unfolding lined withSettings
 hidden-lined w n h = record { same = λ i. bare (lined w n (h .same i)); on = h .on }
 
@@ -224,7 +223,7 @@ unfolding blanked
 long-texts {a} {b} h =
     sym (length-replicate {A = ℕ} (length (a .settings .texts)) 32) ∙ of (λ (x : State). length (x .settings .texts)) h ∙ length-replicate {A = ℕ} (length (b .settings .texts)) 32
 
-hidden-texted : {a b : State} (k : ℕ) (x y : List ℕ) → length x ≡ length y → Hidden a b → Hidden (texted k x a) (texted k y b)
+pub hidden-texted : {a b : State} (k : ℕ) (x y : List ℕ) → length x ≡ length y → Hidden a b → Hidden (texted k x a) (texted k y b)
 unfolding texted withSettings blanked
 hidden-texted {a} {b} k x y e h =
     let n : ℕ = (k - 1) * 8 in
@@ -241,62 +240,24 @@ sound-shared s =
     && (inRanges? (otherRanges (screens s) (s .selected) (s .step) (height s)) && (inRanges? (plainRanges s)
     && (inside? s 0 && (second? s && (line? (s .waiting) (s .held) (s .count) && (marks? s 0 && marks? s 1)))))))) (length-replicate {A = ℕ} (length (s .texts)) 32)
 
+pub same-sound : {a b : State} → Hidden a b → sound? (a .settings) ≡ sound? (b .settings)
+same-sound {a} {b} h = sym (sound-shared (a .settings)) ∙ of (λ (x : State). sound? (x .settings)) h ∙ sound-shared (b .settings)
+
 -- in secret mode every place shows 32
 blank-place : (a : State) → a .settings .secret ≡ 1 → (p : ℕ) → picture a p ≡ 32
 unfolding picture pictureAt
 blank-place a on p = elim-at (λ (x : ℕ). x ≡ 32) (eqb (a .settings .secret) 1) _ _ (λ e. refl) (λ e. absurd (differ (sym (eq-eqb _ 1 on) ∙ e)))
 
-same-picture : {a b : State} → Hidden a b → picture a ≡ picture b
+pub same-picture : {a b : State} → Hidden a b → picture a ≡ picture b
 same-picture {a} {b} h = λ i p. (blank-place a (h .on) p ∙ sym (blank-place b (sym (of (λ (x : State). x .settings .secret) h) ∙ h .on) p)) i
 
 -- a copy is of the picture; P11: in mode 3 of the dots
-same-copied : {a b : State} → Hidden a b → copied a ≡ copied b
+pub same-copied : {a b : State} → Hidden a b → copied a ≡ copied b
 unfolding copied pictureCopy dotCopy
 same-copied h =
     cond₂ _≡_ _ _ _ _ _ _ (of (λ (x : State). eqb (x .settings .mode) 3) h) (λ e. of dotCopy h) (λ e. λ i. copiedRows (same-picture h i) 0 8)
 
--- P12: which places are painted
-same-lowest : {a b : State} → Hidden a b → lowest? a ≡ lowest? b
-unfolding lowest? linesOf placeOf
-same-lowest h = of lowest? h
-
-same-print-lifts : {a b : State} → Hidden a b → printLifts? a ≡ printLifts? b
-unfolding printLifts? columnsOf placeOf
-same-print-lifts h =
-    let z = hidden-awaited h in
-    λ i. (of (λ (x : State). eqb (here x .waiting) 1) h i && same-lowest h i)
-    || (of (λ (x : State). not (ltb (here x .column) (columnsHere x))) z i && (of (λ (x : State). not (eqb (x .settings .rule) 2)) z i && same-lowest z i))
-
-same-lifts : (i : Item) {a b : State} → Hidden a b → lifts? i a ≡ lifts? i b
-unfolding lifts?
-same-lifts (Printed c) h = same-print-lifts h
-same-lifts (Control c) h = ap (λ (t : Bool). eqb c 10 && t) (same-lowest h)
-same-lifts (Sequence q) h = ap (λ (t : Bool). eqb (codeOf q) 37 && t) (same-print-lifts h)
-same-lifts (Refused n p) h = refl
-
-same-print-place : {a b : State} → Hidden a b → printPlace a ≡ printPlace b
-unfolding printPlace shownAt placeOf textRows
-same-print-place h = of (λ (x : State). shownAt (x .settings) (here x .line) (here x .column)) (hidden-awaited h)
-
-same-places : (i : Item) {a b : State} → Hidden a b → placeBy i a ≡ placeBy i b
-unfolding placeBy
-same-places (Printed c) h = same-print-place h
-same-places (Control c) h = refl
-same-places (Sequence q) h = ap (λ (p : ℕ). cond (eqb (codeOf q) 37) p 640) (same-print-place h)
-same-places (Refused n p) h = refl
-
-pub blind : Blindness
+-- and what parameters are judged by
+pub same-limits : {a b : State} → Hidden a b → limitsOf (a .settings) ≡ limitsOf (b .settings)
 unfolding linesOf columnsOf placeOf height textRows
-blind a b h = record {
-  items = λ m i v. hidden-item m i v h;
-  characters = λ c d. hidden-printed c d h;
-  lines = λ w n. hidden-lined w n h;
-  texts = λ k x y e. hidden-texted k x y e h;
-  limits = of (λ (x : State). limitsOf (x .settings)) h;
-  sound = sym (sound-shared (a .settings)) ∙ of (λ (x : State). sound? (x .settings)) h ∙ sound-shared (b .settings);
-  pictures = same-picture h;
-  copies = same-copied h;
-  lifts = λ i. same-lifts i h;
-  places = λ i. same-places i h;
-  top = of (λ (x : State). here x .top) h;
-}
+same-limits h = of (λ (x : State). limitsOf (x .settings)) h

@@ -7,12 +7,12 @@ use mathlib.Core.Bool.{cond, false}
 use mathlib.Core.List.{List, [], _++_, _∷_}
 use lib.Dec.{eqb}
 use borrow.Author.Tests.{ne-eqb}
 use Rattle.model.specs.declared.Answer.{Answer}
 use Rattle.model.specs.declared.Item.{Item}
 use Rattle.model.specs.declared.Item.the-variants.{Control, Printed, Refused, Sequence}
 use Rattle.model.specs.Reading.{Read}
 use Rattle.model.specs.Items.{blankAnswer, counted, countedAll}
-use Rattle.calls.specs.Answers.{together}
+use Rattle.model.specs.Answers.{together}
 
 first-of : (r s n x y : ℕ) → cond (eqb r 0) (cond (eqb s 0) n y) x ≡ cond (eqb (r + s) 0) n (cond (eqb r 0) y x)
 first-of zero s n x y = rw zero-add

@@ -1,5 +1,5 @@
--- Quick forms of what the tables of examples ask: calls whose acceptance is asked once, where the definition asks it for each part of what a call gives, and the
--- painting of ByRows in the crate `calls`. That they are the definitions is proved in QuickLaws; here stands what Worked computes.
+-- The forms by which the tables of examples are computed: calls whose acceptance is asked once, where the definition asks it for each part of what a call gives, and the
+-- painting of ByRows in the crate `calls`. That they are the definitions is proved in ComputingLaws; here stands what Worked computes.
 use Prim.Native.Nat.{ℕ}
 use mathlib.Core.Bool.{Bool, true, false, cond}
 use mathlib.Core.List.{List, [], _∷_}
@@ -31,25 +31,25 @@ unfoldable pub refusedRight : List Fact → Terminal → Request → Bool
 refusedRight fs t q = allHold fs t (blankAnswer (numberOf t q) 0) []
 
 -- an example: the opening accepts every message that is not too long
-unfoldable pub quickRight : Example → Bool
-quickRight e =
+unfoldable pub computedRight : Example → Bool
+computedRight e =
     let q : Request = request (message (e .sent)) (e .room) in
     elim (short (e .sent)) [ true ↦ servedRight (e .facts) (openedTerminal 1) q | false ↦ refusedRight (e .facts) (openedTerminal 1) q ]
 
-unfoldable pub allQuick : List Example → Bool
-allQuick [] = true
-allQuick (e ∷ es) = elim (quickRight e) [ true ↦ allQuick es | false ↦ false ]
+unfoldable pub allComputed : List Example → Bool
+allComputed [] = true
+allComputed (e ∷ es) = elim (computedRight e) [ true ↦ allComputed es | false ↦ false ]
 
 -- calls one after the other
-unfoldable pub quickTurns : Terminal → List Turn → Bool
-quickTurns t [] = true
-quickTurns t (x ∷ xs) =
+unfoldable pub computedTurns : Terminal → List Turn → Bool
+computedTurns t [] = true
+computedTurns t (x ∷ xs) =
     let q : Request = request (x .asked) (x .room) in
     elim (accepted t q) [
-      | true ↦ elim (servedRight (x .facts) t q) [ true ↦ quickTurns (left t q) xs | false ↦ false ]
-      | false ↦ elim (refusedRight (x .facts) t q) [ true ↦ quickTurns t xs | false ↦ false ]
+      | true ↦ elim (servedRight (x .facts) t q) [ true ↦ computedTurns (left t q) xs | false ↦ false ]
+      | false ↦ elim (refusedRight (x .facts) t q) [ true ↦ computedTurns t xs | false ↦ false ]
     ]
 
-unfoldable pub quickRuns : List Run → Bool
-quickRuns [] = true
-quickRuns (r ∷ rs) = elim (quickTurns (terminal (r .given) (replicate 3840 32) (replicate 1280 0) (replicate 3840 0) (replicate 640 32)) (r .turns)) [ true ↦ quickRuns rs | false ↦ false ]
+unfoldable pub computedRuns : List Run → Bool
+computedRuns [] = true
+computedRuns (r ∷ rs) = elim (computedTurns (terminal (r .given) (replicate 3840 32) (replicate 1280 0) (replicate 3840 0) (replicate 640 32)) (r .turns)) [ true ↦ computedRuns rs | false ↦ false ]

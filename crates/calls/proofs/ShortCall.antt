@@ -1,11 +1,11 @@
--- P12: an accepted short message is the message but for the shown screen; and what it leaves of the places, from `untouched` (Repainting).
+-- P12: an accepted short message is the message but for the shown screen; and what it leaves of the places, from `untouched` (Repainting). So one that keeps its promise is all that `Quick` says.
 use mathlib.Core.Path.{_∙_, _≡_, ap, refl, subst, sym}
 use Prim.Native.Nat.{_%_, _*_, _+_, _-_, _/_, _<_, _≤_, ℕ}
 use native.Mathlib.Nat.{zero-add}
 use native.Mathlib.Omega.{arith}
 use mathlib.Core.Bool.{Bool, _||_, cond, false, not, true}
 use mathlib.Core.List.{List, [], _∷_, append-nil}
-use lib.ListN.{getD}
+use lib.ListN.{getD, length}
 use lib.Dec.{eqb, leb}
 use borrow.Author.Tests.{eq-eqb, eqb-true, le-leb, leb-false, leb-true, lt-leb, lt-ltb}
 use Rattle.model.specs.declared.Item.{Item}
@@ -19,15 +19,16 @@ use Rattle.model.specs.Reading.{Read, byteOf, uncut}
 use Rattle.model.specs.Rules.{applyItem}
 use Rattle.model.specs.Items.{Event, applyAll, eventsOf, happened, obeyedBy, readsOf}
 use Rattle.calls.specs.Repaint.{calm?, movesTop?, painted?, placesIn, repainted, wide?, wideIn}
-use Rattle.calls.specs.Calls.{Request, Terminal, accepted, answerOf, besideItems, eventsBy, eventsIn, itemBytes, message, numberOf, printedBy, quick, readsBy, readsIn, reasons, request, served, startOf, takenBy, takenIn}
-use Rattle.calls.specs.Claims.{Plain, PlaceAfter, ShownIn, aboveRow8, painted, plainItem?, unaltered}
+use Rattle.calls.specs.Calls.{Request, Terminal, accepted, answerOf, besideItems, eventsBy, eventsIn, itemBytes, message, numberOf, printedBy, quick, readsBy, readsIn, reasons, request, served, startOf, takenBy, takenIn, Asked, Call, Promised, requestOf}
+use Rattle.calls.specs.Claims.{Plain, PlaceAfter, ShownIn, aboveRow8, painted, plainItem?, unaltered, Quick}
 use Rattle.model.proofs.Tests.{differ}
 use Rattle.model.proofs.ByteLaws.{getD-listFrom, same-listFrom}
 use Rattle.model.proofs.Steps.{kept-control, kept-printed}
 use Rattle.model.proofs.ItemLaws.{obeyed-item}
 use Rattle.model.proofs.Events.{AllLegal, legal-reads}
-use Rattle.calls.proofs.CallLaws.{accepted-leaves, accepted-painted, accepted-quick, accepted-sound, after, sizes}
+use Rattle.calls.proofs.CallLaws.{accepted-leaves, accepted-painted, accepted-quick, accepted-sound, after, sizes, left-is, is-accepted}
 use Rattle.calls.proofs.Repainting.{untouched}
+use Rattle.model.specs.Bytes.{written}
 
 -- a place by its number
 pub was-true : (t : Terminal) → ShownIn aboveRow8 t → (p : ℕ) → p < 560 → getD (t .shown) p 0 ≡ picture (t .state) p
@@ -181,3 +182,22 @@ module _ (t : Terminal) (m : List ℕ) (room : ℕ) where
 
         last : served t old .shown ≡ painting (served t old .state)
         last = subst (λ (x : Terminal). x .shown ≡ painting (x .state)) (sym (accepted-painted t old (sym same-accepted ∙ e) refl)) refl
+
+-- so a short message that kept its promise
+pub quick-in : (c : Call) → Promised c → c .answer .number ≡ 0 → (m : List ℕ) → c .asked ≡ quick m → Quick c m
+quick-in c p e m f =
+    let t : Terminal = c .given in
+    let room : ℕ = length (c .buffer) in
+    let fq : requestOf c ≡ request (quick m) room = ap (λ (a : Asked). request a room) f in
+    let ok : accepted t (request (quick m) room) ≡ true = subst (λ (q : Request). accepted t q ≡ true) fq (is-accepted c p e) in
+    let x : c .left ≡ served t (request (quick m) room) = left-is c p ∙ ap (served t) fq in
+    let rs : readsIn t (requestOf c) ≡ readsOf (uncut m) 0 (t .state) room = ap (readsIn t) fq ∙ quick-reads t m room ok in
+    record {
+      old-state = ap (λ (y : Terminal). y .state) x ∙ same-state t m room;
+      old-answer = p .answer-is ∙ ap (answerOf t) fq ∙ same-answer t m room;
+      old-printer = p .printer-is ∙ ap (λ (ys : List ℕ). written ys (c .buffer)) (ap (printedBy t) fq ∙ same-prints t m room);
+      each = λ n h. subst (λ (y : Terminal). PlaceAfter t y n) (sym x) (each-place t m room ok n h);
+      row-8 = λ n l h. subst (λ (y : Terminal). getD (y .shown) n 0 ≡ picture (y .state) n) (sym x) (row-8 t m room ok n l h);
+      alters = λ h n l z. ap (λ (y : Terminal). getD (y .shown) n 0) x ∙ alters t m room ok (subst (λ (l : List Read). Plain l (t .state)) rs h) n l (subst (λ (l : List Read). member n (placesIn l (t .state)) ≡ false) rs z);
+      as-old = λ h. x ∙ as-old t m room ok h;
+    }

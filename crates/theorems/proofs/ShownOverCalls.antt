@@ -22,7 +22,7 @@ use Rattle.model.proofs.Keep.{rows-low}
 use Rattle.model.proofs.Places.{under-text}
 use Rattle.calls.proofs.CallLaws.{refused-leaves, shown-accepted}
 use Rattle.calls.proofs.LineAfter.{leaves-none, leaves-texted}
-use Rattle.calls.proofs.QuickCall.{as-old, row-8, same-accepted, true-place}
+use Rattle.calls.proofs.ShortCall.{as-old, row-8, same-accepted, true-place}
 
 -- a key's text is not seen above row 8
 text-texted : (k : ℕ) (x : List ℕ) (st : State) (r c : ℕ) → textAt (texted k x st) r c ≡ textAt st r c

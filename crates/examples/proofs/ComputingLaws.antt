@@ -1,4 +1,4 @@
--- The quick forms are the definitions: what an accepted call gives and what a refused one gives (CallLaws), the painting by rows (PaintLaws).
+-- The forms of Computing are the definitions: what an accepted call gives and what a refused one gives (CallLaws), the painting by rows (PaintLaws).
 use mathlib.Core.Path.{_∙_, _≡_, ap, refl}
 use Prim.Native.Nat.{ℕ}
 use mathlib.Core.Bool.{Bool, _&&_, cond, false, true}
@@ -15,7 +15,7 @@ use Rattle.examples.specs.Runs.{Run, Turn, allRun, turnsHold}
 use Rattle.model.proofs.Tests.{by-test, elim-at}
 use Rattle.calls.proofs.PaintLaws.{painted-by-rows}
 use Rattle.calls.proofs.CallLaws.{accepted-answer, accepted-leaves, accepted-prints, after, refused-answer, refused-leaves, refused-prints, resumed-opened, sized-good, sound-good}
-use Rattle.examples.proofs.Quickly.{allQuick, answered, copiedBy, left, quickRight, quickRuns, quickTurns, refusedRight, servedRight}
+use Rattle.examples.proofs.Computing.{allComputed, answered, copiedBy, left, computedRight, computedRuns, computedTurns, refusedRight, servedRight}
 
 -- a call
 module _ (t : Terminal) (q : Request) where
@@ -40,29 +40,29 @@ opened-accepts m room =
     (λ i. sized-good (openedTerminal 1) g (r .shown-is) i && (short m && (sound-good (openedTerminal 1) g i && (true && true))))
     ∙ by-test (λ (b : Bool). (b && true) ≡ b) (short m) refl refl
 
-quick-right : (e : Example) → isRight e ≡ quickRight e
-unfolding isRight quickRight
-quick-right e =
+computed-right : (e : Example) → isRight e ≡ computedRight e
+unfolding isRight computedRight
+computed-right e =
     let q : Request = request (message (e .sent)) (e .room) in
     elim-at (λ (b : Bool). isRight e ≡ b) (short (e .sent)) _ _
     (λ s. accepted-right (openedTerminal 1) q (e .facts) (opened-accepts (e .sent) (e .room) ∙ s)) (λ s. refused-right (openedTerminal 1) q (e .facts) (opened-accepts (e .sent) (e .room) ∙ s))
 
-pub all-quick : (es : List Example) → allRight es ≡ allQuick es
-unfolding allRight allQuick
-all-quick [] = refl
-all-quick (e ∷ es) = λ i. elim (quick-right e i) [ true ↦ all-quick es i | false ↦ false ]
+pub all-computed : (es : List Example) → allRight es ≡ allComputed es
+unfolding allRight allComputed
+all-computed [] = refl
+all-computed (e ∷ es) = λ i. elim (computed-right e i) [ true ↦ all-computed es i | false ↦ false ]
 
 -- calls one after the other
-quick-turns : (t : Terminal) (xs : List Turn) → turnsHold t xs ≡ quickTurns t xs
-unfolding turnsHold quickTurns
-quick-turns t [] = refl
-quick-turns t (x ∷ xs) =
+computed-turns : (t : Terminal) (xs : List Turn) → turnsHold t xs ≡ computedTurns t xs
+unfolding turnsHold computedTurns
+computed-turns t [] = refl
+computed-turns t (x ∷ xs) =
     let q : Request = request (x .asked) (x .room) in
     elim-at (λ (b : Bool). turnsHold t (x ∷ xs) ≡ b) (accepted t q) _ _
-    (λ e. (λ i. elim (accepted-right t q (x .facts) e i) [ true ↦ turnsHold (accepted-left t q e i) xs | false ↦ false ]) ∙ ap (λ (b : Bool). elim (servedRight (x .facts) t q) [ true ↦ b | false ↦ false ]) (quick-turns (left t q) xs))
-    (λ e. (λ i. elim (refused-right t q (x .facts) e i) [ true ↦ turnsHold (refused-leaves t q e i) xs | false ↦ false ]) ∙ ap (λ (b : Bool). elim (refusedRight (x .facts) t q) [ true ↦ b | false ↦ false ]) (quick-turns t xs))
+    (λ e. (λ i. elim (accepted-right t q (x .facts) e i) [ true ↦ turnsHold (accepted-left t q e i) xs | false ↦ false ]) ∙ ap (λ (b : Bool). elim (servedRight (x .facts) t q) [ true ↦ b | false ↦ false ]) (computed-turns (left t q) xs))
+    (λ e. (λ i. elim (refused-right t q (x .facts) e i) [ true ↦ turnsHold (refused-leaves t q e i) xs | false ↦ false ]) ∙ ap (λ (b : Bool). elim (refusedRight (x .facts) t q) [ true ↦ b | false ↦ false ]) (computed-turns t xs))
 
-pub quick-runs : (rs : List Run) → allRun rs ≡ quickRuns rs
-unfolding allRun quickRuns
-quick-runs [] = refl
-quick-runs (r ∷ rs) = λ i. elim (quick-turns (terminal (r .given) (replicate 3840 32) (replicate 1280 0) (replicate 3840 0) (replicate 640 32)) (r .turns) i) [ true ↦ quick-runs rs i | false ↦ false ]
+pub computed-runs : (rs : List Run) → allRun rs ≡ computedRuns rs
+unfolding allRun computedRuns
+computed-runs [] = refl
+computed-runs (r ∷ rs) = λ i. elim (computed-turns (terminal (r .given) (replicate 3840 32) (replicate 1280 0) (replicate 3840 0) (replicate 640 32)) (r .turns) i) [ true ↦ computed-runs rs i | false ↦ false ]

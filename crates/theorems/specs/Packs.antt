@@ -9,9 +9,9 @@ use lib.ListN.{length}
 use lib.Dec.{eqb}
 use Rattle.model.specs.Bytes.{written}
 use Rattle.calls.specs.Packs.{bodiesOf}
-use Rattle.calls.specs.Calls.{Terminal, message, pack, packed?, Call, requestOf, Promised, eventsIn}
+use Rattle.calls.specs.Calls.{Terminal, message, pack, packed?, Call, requestOf, Promised, eventsIn, partOf}
 use Rattle.calls.specs.Lists.{Made, left, requests, Nth, eventsOver}
-use Rattle.theorems.specs.Stream.{summed, partOf, partsOf}
+use Rattle.theorems.specs.Streams.{summed, partsOf}
 
 -- message calls on some bodies, one by one, "each having the room left over"
 pub data Sent : ℕ → List (List ℕ) → List Call → Type 0 where

@@ -1,9 +1,9 @@
 -- P6: an accepted pack does what its messages do, sent one by one in the room left over: the same happens, the same stands, is printed and answered, and the
--- first refusal is in the same record. So a list of calls, with each pack replaced by its messages, does the same.
+-- first refusal is in the same record.
 use mathlib.Core.Path.{_∙_, _≡_, ap, refl, subst, sym}
 use Prim.Native.Nat.{_+_, _-_, _≤_, ℕ}
-use mathlib.Core.Bool.{Bool, _&&_, cond, false, true}
-use mathlib.Core.List.{List, [], _++_, _∷_, append-assoc, append-nil, map}
+use mathlib.Core.Bool.{Bool, _&&_, cond, true}
+use mathlib.Core.List.{List, [], _++_, _∷_, append-nil, map}
 use lib.ListN.{length, length-append}
 use lib.Dec.{eqb}
 use borrow.Author.Tests.{leb-true}
@@ -13,51 +13,17 @@ use Rattle.model.specs.Sound.{Good}
 use Rattle.model.specs.Picture.{painting}
 use Rattle.model.specs.Reading.{Read, uncut}
 use Rattle.model.specs.Records.{Record, all?, recordsOf}
 use Rattle.calls.specs.Packs.{bodiesOf, readsEach, recordFrom, some?}
 use Rattle.model.specs.Items.{Event, applyAll, blankAnswer, copies, countedAll, eventsOf, readsOf}
-use Rattle.calls.specs.Calls.{Asked, Request, Terminal, accepted, answerOf, besideItems, closing, eventsBy, eventsIn, itemBytes, keyText, message, numberOf, pack, packed?, packedBy, piece, printedBy, quick, readsBy, recordOf, request, served, short, shortIn, startOf, takenBy}
-use Rattle.calls.specs.Lists.{eventsOver, oneByOne, stands, standsFor, unpacked}
-use Rattle.calls.specs.Answers.{together}
-use Rattle.model.proofs.Tests.{and-left, and-right, cond-at}
-use Rattle.model.proofs.Events.{apply-append, events-append, good-all}
-use Rattle.calls.proofs.Printing.{copies-append}
-use Rattle.calls.proofs.CallLaws.{accepted-answer, accepted-pack, accepted-painted, accepted-sound, legal-in, message-accepted, refused-answer, refused-leaves, sized-good, sized-served, sizes, state-served}
+use Rattle.calls.specs.Calls.{Request, Terminal, accepted, answerOf, besideItems, eventsBy, eventsIn, itemBytes, message, pack, printedBy, readsBy, recordOf, request, served, short, shortIn, startOf, takenBy}
+use Rattle.calls.specs.Lists.{eventsOver, oneByOne, stands}
+use Rattle.model.specs.Answers.{together}
+use Rattle.model.proofs.Tests.{and-left, and-right}
+use Rattle.model.proofs.Events.{events-append, good-all}
+use Rattle.calls.proofs.CallLaws.{accepted-answer, accepted-pack, accepted-painted, accepted-sound, legal-in, message-accepted, sized-good, sized-served, sizes, state-served}
 use Rattle.calls.proofs.LineAfter.{leaves-none, quiet-served}
-use Rattle.calls.proofs.Sums.{joint, joint-refused, together-assoc}
-use Rattle.theorems.proofs.Flow.{answersOver, printedOver}
-
--- what stands after a list is what its events made
-pub state-stands : (t : Terminal) (qs : List Request) → stands t qs .state ≡ applyAll (eventsOver t qs) (t .state)
-unfolding stands eventsOver applyAll
-state-stands t [] = refl
-state-stands t (q ∷ qs) =
-    state-stands (served t q) qs ∙ ap (applyAll (eventsOver (served t q) qs)) (state-served t q) ∙ sym (apply-append (eventsIn t q) (eventsOver (served t q) qs) (t .state))
-
--- and what it prints is what they print
-pub prints-over : (t : Terminal) (qs : List Request) → printedOver t qs ≡ copies (eventsOver t qs) (t .state)
-unfolding printedOver eventsOver copies printedBy
-prints-over t [] = refl
-prints-over t (q ∷ qs) =
-    ap (λ (l : List ℕ). printedBy t q ++ l) (prints-over (served t q) qs ∙ ap (copies (eventsOver (served t q) qs)) (state-served t q))
-    ∙ sym (copies-append (eventsIn t q) (eventsOver (served t q) qs) (t .state))
-
--- a list behind a list
-pub stands-append : (t : Terminal) (xs ys : List Request) → stands t (xs ++ ys) ≡ stands (stands t xs) ys
-unfolding stands
-stands-append t [] ys = refl
-stands-append t (x ∷ xs) ys = stands-append (served t x) xs ys
-
-events-over : (t : Terminal) (xs ys : List Request) → eventsOver t (xs ++ ys) ≡ eventsOver t xs ++ eventsOver (stands t xs) ys
-unfolding stands eventsOver
-events-over t [] ys = refl
-events-over t (x ∷ xs) ys =
-    ap (λ (l : List Event). eventsIn t x ++ l) (events-over (served t x) xs ys) ∙ sym (append-assoc (eventsIn t x) (eventsOver (served t x) xs) (eventsOver (stands (served t x) xs) ys))
-
-answers-over : (t : Terminal) (xs ys : List Request) → answersOver t (xs ++ ys) ≡ together (answersOver t xs) (answersOver (stands t xs) ys)
-unfolding stands answersOver
-answers-over t [] ys = sym (joint-refused 0 (answersOver t ys))
-answers-over t (x ∷ xs) ys =
-    ap (together (answerOf t x)) (answers-over (served t x) xs ys) ∙ together-assoc (answerOf t x) (answersOver (served t x) xs) (answersOver (stands (served t x) xs) ys)
+use Rattle.model.proofs.AnswerLaws.{joint}
+use Rattle.calls.proofs.OverRequests.{answersOver, printedOver, prints-over, state-stands}
 
 -- messages that are short
 pub data AllShort : List (List ℕ) → Type 0 where
@@ -202,73 +168,3 @@ module _ (t : Terminal) (p : List ℕ) (room : ℕ) (e : accepted t (request (pa
           let painted : served t asked .shown ≡ painting (served t asked .state) = subst (λ (x : Terminal). x .shown ≡ painting (x .state)) (sym (accepted-painted t asked e (ap some? n))) refl in
           let also : stands t sent .shown ≡ painting (stands t sent .state) = subst (λ (ns : List (List ℕ)). let x = stands t (oneByOne t ns room) in x .shown ≡ painting (x .state)) (sym n) (shown-each f t pack-quiet room) in
           λ i. record { state = made i; shown = (painted ∙ ap painting made ∙ sym also) i }
-
--- requests that do what one does, together
-record Alike (t : Terminal) (q : Request) (qs : List Request) : Type 0 where
-  same-left : stands t qs ≡ served t q
-  same-events : eventsOver t qs ≡ eventsIn t q
-  same-answers : (b : Answer) → together (answersOver t qs) b ≡ together (answerOf t q) b
-
-module _ (t : Terminal) where
-  -- it itself
-  alike-itself : (q : Request) → Alike t q (q ∷ [])
-  unfolding stands eventsOver answersOver
-  alike-itself q = record {
-    same-left = refl;
-    same-events = append-nil (eventsIn t q);
-    same-answers = λ b. sym (together-assoc (answerOf t q) (blankAnswer 0 0) b) ∙ ap (together (answerOf t q)) (joint-refused 0 b);
-  }
-
-  -- none, where it is refused
-  alike-none : (q : Request) → accepted t q ≡ false → Alike t q []
-  unfolding stands eventsOver answersOver eventsIn
-  alike-none q e = record {
-    same-left = sym (refused-leaves t q e);
-    same-events = sym (ap (λ (b : Bool). cond b (eventsBy t q) []) e);
-    same-answers = λ b. joint-refused 0 b ∙ sym (ap (λ (a : Answer). together a b) (refused-answer t q e) ∙ joint-refused (numberOf t q) b);
-  }
-
-  -- the messages of an accepted pack
-  alike-sent : (p : List ℕ) (room : ℕ) → accepted t (request (pack p) room) ≡ true → Alike t (request (pack p) room) (oneByOne t (bodiesOf p) room)
-  alike-sent p room e =
-      record { same-left = sym (pack-stands t p room e); same-events = sym (pack-events t p room e); same-answers = λ b. ap (λ (a : Answer). together a b) (sym (pack-answer t p room e)) }
-
-  -- so what it stands for
-  alike : (q : Request) → Alike t q (standsFor t q)
-  unfolding standsFor
-  alike q = go (q .asked)
-    where
-      go : (a : Asked) → let q = request a (q .room) in Alike t q (cond (packed? a) (cond (accepted t q) (oneByOne t (packedBy a) (q .room)) []) (q ∷ []))
-      go (message m) = alike-itself (request (message m) (q .room))
-      go (piece m) = alike-itself (request (piece m) (q .room))
-      go closing = alike-itself (request closing (q .room))
-      go (keyText k x) = alike-itself (request (keyText k x) (q .room))
-      go (quick m) = alike-itself (request (quick m) (q .room))
-      go (pack p) =
-          let q : Request = request (pack p) (q .room) in
-          cond-at (Alike t q) (accepted t q) (oneByOne t (bodiesOf p) (q .room)) [] (λ e. alike-sent p (q .room) e) (λ e. alike-none q e)
-
--- and a list with each pack replaced by its messages
-pub stands-unpacked : (qs : List Request) (t : Terminal) → stands t (unpacked t qs) ≡ stands t qs
-unfolding stands unpacked
-stands-unpacked [] t = refl
-stands-unpacked (q ∷ qs) t =
-    stands-append t (standsFor t q) (unpacked (served t q) qs) ∙ ap (λ (x : Terminal). stands x (unpacked (served t q) qs)) (alike t q .same-left) ∙ stands-unpacked qs (served t q)
-
-pub events-unpacked : (qs : List Request) (t : Terminal) → eventsOver t (unpacked t qs) ≡ eventsOver t qs
-unfolding eventsOver unpacked
-events-unpacked [] t = refl
-events-unpacked (q ∷ qs) t =
-    events-over t (standsFor t q) (unpacked (served t q) qs)
-    ∙ (λ i. alike t q .same-events i ++ (ap (λ (x : Terminal). eventsOver x (unpacked (served t q) qs)) (alike t q .same-left) ∙ events-unpacked qs (served t q)) i)
-
-pub answers-unpacked : (qs : List Request) (t : Terminal) → answersOver t (unpacked t qs) ≡ answersOver t qs
-unfolding answersOver unpacked
-answers-unpacked [] t = refl
-answers-unpacked (q ∷ qs) t =
-    answers-over t (standsFor t q) (unpacked (served t q) qs)
-    ∙ ap (together (answersOver t (standsFor t q))) (ap (λ (x : Terminal). answersOver x (unpacked (served t q) qs)) (alike t q .same-left) ∙ answers-unpacked qs (served t q))
-    ∙ alike t q .same-answers (answersOver (served t q) qs)
-
-pub prints-unpacked : (qs : List Request) (t : Terminal) → printedOver t (unpacked t qs) ≡ printedOver t qs
-prints-unpacked qs t = prints-over t (unpacked t qs) ∙ ap (λ (es : List Event). copies es (t .state)) (events-unpacked qs t) ∙ sym (prints-over t qs)

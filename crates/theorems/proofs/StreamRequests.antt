@@ -1,10 +1,9 @@
 -- A stream by its requests: items, what stands, answers and printer bytes over the calls together, from any waiting bytes and any count.
 use mathlib.Core.Path.{_∙_, _≡_, ap, refl, subst, sym}
-use Prim.Native.Nat.{_+_, _-_, _≤_, ℕ}
-use native.Mathlib.Omega.{arith}
+use Prim.Native.Nat.{_+_, _-_, ℕ}
 use mathlib.Core.Bool.{Bool, cond, false, true}
 use mathlib.Core.List.{List, [], _++_, _∷_, append-nil}
-use lib.ListN.{length, length-append, length-take, take}
+use lib.ListN.{length, length-append}
 use Rattle.model.specs.declared.Answer.{Answer}
 use Rattle.model.specs.declared.Settings.{Settings}
 use Rattle.model.specs.State.{State}
@@ -17,35 +16,30 @@ use Rattle.model.specs.Items.{applyAll, blankAnswer, copies, countedAll, events
 use Rattle.calls.specs.Calls.{Request, Terminal, accepted, answerOf, closing, itemBytes, numberOf, piece, printedBy, readsBy, readsIn, request, served, startOf, takenBy}
 use Rattle.calls.specs.Claims.{countAfter, waitsAfter}
 use Rattle.calls.specs.Lists.{stands}
-use Rattle.theorems.specs.Stream.{met13, readsOver}
-use Rattle.calls.specs.Answers.{together}
+use Rattle.theorems.specs.Streams.{met13, readsOver}
+use Rattle.model.specs.Answers.{together}
 use Rattle.model.proofs.Lined.{applied-lined, copies-lined}
 use Rattle.model.proofs.Events.{applied-append}
 use Rattle.calls.proofs.Printing.{printed-reads, prints-append, reads-accepted}
 use Rattle.calls.proofs.CallLaws.{accepted-answer, accepted-leaves, accepted-sound, after, refused-answer, refused-leaves, refused-prints}
 use Rattle.calls.proofs.LineAfter.{leaves-lined, line-after}
-use Rattle.theorems.proofs.Freely.{ahead, ahead-piece, freely, freely-lined, met-append, reads-free}
-use Rattle.calls.proofs.Sums.{joint, joint-refused}
+use Rattle.theorems.proofs.AlwaysRoom.{ahead, ahead-piece, readsWithRoom, with-room-lined, met-append, reads-with-room}
+use Rattle.model.proofs.AnswerLaws.{joint, joint-refused}
+use Rattle.calls.proofs.OverRequests.{printedOver, answersOver}
+use Rattle.model.proofs.LineLaws.{held-counted}
 
 -- requests of which the accepted ones are pieces and then one closing; and the bytes of these pieces, joined
-pub data Flow : Terminal → List Request → List ℕ → Type 0 where
-  closes : {t : Terminal} {room : ℕ} → accepted t (request closing room) ≡ true → Flow t (request closing room ∷ []) []
+pub data Streaming : Terminal → List Request → List ℕ → Type 0 where
+  closes : {t : Terminal} {room : ℕ} → accepted t (request closing room) ≡ true → Streaming t (request closing room ∷ []) []
   goes : {t : Terminal} {m : List ℕ} {room : ℕ} {qs : List Request} {bs : List ℕ}
-      → accepted t (request (piece m) room) ≡ true → Flow (served t (request (piece m) room)) qs bs → Flow t (request (piece m) room ∷ qs) (m ++ bs)
-  skips : {t : Terminal} {q : Request} {qs : List Request} {bs : List ℕ} → accepted t q ≡ false → Flow t qs bs → Flow t (q ∷ qs) bs
+      → accepted t (request (piece m) room) ≡ true → Streaming (served t (request (piece m) room)) qs bs → Streaming t (request (piece m) room ∷ qs) (m ++ bs)
+  skips : {t : Terminal} {q : Request} {qs : List Request} {bs : List ℕ} → accepted t q ≡ false → Streaming t qs bs → Streaming t (q ∷ qs) bs
 
 -- its first accepted call is made of the terminal itself, so that is sound
-pub flow-sound : {t : Terminal} {qs : List Request} {bs : List ℕ} → Flow t qs bs → Sound (t .state .settings)
-flow-sound {t} (closes {room = room} a) = accepted-sound t (request closing room) a
-flow-sound {t} (goes {m = m} {room = room} a s) = accepted-sound t (request (piece m) room) a
-flow-sound (skips a s) = flow-sound s
-
--- no more wait than are counted
-pub held-counted : (s : Settings) → Sound s → length (heldIn s) ≤ s .count
-held-counted s h = omega (arith, most (s .held) (s .waiting), h .line .no-longer)
-  where
-    most : (i : ℕ) (l : List ℕ) → length (take i l) ≤ i
-    most i l = simp length-take (omega arith)
+pub streaming-sound : {t : Terminal} {qs : List Request} {bs : List ℕ} → Streaming t qs bs → Sound (t .state .settings)
+streaming-sound {t} (closes {room = room} a) = accepted-sound t (request closing room) a
+streaming-sound {t} (goes {m = m} {room = room} a s) = accepted-sound t (request (piece m) room) a
+streaming-sound (skips a s) = streaming-sound s
 
 -- a refused call reads nothing and leaves all
 reads-refused : (t : Terminal) (q : Request) → accepted t q ≡ false → readsIn t q ≡ []
@@ -75,104 +69,94 @@ closing-leaves t room e =
     leaves-lined t closing room e refl ∙ ap (λ (rs : List Read). lined [] 0 (applyAll (eventsOf rs) (t .state))) (sym (reads-accepted t q e))
 
 -- the items
-pub flow-items : {t : Terminal} {qs : List Request} {bs : List ℕ} → Flow t qs bs → met13 (readsOver t qs) ≡ false
+pub streaming-items : {t : Terminal} {qs : List Request} {bs : List ℕ} → Streaming t qs bs → met13 (readsOver t qs) ≡ false
     → readsOver t qs ≡ ahead (heldIn (t .state .settings)) (t .state .settings .count) (t .state) bs
 unfolding readsOver ahead readsBy itemBytes startOf gathered remaining waitsAfter countAfter
-flow-items {t} (closes {room = room} a) e =
+streaming-items {t} (closes {room = room} a) e =
     let q : Request = request closing room in
     let s : Settings = t .state .settings in
     let i : readsIn t q ++ [] ≡ readsBy t q = none-more (readsIn t q) ∙ reads-accepted t q a in
-    i ∙ reads-free (lastly (heldIn s)) (s .count - length (heldIn s)) (t .state) room (subst (λ (l : List Read). met13 l ≡ false) i e)
-flow-items {t} (goes {m = m} {room = room} {qs = qs} {bs = bs} a f) e =
+    i ∙ reads-with-room (lastly (heldIn s)) (s .count - length (heldIn s)) (t .state) room (subst (λ (l : List Read). met13 l ≡ false) i e)
+streaming-items {t} (goes {m = m} {room = room} {qs = qs} {bs = bs} a f) e =
     let q : Request = request (piece m) room in
     let s : Settings = t .state .settings in
     let w : List ℕ = heldIn s in
     let r : List ℕ = remaining w m in
     let n : ℕ = s .count + length m in
-    let rs : List Read = freely (gathered w m) (s .count - length w) (t .state) in
+    let rs : List Read = readsWithRoom (gathered w m) (s .count - length w) (t .state) in
     let z = met-append (readsIn t q) (readsOver (served t q) qs) e in
-    let i : readsIn t q ≡ rs = reads-accepted t q a ∙ reads-free (gathered w m) (s .count - length w) (t .state) room (subst (λ (l : List Read). met13 l ≡ false) (reads-accepted t q a) (z .0)) in
+    let i : readsIn t q ≡ rs = reads-accepted t q a ∙ reads-with-room (gathered w m) (s .count - length w) (t .state) room (subst (λ (l : List Read). met13 l ≡ false) (reads-accepted t q a) (z .0)) in
     let st : served t q .state ≡ lined r n (applyAll (eventsOf rs) (t .state)) = piece-leaves t m room a ∙ ap (λ (l : List Read). lined r n (applyAll (eventsOf l) (t .state))) i in
     let l = line-after t (piece m) room a in
     let rest : List (List ℕ) = gathered r bs ++ lastly (remaining r bs) in
     let go : readsOver (served t q) qs ≡ ahead r n (applyAll (eventsOf rs) (t .state)) bs =
-    flow-items f (z .1) ∙ (λ j. ahead (l .0 j) (l .1 j) (st j) bs) ∙ freely-lined r n rest (n - length r) (applyAll (eventsOf rs) (t .state)) in
+    streaming-items f (z .1) ∙ (λ j. ahead (l .0 j) (l .1 j) (st j) bs) ∙ with-room-lined r n rest (n - length r) (applyAll (eventsOf rs) (t .state)) in
     (λ j. i j ++ go j) ∙ sym (ahead-piece w (s .count) (t .state) m bs (held-counted s (accepted-sound t q a)))
-flow-items {t} (skips {q = q} {qs = qs} {bs = bs} a f) e =
+streaming-items {t} (skips {q = q} {qs = qs} {bs = bs} a f) e =
     let i = over-refused t q qs a in
-    i ∙ flow-items f (subst (λ (l : List Read). met13 l ≡ false) i e)
+    i ∙ streaming-items f (subst (λ (l : List Read). met13 l ≡ false) i e)
 
 -- what stands
 lined-lined : (w v : List ℕ) (n k : ℕ) (st : State) → lined w n (lined v k st) ≡ lined w n st
 unfolding lined withSettings
 lined-lined w v n k st = refl
 
-pub flow-state : {t : Terminal} {qs : List Request} {bs : List ℕ} → Flow t qs bs → stands t qs .state ≡ lined [] 0 (applyAll (eventsOf (readsOver t qs)) (t .state))
+pub streaming-state : {t : Terminal} {qs : List Request} {bs : List ℕ} → Streaming t qs bs → stands t qs .state ≡ lined [] 0 (applyAll (eventsOf (readsOver t qs)) (t .state))
 unfolding stands readsOver
-flow-state {t} (closes {room = room} a) =
+streaming-state {t} (closes {room = room} a) =
     closing-leaves t room a ∙ ap (λ (l : List Read). lined [] 0 (applyAll (eventsOf l) (t .state))) (sym (none-more (readsIn t (request closing room))))
-flow-state {t} (goes {m = m} {room = room} {qs = qs} a f) =
+streaming-state {t} (goes {m = m} {room = room} {qs = qs} a f) =
     let q : Request = request (piece m) room in
     let s : Settings = t .state .settings in
     let r : List ℕ = remaining (heldIn s) m in
     let n : ℕ = s .count + length m in
     let x : State = applyAll (eventsOf (readsIn t q)) (t .state) in
     let rs : List Read = readsOver (served t q) qs in
-    flow-state f ∙ ap (λ (y : State). lined [] 0 (applyAll (eventsOf rs) y)) (piece-leaves t m room a)
+    streaming-state f ∙ ap (λ (y : State). lined [] 0 (applyAll (eventsOf rs) y)) (piece-leaves t m room a)
     ∙ ap (lined [] 0) (applied-lined r n rs x) ∙ lined-lined [] r 0 n (applyAll (eventsOf rs) x)
     ∙ ap (lined [] 0) (sym (applied-append (readsIn t q) rs (t .state)))
-flow-state {t} (skips {q = q} {qs = qs} a f) =
-    ap (λ (x : Terminal). stands x qs .state) (refused-leaves t q a) ∙ flow-state f
+streaming-state {t} (skips {q = q} {qs = qs} a f) =
+    ap (λ (x : Terminal). stands x qs .state) (refused-leaves t q a) ∙ streaming-state f
     ∙ ap (λ (l : List Read). lined [] 0 (applyAll (eventsOf l) (t .state))) (sym (over-refused t q qs a))
 
 -- closing paints
-pub flow-shown : {t : Terminal} {qs : List Request} {bs : List ℕ} → Flow t qs bs → stands t qs .shown ≡ painting (stands t qs .state)
+pub streaming-shown : {t : Terminal} {qs : List Request} {bs : List ℕ} → Streaming t qs bs → stands t qs .shown ≡ painting (stands t qs .state)
 unfolding stands after
-flow-shown {t} (closes {room = room} a) = subst (λ (x : Terminal). x .shown ≡ painting (x .state)) (sym (accepted-leaves t (request closing room) a)) refl
-flow-shown (goes a f) = flow-shown f
-flow-shown {t} (skips {q = q} {qs = qs} a f) = subst (λ (x : Terminal). stands x qs .shown ≡ painting (stands x qs .state)) (sym (refused-leaves t q a)) (flow-shown f)
+streaming-shown {t} (closes {room = room} a) = subst (λ (x : Terminal). x .shown ≡ painting (x .state)) (sym (accepted-leaves t (request closing room) a)) refl
+streaming-shown (goes a f) = streaming-shown f
+streaming-shown {t} (skips {q = q} {qs = qs} a f) = subst (λ (x : Terminal). stands x qs .shown ≡ painting (stands x qs .state)) (sym (refused-leaves t q a)) (streaming-shown f)
 
--- the printer bytes
-unfoldable pub printedOver : Terminal → List Request → List ℕ
-printedOver t [] = []
-printedOver t (q ∷ qs) = printedBy t q ++ printedOver (served t q) qs
-
-pub flow-prints : {t : Terminal} {qs : List Request} {bs : List ℕ} → Flow t qs bs → printedOver t qs ≡ copies (eventsOf (readsOver t qs)) (t .state)
+pub streaming-prints : {t : Terminal} {qs : List Request} {bs : List ℕ} → Streaming t qs bs → printedOver t qs ≡ copies (eventsOf (readsOver t qs)) (t .state)
 unfolding printedOver readsOver
-flow-prints {t} (closes {room = room} a) =
+streaming-prints {t} (closes {room = room} a) =
     let q : Request = request closing room in
     append-nil (printedBy t q) ∙ printed-reads t q ∙ ap (λ (l : List Read). copies (eventsOf l) (t .state)) (sym (none-more (readsIn t q)))
-flow-prints {t} (goes {m = m} {room = room} {qs = qs} a f) =
+streaming-prints {t} (goes {m = m} {room = room} {qs = qs} a f) =
     let q : Request = request (piece m) room in
     let s : Settings = t .state .settings in
     let x : State = applyAll (eventsOf (readsIn t q)) (t .state) in
     let rs : List Read = readsOver (served t q) qs in
     let go : printedOver (served t q) qs ≡ copies (eventsOf rs) x =
-    flow-prints f ∙ ap (copies (eventsOf rs)) (piece-leaves t m room a) ∙ copies-lined (remaining (heldIn s) m) (s .count + length m) rs x in
+    streaming-prints f ∙ ap (copies (eventsOf rs)) (piece-leaves t m room a) ∙ copies-lined (remaining (heldIn s) m) (s .count + length m) rs x in
     (λ j. printed-reads t q j ++ go j) ∙ sym (prints-append (readsIn t q) rs (t .state))
-flow-prints {t} (skips {q = q} {qs = qs} a f) =
-    (λ j. refused-prints t q a j ++ printedOver (refused-leaves t q a j) qs) ∙ flow-prints f
+streaming-prints {t} (skips {q = q} {qs = qs} a f) =
+    (λ j. refused-prints t q a j ++ printedOver (refused-leaves t q a j) qs) ∙ streaming-prints f
     ∙ ap (λ (l : List Read). copies (eventsOf l) (t .state)) (sym (over-refused t q qs a))
-
--- the answers
-unfoldable pub answersOver : Terminal → List Request → Answer
-answersOver t [] = blankAnswer 0 0
-answersOver t (q ∷ qs) = together (answerOf t q) (answersOver (served t q) qs)
 
 answer-in : (t : Terminal) (q : Request) → accepted t q ≡ true → answerOf t q ≡ countedAll (readsIn t q) (blankAnswer 0 (takenBy (q .asked)))
 answer-in t q e = accepted-answer t q e ∙ ap (λ (l : List Read). countedAll l (blankAnswer 0 (takenBy (q .asked)))) (sym (reads-accepted t q e))
 
-pub flow-counts : {t : Terminal} {qs : List Request} {bs : List ℕ} → Flow t qs bs → answersOver t qs ≡ countedAll (readsOver t qs) (blankAnswer 0 (length bs))
+pub streaming-counts : {t : Terminal} {qs : List Request} {bs : List ℕ} → Streaming t qs bs → answersOver t qs ≡ countedAll (readsOver t qs) (blankAnswer 0 (length bs))
 unfolding answersOver readsOver countedAll takenBy
-flow-counts {t} (closes {room = room} a) =
+streaming-counts {t} (closes {room = room} a) =
     let q : Request = request closing room in
     ap (λ (x : Answer). together x (blankAnswer 0 0)) (answer-in t q a) ∙ joint (readsIn t q) [] 0 0
-flow-counts {t} (goes {m = m} {room = room} {qs = qs} {bs = bs} a f) =
+streaming-counts {t} (goes {m = m} {room = room} {qs = qs} {bs = bs} a f) =
     let q : Request = request (piece m) room in
-    (λ j. together (answer-in t q a j) (flow-counts f j))
+    (λ j. together (answer-in t q a j) (streaming-counts f j))
     ∙ joint (readsIn t q) (readsOver (served t q) qs) (length m) (length bs)
     ∙ ap (λ (n : ℕ). countedAll (readsIn t q ++ readsOver (served t q) qs) (blankAnswer 0 n)) (sym (length-append m bs))
-flow-counts {t} (skips {q = q} {qs = qs} {bs = bs} a f) =
+streaming-counts {t} (skips {q = q} {qs = qs} {bs = bs} a f) =
     ap (λ (x : Answer). together x (answersOver (served t q) qs)) (refused-answer t q a) ∙ joint-refused (numberOf t q) (answersOver (served t q) qs)
-    ∙ ap (λ (x : Terminal). answersOver x qs) (refused-leaves t q a) ∙ flow-counts f
+    ∙ ap (λ (x : Terminal). answersOver x qs) (refused-leaves t q a) ∙ streaming-counts f
     ∙ ap (λ (l : List Read). countedAll l (blankAnswer 0 (length bs))) (sym (over-refused t q qs a))
