@@ -1,13 +1,13 @@
 -- The painting by rows is the painting: a row's codes are those under the layer, walking is going to each place, and rows one behind the other are all places.
 use mathlib.Core.Path.{_∙_, _≡_, ap, refl, sym}
-use Prim.Native.Nat.{_%_, _*_, _+_, _-_, _/_, _<_, _≤_, suc, zero, ℕ}
+use Prim.Native.Nat.{_*_, _+_, _-_, _<_, _≤_, suc, zero, ℕ}
 use native.Mathlib.Nat.{add-zero}
 use native.Mathlib.Omega.{arith}
 use mathlib.Core.Bool.{Bool, _||_, false, true}
 use mathlib.Core.List.{List, _++_, _∷_}
 use lib.ListN.{drop, getD}
 use lib.Seq.{getD-drop}
-use lib.Dec.{eqb, leb}
+use lib.Dec.{eqb}
 use borrow.Author.Tests.{eqb-true, leb-true}
 use Rattle.model.specs.Bytes.{listFrom}
 use Rattle.model.specs.State.{State}

@@ -6,25 +6,25 @@ use lib.Dec.{eqb, ltb}
 use Rattle.model.specs.declared.Item.{Item}
 use Rattle.model.specs.declared.Item.the-variants.{Control, Printed, Refused, Sequence}
 use Rattle.model.specs.State.{State}
-use Rattle.model.specs.Screens.{columnsHere, columnsOf, height, here, linesOf, placeOf, textRows}
+use Rattle.model.specs.Screens.{columnsHere, columnsOf, here, linesOf, placeOf, textRows}
 use Rattle.model.specs.Sequences.{codeOf}
 use Rattle.model.specs.Rules.{shownAt}
 use Rattle.calls.specs.Repaint.{lifts?, lowest?, placeBy, printLifts?, printPlace}
 use Rattle.calls.specs.SecretRules.{Blindness}
 use Rattle.model.specs.Hidden.{Hidden}
-use Rattle.model.proofs.HiddenLaws.{hidden-awaited, hidden-item, hidden-lined, hidden-printed, hidden-texted, of, same-copied, same-limits, same-picture, same-sound}
+use Rattle.model.proofs.HiddenLaws.{hidden-awaited, hidden-item, hidden-lined, hidden-printed, hidden-texted, same-of, same-copied, same-limits, same-picture, same-sound}
 
 -- P12: which places are painted
 same-lowest : {a b : State} → Hidden a b → lowest? a ≡ lowest? b
 unfolding lowest? linesOf placeOf
-same-lowest h = of lowest? h
+same-lowest h = same-of lowest? h
 
 same-print-lifts : {a b : State} → Hidden a b → printLifts? a ≡ printLifts? b
 unfolding printLifts? columnsOf placeOf
 same-print-lifts h =
     let z = hidden-awaited h in
-    λ i. (of (λ (x : State). eqb (here x .waiting) 1) h i && same-lowest h i)
-    || (of (λ (x : State). not (ltb (here x .column) (columnsHere x))) z i && (of (λ (x : State). not (eqb (x .settings .rule) 2)) z i && same-lowest z i))
+    λ i. (same-of (λ (x : State). eqb (here x .waiting) 1) h i && same-lowest h i)
+    || (same-of (λ (x : State). not (ltb (here x .column) (columnsHere x))) z i && (same-of (λ (x : State). not (eqb (x .settings .rule) 2)) z i && same-lowest z i))
 
 same-lifts : (i : Item) {a b : State} → Hidden a b → lifts? i a ≡ lifts? i b
 unfolding lifts?
@@ -35,7 +35,7 @@ same-lifts (Refused n p) h = refl
 
 same-print-place : {a b : State} → Hidden a b → printPlace a ≡ printPlace b
 unfolding printPlace shownAt placeOf textRows
-same-print-place h = of (λ (x : State). shownAt (x .settings) (here x .line) (here x .column)) (hidden-awaited h)
+same-print-place h = same-of (λ (x : State). shownAt (x .settings) (here x .line) (here x .column)) (hidden-awaited h)
 
 same-places : (i : Item) {a b : State} → Hidden a b → placeBy i a ≡ placeBy i b
 unfolding placeBy
@@ -45,7 +45,7 @@ same-places (Sequence q) h = ap (λ (p : ℕ). cond (eqb (codeOf q) 37) p 640) (
 same-places (Refused n p) h = refl
 
 pub blind : Blindness
-unfolding linesOf columnsOf placeOf height textRows
+unfolding placeOf
 blind a b h = record {
   items = λ m i v. hidden-item m i v h;
   characters = λ c d. hidden-printed c d h;
@@ -57,5 +57,5 @@ blind a b h = record {
   copies = same-copied h;
   lifts = λ i. same-lifts i h;
   places = λ i. same-places i h;
-  top = of (λ (x : State). here x .top) h;
+  top = same-of (λ (x : State). here x .top) h;
 }

@@ -21,7 +21,7 @@ use Rattle.model.specs.Strokes.{drawn, flat, lineDot, lined as stroke, longer, 
 use Rattle.model.specs.Items.{applyAll, copies, countedAll, happened, lined, readsOf, texted}
 use Rattle.calls.specs.Calls.{accepted, allFree, answerOf, countable, eventsBy, eventsIn, firstOf, itemBytes, besideItems, noneWaits, numberOf, printedBy, readsBy, readsIn, reasons, served, soundIn, shownAfter, sized, startOf, takenBy, takenIn, knownIn, packable, recordOf, shortIn}
 use Rattle.model.specs.Keyable.{keyable}
-use Rattle.examples.specs.Examples.{added, allHold, allRight, holds, isRight, marked, parameters, unmarked}
+use Rattle.examples.specs.Examples.{added, allHold, holds, marked, parameters, unmarked}
 use Rattle.examples.specs.Runs.{allRun, keyLines, streams, turnsHold}
 use Rattle.examples.specs.LineRuns.{logicalLines}
 use Rattle.calls.specs.Opening.{openedBy, openingNumber, ruled}

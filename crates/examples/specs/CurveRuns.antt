@@ -23,7 +23,7 @@ namesThere p bs = example (there bs) (counts (3 + length bs) 1 1 0 ∷ firstRefu
 abbrev stroke : ℕ → ℕ → ℕ → ℕ → ℕ → ℕ → ℕ → List ℕ
 stroke x y x′ y′ m m′ f = 27 ∷ 198 ∷ 0 ∷ x ∷ 0 ∷ y ∷ 0 ∷ x′ ∷ 0 ∷ y′ ∷ m ∷ m′ ∷ f ∷ []
 
--- the plan's rows, by their numbers (10 is dotsKept below, 11 in curveRuns, 12 in must-fail/), and rows of ours
+-- the plan's rows, by their numbers (10 is dotsKept below, 11 in curveRuns, 12 in must-fail/ of the crate `model`), and rows of ours
 unfoldable pub loadCurve : List Example
 loadCurve =
     -- 1: 199, the first and the last dot; out of its ranges

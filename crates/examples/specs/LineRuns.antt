@@ -1,4 +1,4 @@
--- Document 02, P5, by examples: the plan's rows by their numbers (8 is must-fail/), then rows of ours. A mark is made from bytes.
+-- Document 02, P5, by examples: the plan's rows by their numbers (8 is must-fail/ of the crate `model`), then rows of ours. A mark is made from bytes.
 use Prim.Native.Nat.{ℕ, _+_}
 use mathlib.Core.List.{List, [], _∷_, _++_}
 use lib.ListN.{replicate, set}

@@ -51,7 +51,7 @@ unfoldable pub allRun : List Run → Bool
 allRun [] = true
 allRun (r ∷ rs) = elim (turnsHold (terminal (r .given) (replicate 3840 32) (replicate 1280 0) (replicate 3840 0) (replicate 640 32)) (r .turns)) [ true ↦ allRun rs | false ↦ false ]
 
--- the plan's rows, by their numbers (9 is must-fail/), then rows of ours
+-- the plan's rows, by their numbers (9 is must-fail/ of the crate `calls`), then rows of ours
 unfoldable pub streams : List Run
 streams =
     -- 1: an ESC waits for its byte; the refusal's offset is the stream's; taken is by request
@@ -113,7 +113,7 @@ streams =
     ∷ turn closing (counts 0 0 0 0 ∷ waits [] 0 ∷ columns 39 39 ∷ []) ∷ [])
     ∷ []
 
--- P2: the plan's rows, by their numbers (10 is must-fail/), then rows of ours
+-- P2: the plan's rows, by their numbers (10 is must-fail/ of the crates `model` and `calls`), then rows of ours
 unfoldable pub keyLines : List Run
 keyLines =
     -- 1: 211 lowers step to H, and 148 is judged by it

@@ -1,4 +1,4 @@
--- Document 02, P12, by examples: the plan's rows by their numbers (7 is must-fail/, 8 is measured), then rows of ours. A short message is sent to blank cells under
+-- Document 02, P12, by examples: the plan's rows by their numbers (7 is must-fail/ of the crate `calls`, 8 is measured), then rows of ours. A short message is sent to blank cells under
 -- a glass whose 640 places are all 88, so that a place that is not painted is seen.
 use Prim.Native.Nat.{ℕ, _+_, _-_, _*_}
 use mathlib.Core.Bool.{Bool, true, false, not, _&&_}

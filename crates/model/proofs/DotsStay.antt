@@ -1,7 +1,7 @@
 -- P11: which dots an item leaves: those that stand, but for a mode setting, for what draws, and for 42 and code 12. "Nothing else read in modes 0 to 2
 -- touches dots": there only a mode setting does.
 use mathlib.Core.Path.{_∙_, _≡_, ap, ap₂, refl, sym}
-use Prim.Native.Nat.{_-_, ℕ}
+use Prim.Native.Nat.{ℕ}
 use mathlib.Core.Bool.{Bool, _&&_, _||_, cond, false, true}
 use mathlib.Core.List.{List}
 use lib.ListN.{replicate}

@@ -36,8 +36,8 @@ abbrev bare : State → State
 bare st = state (st .settings) [] [] (st .dots)
 
 -- what is worked out from what is shared
-pub of : {A : Type 0} {a b : State} (f : State → A) → Hidden a b → f (common a) ≡ f (common b)
-of f h = λ i. f (h .same i)
+pub same-of : {A : Type 0} {a b : State} (f : State → A) → Hidden a b → f (common a) ≡ f (common b)
+same-of f h = λ i. f (h .same i)
 
 -- the steps that touch settings or stores
 hidden-placed : {a b : State} (p q : Place) → Hidden a b → p ≡ q → Hidden (placed p a) (placed q b)
@@ -71,14 +71,14 @@ hidden-dots ds es e h = record { same = λ i. withDots (e i) (h .same i); on = h
 -- the steps made of these
 hidden-lifted : {a b : State} → Hidden a b → Hidden (lifted a) (lifted b)
 unfolding lifted columnsOf linesOf
-hidden-lifted h = hidden-remarked _ _ (of (λ (x : State). marksUp 0 (linesHere x)) h) (hidden-onLines _ _ _ _ _ _ h)
+hidden-lifted h = hidden-remarked _ _ (same-of (λ (x : State). marksUp 0 (linesHere x)) h) (hidden-onLines _ _ _ _ _ _ h)
 
 hidden-down : {a b : State} → Hidden a b → Hidden (down a) (down b)
 unfolding down linesOf placeOf
 hidden-down h =
-    cond₂ Hidden _ _ _ _ _ _ (of (λ (x : State). ltb (here x .line) (linesHere x)) h)
-    (λ e. hidden-placed _ _ h (of (λ (x : State). putAt (here x .line + 1) (here x .column) (here x)) h))
-    (λ e. hidden-placed _ _ (hidden-lifted h) (of (λ (x : State). putAt (here x .line) (here x .column) (here x)) h))
+    cond₂ Hidden _ _ _ _ _ _ (same-of (λ (x : State). ltb (here x .line) (linesHere x)) h)
+    (λ e. hidden-placed _ _ h (same-of (λ (x : State). putAt (here x .line + 1) (here x .column) (here x)) h))
+    (λ e. hidden-placed _ _ (hidden-lifted h) (same-of (λ (x : State). putAt (here x .line) (here x .column) (here x)) h))
 
 hidden-column : {a b : State} (c d : ℕ) → c ≡ d → Hidden a b → Hidden (toColumn c a) (toColumn d b)
 unfolding toColumn placeOf
@@ -88,17 +88,17 @@ hidden-onward : {a b : State} → Hidden a b → Hidden (onward a) (onward b)
 unfolding onward runsOn placeOf
 hidden-onward h =
     let z = hidden-down (hidden-column 1 1 refl h) in
-    hidden-remarked _ _ (of (λ (x : State). runningOn (here x .line - 1)) z) z
+    hidden-remarked _ _ (same-of (λ (x : State). runningOn (here x .line - 1)) z) z
 
 hidden-right : {a b : State} → Hidden a b → Hidden (right a) (right b)
 unfolding right columnsOf placeOf
 hidden-right h =
-    cond₂ Hidden _ _ _ _ _ _ (of (λ (x : State). ltb (here x .column) (columnsHere x)) h) (λ e. hidden-column _ _ (of (λ (x : State). here x .column + 1) h) h)
-    (λ e. cond₂ Hidden _ _ _ _ _ _ (of (λ (x : State). eqb (x .settings .rule) 2) h) (λ f. hidden-placed _ _ h (of (λ (x : State). waitAt (here x)) h)) (λ f. hidden-onward h))
+    cond₂ Hidden _ _ _ _ _ _ (same-of (λ (x : State). ltb (here x .column) (columnsHere x)) h) (λ e. hidden-column _ _ (same-of (λ (x : State). here x .column + 1) h) h)
+    (λ e. cond₂ Hidden _ _ _ _ _ _ (same-of (λ (x : State). eqb (x .settings .rule) 2) h) (λ f. hidden-placed _ _ h (same-of (λ (x : State). waitAt (here x)) h)) (λ f. hidden-onward h))
 
 pub hidden-awaited : {a b : State} → Hidden a b → Hidden (awaited a) (awaited b)
 unfolding awaited placeOf
-hidden-awaited h = cond₂ Hidden _ _ _ _ _ _ (of (λ (x : State). eqb (here x .waiting) 1) h) (λ e. hidden-onward h) (λ e. h)
+hidden-awaited h = cond₂ Hidden _ _ _ _ _ _ (same-of (λ (x : State). eqb (here x .waiting) 1) h) (λ e. hidden-onward h) (λ e. h)
 
 hidden-topped : {a b : State} (t u : ℕ) → t ≡ u → Hidden a b → Hidden (topped t a) (topped u b)
 unfolding topped placeOf
@@ -111,11 +111,11 @@ hidden-held t u e h = hidden-topped _ _ (λ i. held (e i) (h .same i)) h
 
 hidden-tracked : {a b : State} → Hidden a b → Hidden (tracked a) (tracked b)
 unfolding tracked nearest missed height placeOf textRows
-hidden-tracked h = cond₂ Hidden _ _ _ _ _ _ (of (λ (x : State). eqb (x .settings .tracking) 1 && missed x) h) (λ e. hidden-topped _ _ (of nearest h) h) (λ e. h)
+hidden-tracked h = cond₂ Hidden _ _ _ _ _ _ (same-of (λ (x : State). eqb (x .settings .tracking) 1 && missed x) h) (λ e. hidden-topped _ _ (same-of nearest h) h) (λ e. h)
 
 hidden-trackedFar : {a b : State} → Hidden a b → Hidden (trackedFar a) (trackedFar b)
 unfolding trackedFar centred held missed height linesOf placeOf textRows
-hidden-trackedFar h = cond₂ Hidden _ _ _ _ _ _ (of (λ (x : State). eqb (x .settings .tracking) 1 && missed x) h) (λ e. hidden-topped _ _ (of centred h) h) (λ e. h)
+hidden-trackedFar h = cond₂ Hidden _ _ _ _ _ _ (same-of (λ (x : State). eqb (x .settings .tracking) 1 && missed x) h) (λ e. hidden-topped _ _ (same-of centred h) h) (λ e. h)
 
 -- printing, whatever the two bytes
 pub hidden-printed : {a b : State} (c d : ℕ) → Hidden a b → Hidden (printed c a) (printed d b)
@@ -125,12 +125,12 @@ hidden-printed c d h = hidden-tracked (hidden-right (hidden-stored c d (hidden-a
 hidden-cleared : {a b : State} → Hidden a b → Hidden (cleared a) (cleared b)
 unfolding cleared dotsCleared linesOf
 hidden-cleared h =
-    hidden-dots _ _ (of dotsCleared h) (hidden-placed home home (hidden-remarked _ _ (of (λ (x : State). unmarkedFrom 1 (linesHere x)) h) (hidden-onLines _ _ _ _ _ _ h)) refl)
+    hidden-dots _ _ (same-of dotsCleared h) (hidden-placed home home (hidden-remarked _ _ (same-of (λ (x : State). unmarkedFrom 1 (linesHere x)) h) (hidden-onLines _ _ _ _ _ _ h)) refl)
 
 hidden-control : {a b : State} (c : ℕ) → Hidden a b → Hidden (control c a) (control c b)
 unfolding control placeOf
 hidden-control c h =
-    cond₂ Hidden (eqb c 8) (eqb c 8) _ _ _ _ refl (λ e. hidden-tracked (hidden-column _ _ (of (λ (x : State). max 1 (here x .column - 1)) h) h))
+    cond₂ Hidden (eqb c 8) (eqb c 8) _ _ _ _ refl (λ e. hidden-tracked (hidden-column _ _ (same-of (λ (x : State). max 1 (here x .column - 1)) h) h))
     (λ e. cond₂ Hidden (eqb c 10) (eqb c 10) _ _ _ _ refl (λ e. hidden-tracked (hidden-down h))
     (λ e. cond₂ Hidden (eqb c 13) (eqb c 13) _ _ _ _ refl (λ e. hidden-tracked (hidden-column 1 1 refl h))
     (λ e. cond₂ Hidden (eqb c 12) (eqb c 12) _ _ _ _ refl (λ e. hidden-cleared h) (λ e. h))))
@@ -146,67 +146,67 @@ hidden-shifted x y f k g h = hidden-remarked _ _ refl (hidden-onLines _ _ _ _ _ 
 hidden-keyLine : {a b : State} (n : ℕ) → Hidden a b → Hidden (keyLine n a) (keyLine n b)
 unfolding keyLine displaying height linesOf placeOf textRows withSettings
 hidden-keyLine n h =
-    cond₂ Hidden _ _ _ _ _ _ (of (λ (x : State). eqb n (x .settings .display)) h) (λ e. h)
-    (λ e. hidden-emptied (record { same = of (λ (x : State). bare (withSettings (displaying n (x .settings)) x)) h; on = h .on }))
+    cond₂ Hidden _ _ _ _ _ _ (same-of (λ (x : State). eqb n (x .settings .display)) h) (λ e. h)
+    (λ e. hidden-emptied (record { same = same-of (λ (x : State). bare (withSettings (displaying n (x .settings)) x)) h; on = h .on }))
 
 -- a sequence, with the same bytes
 hidden-obeyed : (m : ℕ → ℕ) (q : Seq) {a b : State} → reveals (Sequence q) ≡ false → Hidden a b → Hidden (obeyed m q a) (obeyed m q b)
 unfolding obeyed flagged withSettings withKeys withKindPatterns modeSet withLayer emptied centred held columnsOf height linesOf placeOf textRows markOf
 hidden-obeyed m (PrintCode c) v h = hidden-printed c c h
 hidden-obeyed m Clear v h = hidden-cleared h
-hidden-obeyed m CursorOff v h = record { same = of (λ (st : State). bare (obeyed m CursorOff st)) h; on = h .on }
-hidden-obeyed m CursorOn v h = record { same = of (λ (st : State). bare (obeyed m CursorOn st)) h; on = h .on }
-hidden-obeyed m (Put l c) v h = hidden-trackedFar (hidden-placed _ _ h (of (λ (st : State). putAt (l - 31) (c - 31) (here st)) h))
-hidden-obeyed m (Charset n) v h = record { same = of (λ (st : State). bare (obeyed m (Charset n) st)) h; on = h .on }
+hidden-obeyed m CursorOff v h = record { same = same-of (λ (st : State). bare (obeyed m CursorOff st)) h; on = h .on }
+hidden-obeyed m CursorOn v h = record { same = same-of (λ (st : State). bare (obeyed m CursorOn st)) h; on = h .on }
+hidden-obeyed m (Put l c) v h = hidden-trackedFar (hidden-placed _ _ h (same-of (λ (st : State). putAt (l - 31) (c - 31) (here st)) h))
+hidden-obeyed m (Charset n) v h = record { same = same-of (λ (st : State). bare (obeyed m (Charset n) st)) h; on = h .on }
 hidden-obeyed m Copy v h = h
-hidden-obeyed m EraseLine v h = hidden-erased _ _ (of (λ (st : State). endOf (marksHere st) (linesHere st) (here st .line)) h) h
-hidden-obeyed m EraseRest v h = hidden-erased _ _ (of linesHere h) h
-hidden-obeyed m SecretOn v h = record { same = of (λ (st : State). bare (obeyed m SecretOn st)) h; on = refl }
+hidden-obeyed m EraseLine v h = hidden-erased _ _ (same-of (λ (st : State). endOf (marksHere st) (linesHere st) (here st .line)) h) h
+hidden-obeyed m EraseRest v h = hidden-erased _ _ (same-of linesHere h) h
+hidden-obeyed m SecretOn v h = record { same = same-of (λ (st : State). bare (obeyed m SecretOn st)) h; on = refl }
 hidden-obeyed m SecretOff v h = absurd (differ v)
 hidden-obeyed m (LinesUp a n) v h = hidden-shifted a n _ _ (marksUp a n) h
 hidden-obeyed m (LinesDown a n) v h = hidden-shifted a n _ _ (marksDown a n) h
-hidden-obeyed m (Step n) v h = record { same = of (λ (st : State). bare (obeyed m (Step n) st)) h; on = h .on }
-hidden-obeyed m (Tracking n) v h = record { same = of (λ (st : State). bare (obeyed m (Tracking n) st)) h; on = h .on }
-hidden-obeyed m WindowUp v h = hidden-held _ _ (of (λ (st : State). here st .top - st .settings .step) h) h
-hidden-obeyed m WindowDown v h = hidden-held _ _ (of (λ (st : State). here st .top + st .settings .step) h) h
-hidden-obeyed m InsOn v h = record { same = of (λ (st : State). bare (obeyed m InsOn st)) h; on = h .on }
-hidden-obeyed m InsOff v h = record { same = of (λ (st : State). bare (obeyed m InsOff st)) h; on = h .on }
-hidden-obeyed m CapsOn v h = record { same = of (λ (st : State). bare (obeyed m CapsOn st)) h; on = h .on }
-hidden-obeyed m CapsOff v h = record { same = of (λ (st : State). bare (obeyed m CapsOff st)) h; on = h .on }
-hidden-obeyed m NumOn v h = record { same = of (λ (st : State). bare (obeyed m NumOn st)) h; on = h .on }
-hidden-obeyed m NumOff v h = record { same = of (λ (st : State). bare (obeyed m NumOff st)) h; on = h .on }
-hidden-obeyed m StringsOff v h = record { same = of (λ (st : State). bare (obeyed m StringsOff st)) h; on = h .on }
-hidden-obeyed m StringsOn v h = record { same = of (λ (st : State). bare (obeyed m StringsOn st)) h; on = h .on }
+hidden-obeyed m (Step n) v h = record { same = same-of (λ (st : State). bare (obeyed m (Step n) st)) h; on = h .on }
+hidden-obeyed m (Tracking n) v h = record { same = same-of (λ (st : State). bare (obeyed m (Tracking n) st)) h; on = h .on }
+hidden-obeyed m WindowUp v h = hidden-held _ _ (same-of (λ (st : State). here st .top - st .settings .step) h) h
+hidden-obeyed m WindowDown v h = hidden-held _ _ (same-of (λ (st : State). here st .top + st .settings .step) h) h
+hidden-obeyed m InsOn v h = record { same = same-of (λ (st : State). bare (obeyed m InsOn st)) h; on = h .on }
+hidden-obeyed m InsOff v h = record { same = same-of (λ (st : State). bare (obeyed m InsOff st)) h; on = h .on }
+hidden-obeyed m CapsOn v h = record { same = same-of (λ (st : State). bare (obeyed m CapsOn st)) h; on = h .on }
+hidden-obeyed m CapsOff v h = record { same = same-of (λ (st : State). bare (obeyed m CapsOff st)) h; on = h .on }
+hidden-obeyed m NumOn v h = record { same = same-of (λ (st : State). bare (obeyed m NumOn st)) h; on = h .on }
+hidden-obeyed m NumOff v h = record { same = same-of (λ (st : State). bare (obeyed m NumOff st)) h; on = h .on }
+hidden-obeyed m StringsOff v h = record { same = same-of (λ (st : State). bare (obeyed m StringsOff st)) h; on = h .on }
+hidden-obeyed m StringsOn v h = record { same = same-of (λ (st : State). bare (obeyed m StringsOn st)) h; on = h .on }
 hidden-obeyed m (DrawLine p1 p2 p3 p4 p5 p6 p7 p8 p9 p10 p11) v h =
-    hidden-dots _ _ (of (λ (st : State). stroke p11 (twoBytes p9 p10) (point (twoBytes p3 p4) (twoBytes p1 p2)) (point (twoBytes p7 p8) (twoBytes p5 p6)) (st .dots)) h) h
-hidden-obeyed m (DrawDot p1 p2 p3 p4) v h = hidden-dots _ _ (of (λ (st : State). withDot p1 p2 (twoBytes p3 p4) (st .dots)) h) h
-hidden-obeyed m (Mode0 x y) v h = record { same = of (λ (st : State). bare (obeyed m (Mode0 x y) st)) h; on = omega (arith, h .on) }
-hidden-obeyed m (Mode1 x) v h = record { same = of (λ (st : State). bare (obeyed m (Mode1 x) st)) h; on = omega (arith, h .on) }
-hidden-obeyed m (Mode2 x y z) v h = record { same = of (λ (st : State). bare (obeyed m (Mode2 x y z) st)) h; on = omega (arith, h .on) }
-hidden-obeyed m Mode3 v h = record { same = of (λ (st : State). bare (obeyed m Mode3 st)) h; on = omega (arith, h .on) }
-hidden-obeyed m (Select n) v h = record { same = of (λ (st : State). bare (obeyed m (Select n) st)) h; on = h .on }
+    hidden-dots _ _ (same-of (λ (st : State). stroke p11 (twoBytes p9 p10) (point (twoBytes p3 p4) (twoBytes p1 p2)) (point (twoBytes p7 p8) (twoBytes p5 p6)) (st .dots)) h) h
+hidden-obeyed m (DrawDot p1 p2 p3 p4) v h = hidden-dots _ _ (same-of (λ (st : State). withDot p1 p2 (twoBytes p3 p4) (st .dots)) h) h
+hidden-obeyed m (Mode0 x y) v h = record { same = same-of (λ (st : State). bare (obeyed m (Mode0 x y) st)) h; on = omega (arith, h .on) }
+hidden-obeyed m (Mode1 x) v h = record { same = same-of (λ (st : State). bare (obeyed m (Mode1 x) st)) h; on = omega (arith, h .on) }
+hidden-obeyed m (Mode2 x y z) v h = record { same = same-of (λ (st : State). bare (obeyed m (Mode2 x y z) st)) h; on = omega (arith, h .on) }
+hidden-obeyed m Mode3 v h = record { same = same-of (λ (st : State). bare (obeyed m Mode3 st)) h; on = omega (arith, h .on) }
+hidden-obeyed m (Select n) v h = record { same = same-of (λ (st : State). bare (obeyed m (Select n) st)) h; on = h .on }
 hidden-obeyed m (Mark l c p) v h = record { same = h .same; on = h .on }
 hidden-obeyed m (Display n) v h = hidden-keyLine n h
 hidden-obeyed m WindowTop v h = hidden-topped 1 1 refl h
-hidden-obeyed m WindowBottom v h = hidden-topped _ _ (of (λ (st : State). linesHere st + 1 - height (st .settings)) h) h
-hidden-obeyed m (CursorKind n) v h = record { same = of (λ (st : State). bare (obeyed m (CursorKind n) st)) h; on = h .on }
-hidden-obeyed m WindowCursor v h = hidden-topped _ _ (of centred h) h
-hidden-obeyed m (Pattern c at) v h = record { same = of (λ (st : State). bare (obeyed m (Pattern c at) st)) h; on = h .on }
-hidden-obeyed m (Repeat n) v h = record { same = of (λ (st : State). bare (obeyed m (Repeat n) st)) h; on = h .on }
-hidden-obeyed m (RepeatDelay n) v h = record { same = of (λ (st : State). bare (obeyed m (RepeatDelay n) st)) h; on = h .on }
-hidden-obeyed m (RepeatInterval n) v h = record { same = of (λ (st : State). bare (obeyed m (RepeatInterval n) st)) h; on = h .on }
-hidden-obeyed m (Arrows1 c1 c2 c3 c4) v h = record { same = of (λ (st : State). bare (obeyed m (Arrows1 c1 c2 c3 c4) st)) h; on = h .on }
-hidden-obeyed m (Arrows2 c1 c2 c3 c4) v h = record { same = of (λ (st : State). bare (obeyed m (Arrows2 c1 c2 c3 c4) st)) h; on = h .on }
-hidden-obeyed m (Arrows3 c1 c2 c3 c4) v h = record { same = of (λ (st : State). bare (obeyed m (Arrows3 c1 c2 c3 c4) st)) h; on = h .on }
+hidden-obeyed m WindowBottom v h = hidden-topped _ _ (same-of (λ (st : State). linesHere st + 1 - height (st .settings)) h) h
+hidden-obeyed m (CursorKind n) v h = record { same = same-of (λ (st : State). bare (obeyed m (CursorKind n) st)) h; on = h .on }
+hidden-obeyed m WindowCursor v h = hidden-topped _ _ (same-of centred h) h
+hidden-obeyed m (Pattern c at) v h = record { same = same-of (λ (st : State). bare (obeyed m (Pattern c at) st)) h; on = h .on }
+hidden-obeyed m (Repeat n) v h = record { same = same-of (λ (st : State). bare (obeyed m (Repeat n) st)) h; on = h .on }
+hidden-obeyed m (RepeatDelay n) v h = record { same = same-of (λ (st : State). bare (obeyed m (RepeatDelay n) st)) h; on = h .on }
+hidden-obeyed m (RepeatInterval n) v h = record { same = same-of (λ (st : State). bare (obeyed m (RepeatInterval n) st)) h; on = h .on }
+hidden-obeyed m (Arrows1 c1 c2 c3 c4) v h = record { same = same-of (λ (st : State). bare (obeyed m (Arrows1 c1 c2 c3 c4) st)) h; on = h .on }
+hidden-obeyed m (Arrows2 c1 c2 c3 c4) v h = record { same = same-of (λ (st : State). bare (obeyed m (Arrows2 c1 c2 c3 c4) st)) h; on = h .on }
+hidden-obeyed m (Arrows3 c1 c2 c3 c4) v h = record { same = same-of (λ (st : State). bare (obeyed m (Arrows3 c1 c2 c3 c4) st)) h; on = h .on }
 hidden-obeyed m Nothing v h = h
-hidden-obeyed m (Shift n) v h = record { same = of (λ (st : State). bare (obeyed m (Shift n) st)) h; on = h .on }
+hidden-obeyed m (Shift n) v h = record { same = same-of (λ (st : State). bare (obeyed m (Shift n) st)) h; on = h .on }
 
 -- an item, with the same bytes; what is idle in a mode is idle on both sides
 pub hidden-item : (m : ℕ → ℕ) (i : Item) {a b : State} → reveals i ≡ false → Hidden a b → Hidden (applyItem m i a) (applyItem m i b)
 unfolding applyItem
 hidden-item m (Printed c) v h = hidden-printed c c h
 hidden-item m (Control c) v h = hidden-control c h
-hidden-item m (Sequence q) v h = cond₂ Hidden _ _ _ _ _ _ (of (λ (x : State). idle? (x .settings .mode) (codeOf q)) h) (λ e. h) (λ e. hidden-obeyed m q v h)
+hidden-item m (Sequence q) v h = cond₂ Hidden _ _ _ _ _ _ (same-of (λ (x : State). idle? (x .settings .mode) (codeOf q)) h) (λ e. h) (λ e. hidden-obeyed m q v h)
 hidden-item m (Refused x p) v h = h
 
 -- a line that is left, and a key's text: as many codes as before, whatever they are
@@ -221,7 +221,7 @@ long-put from ys xs = simp (length-append, length-take, length-drop) (omega arit
 long-texts : {a b : State} → Hidden a b → length (a .settings .texts) ≡ length (b .settings .texts)
 unfolding blanked
 long-texts {a} {b} h =
-    sym (length-replicate {A = ℕ} (length (a .settings .texts)) 32) ∙ of (λ (x : State). length (x .settings .texts)) h ∙ length-replicate {A = ℕ} (length (b .settings .texts)) 32
+    sym (length-replicate {A = ℕ} (length (a .settings .texts)) 32) ∙ same-of (λ (x : State). length (x .settings .texts)) h ∙ length-replicate {A = ℕ} (length (b .settings .texts)) 32
 
 pub hidden-texted : {a b : State} (k : ℕ) (x y : List ℕ) → length x ≡ length y → Hidden a b → Hidden (texted k x a) (texted k y b)
 unfolding texted withSettings blanked
@@ -241,7 +241,7 @@ sound-shared s =
     && (inside? s 0 && (second? s && (line? (s .waiting) (s .held) (s .count) && (marks? s 0 && marks? s 1)))))))) (length-replicate {A = ℕ} (length (s .texts)) 32)
 
 pub same-sound : {a b : State} → Hidden a b → sound? (a .settings) ≡ sound? (b .settings)
-same-sound {a} {b} h = sym (sound-shared (a .settings)) ∙ of (λ (x : State). sound? (x .settings)) h ∙ sound-shared (b .settings)
+same-sound {a} {b} h = sym (sound-shared (a .settings)) ∙ same-of (λ (x : State). sound? (x .settings)) h ∙ sound-shared (b .settings)
 
 -- in secret mode every place shows 32
 blank-place : (a : State) → a .settings .secret ≡ 1 → (p : ℕ) → picture a p ≡ 32
@@ -249,15 +249,15 @@ unfolding picture pictureAt
 blank-place a on p = elim-at (λ (x : ℕ). x ≡ 32) (eqb (a .settings .secret) 1) _ _ (λ e. refl) (λ e. absurd (differ (sym (eq-eqb _ 1 on) ∙ e)))
 
 pub same-picture : {a b : State} → Hidden a b → picture a ≡ picture b
-same-picture {a} {b} h = λ i p. (blank-place a (h .on) p ∙ sym (blank-place b (sym (of (λ (x : State). x .settings .secret) h) ∙ h .on) p)) i
+same-picture {a} {b} h = λ i p. (blank-place a (h .on) p ∙ sym (blank-place b (sym (same-of (λ (x : State). x .settings .secret) h) ∙ h .on) p)) i
 
 -- a copy is of the picture; P11: in mode 3 of the dots
 pub same-copied : {a b : State} → Hidden a b → copied a ≡ copied b
 unfolding copied pictureCopy dotCopy
 same-copied h =
-    cond₂ _≡_ _ _ _ _ _ _ (of (λ (x : State). eqb (x .settings .mode) 3) h) (λ e. of dotCopy h) (λ e. λ i. copiedRows (same-picture h i) 0 8)
+    cond₂ _≡_ _ _ _ _ _ _ (same-of (λ (x : State). eqb (x .settings .mode) 3) h) (λ e. same-of dotCopy h) (λ e. λ i. copiedRows (same-picture h i) 0 8)
 
 -- and what parameters are judged by
 pub same-limits : {a b : State} → Hidden a b → limitsOf (a .settings) ≡ limitsOf (b .settings)
 unfolding linesOf columnsOf placeOf height textRows
-same-limits h = of (λ (x : State). limitsOf (x .settings)) h
+same-limits h = same-of (λ (x : State). limitsOf (x .settings)) h

@@ -94,6 +94,11 @@ pub legal-named : (q : Seq) (s : Limits) → legal? q s ≡ eqb (badOf q s) 0
 unfolding legal? badOf
 legal-named q s = bad-none 1 (judgedRanges q s) (omega arith)
 
+-- one that is not is refused by 11, with its first bad parameter
+pub refused-by : (q : Seq) (s : Limits) (room : ℕ) → legal? q s ≡ false → judged (Sequence q) s room ≡ Refused 11 (badOf q s)
+unfolding allowed fitting
+refused-by q s room e = ap (λ (b : Bool). fitting (s .mode) (cond b (Sequence q) (Refused 11 (badOf q s))) room) e
+
 pub refused-first : (q : Seq) (s : Limits) → legal? q s ≡ false → FirstBad 1 (judgedRanges q s) (badOf q s)
 unfolding legal? badOf
 refused-first q s e = bad-first 1 (judgedRanges q s) e
@@ -108,6 +113,7 @@ judged-named (Sequence q) s room h =
     (λ e. record { eleven = λ f. refused-first q s e .low; another = λ f. absurd (f refl) })
 judged-named (Refused n p) s room h = h
 
+-- every item that is read
 pub read-named : (at : ℕ) (bs : List ℕ) (s : Limits) (room : ℕ) → NamedItem (judged (itemOf at bs) s room)
 read-named at bs s room = judged-named (itemOf at bs) s room (true-named (itemOf at bs) (item-named at bs))
 
@@ -171,6 +177,7 @@ all-named (bs ∷ bss) at st room a g =
     all-named bss (at + length bs) (obeyedBy r st) (room - r .prints) (counted (r .item) at (r .prints) a)
     (counted-named (r .item) at (r .prints) a (read-named at bs (limitsOf (st .settings)) room) g)
 
+-- an answer with none
 pub none-named : Named 0 0
 none-named = record { eleven = λ e. absurd (omega arith); another = λ e. refl }
 
@@ -199,6 +206,7 @@ NoneYet a = (a .refused ≡ 0) × (a .first ≡ 0) × (a .parameter ≡ 0) × (a
 abbrev pub FirstIn : List Read → Answer → Type 0
 FirstIn rs a = FirstRefusal rs (a .first) (a .parameter) (a .offset)
 
+-- counting finds the first refusal
 pub first-in : (rs : List Read) (a : Answer) → NoneYet a → FirstIn rs (countedAll rs a)
 unfolding countedAll
 first-in [] a h = rw (h .1, h .2, h .3) none
@@ -213,10 +221,7 @@ first-in (r ∷ rs) a h = go (r .item) refl (first-in rs)
         let z = all-kept rs b (ne-eqb (b .refused) 0 (λ f. omega arith)) in
         rw (z .0, z .1, z .2, h .0) (here e)
 
-pub refused-by : (q : Seq) (s : Limits) (room : ℕ) → legal? q s ≡ false → judged (Sequence q) s room ≡ Refused 11 (badOf q s)
-unfolding allowed fitting
-refused-by q s room e = ap (λ (b : Bool). fitting (s .mode) (cond b (Sequence q) (Refused 11 (badOf q s))) room) e
-
+-- the byte after 27, 208
 pub mode-byte : (at : ℕ) (bs : List ℕ) → getD bs 0 0 ≡ 27 → getD bs 1 0 ≡ 208 → 3 < getD bs 2 0 → decoded at bs ≡ Refused 11 1
 unfolding decoded kindOf modeRowOf find
 mode-byte at bs e f l =

@@ -5,6 +5,6 @@ pub mod Demand3AsBefore
 pub mod AlwaysRoom
 pub mod StreamRequests
 pub mod Streams
-pub mod Packs
+pub mod PacksAsMessages
 pub mod WhichParameter
 pub mod Witness

@@ -1,4 +1,4 @@
 pub mod Demand3
 pub mod Streams
-pub mod Packs
+pub mod PacksAsMessages
 pub mod WhichParameter

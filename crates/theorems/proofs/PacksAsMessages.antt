@@ -10,7 +10,7 @@ use Rattle.model.specs.Bytes.{written}
 use Rattle.calls.specs.Packs.{bodiesOf}
 use Rattle.calls.specs.Calls.{Asked, Call, Request, Terminal, accepted, answerOf, eventsIn, message, numberOf, pack, packedBy, printedBy, recordOf, request, requestOf, served}
 use Rattle.calls.specs.Lists.{Made, Nth, eventsOver, first, later, left, next, none, oneByOne, requests, stands, standsFor, unpacked}
-use Rattle.theorems.specs.Packs.{OneByOne, Replaced, Replacing, Sent, acceptedPack, allSent, firstIn, noCall, refusedPack, sameCall, sentNext}
+use Rattle.theorems.specs.PacksAsMessages.{OneByOne, Replaced, Replacing, Sent, acceptedPack, allSent, firstIn, noCall, refusedPack, sameCall, sentNext}
 use Rattle.theorems.specs.Streams.{partsOf}
 use Rattle.calls.proofs.CallLaws.{number-accepted, refused-leaves, refused-number, is-accepted, number-is}
 use Rattle.calls.proofs.OverRequests.{answersOver, printedOver}
