@@ -5,17 +5,18 @@ use Prim.Native.Nat.{_*_, _+_, _-_, max, min, ℕ}
 use native.Mathlib.Omega.{arith}
 use mathlib.Core.Bool.{Bool, _&&_, false}
 use mathlib.Core.List.{List, [], _∷_}
-use lib.ListN.{length, length-append, length-drop, length-replicate, length-take, replicate}
+use lib.ListN.{length, length-append, length-drop, length-replicate, length-take, replicate, set}
 use lib.Dec.{eqb, ltb}
 use borrow.Author.Tests.{eq-eqb}
 use Rattle.model.specs.declared.Place.{Place}
+use Rattle.model.specs.declared.Keys.{Keys}
 use Rattle.model.specs.declared.Settings.{Settings}
 use Rattle.model.specs.declared.Sequence.{Sequence as Seq}
 use Rattle.model.specs.declared.Sequence.the-variants.{Arrows1, Arrows2, Arrows3, CapsOff, CapsOn, Charset, Clear, Copy, CursorKind, CursorOff, CursorOn, Display, DrawDot, DrawLine, EraseLine, EraseRest, InsOff, InsOn, LinesDown, LinesUp, Mark, Mode0, Mode1, Mode2, Mode3, Nothing, NumOff, NumOn, Pattern, PrintCode, Put, Repeat, RepeatDelay, RepeatInterval, SecretOff, SecretOn, Select, Shift, Step, StringsOff, StringsOn, Tracking, WindowBottom, WindowCursor, WindowDown, WindowTop, WindowUp}
 use Rattle.model.specs.declared.Item.{Item}
 use Rattle.model.specs.declared.Item.the-variants.{Control, Printed, Refused, Sequence}
-use Rattle.model.specs.Bytes.{blanked, onPart, put}
-use Rattle.model.specs.State.{State, home, putAt, state, topAt, waitAt, withTexts}
+use Rattle.model.specs.Bytes.{blanked, listFrom, onPart, put}
+use Rattle.model.specs.State.{State, home, keysWith, putAt, repeatWith, state, topAt, waitAt, withDisplay, withTexts}
 use Rattle.model.specs.Screens.{columnsHere, columnsOf, height, here, linesHere, linesOf, placeOf, screens, textRows}
 use Rattle.model.specs.Marks.{endOf, markOf, marksDown, marksUp, runningOn, unmarkedFrom}
 use Rattle.model.specs.Checks.{inRanges?, range}
@@ -26,7 +27,7 @@ use Rattle.model.specs.Sequences.{codeOf, idle?}
 use Rattle.model.specs.Dot.{twoBytes, withDot}
 use Rattle.model.specs.Strokes.{lined as stroke}
 use Rattle.model.specs.Judging.{limitsOf}
-use Rattle.model.specs.Rules.{applyItem, awaited, blankFrom, centred, cleared, control, displaying, dotsCleared, down, emptied, erased, flagged, held, keyLine, lifted, marksHere, missed, modeSet, nearest, obeyed, onLines, onward, placed, point, printed, remarked, right, runsOn, shifted, stored, toColumn, topped, tracked, trackedFar, withCells, withDots, withKeys, withKindPatterns, withLayer, withSettings}
+use Rattle.model.specs.Rules.{applyItem, awaited, blankFrom, centred, cleared, control, displaying, dotsCleared, down, emptied, erased, flagged, held, heldPlace, keyLine, lifted, marksHere, missed, modeSet, nearest, obeyed, onLines, onward, placed, point, printed, remarked, right, runsOn, shifted, stored, toColumn, topped, tracked, trackedFar, withArrows, withCells, withDots, withKeys, withKindPatterns, withLayer, withLed, withSettings}
 use Rattle.model.specs.Items.{lined, texted}
 use Rattle.model.specs.Hidden.{Hidden, common, reveals, shared}
 use Rattle.model.proofs.Tests.{cond₂, differ, elim-at}
@@ -143,40 +144,86 @@ hidden-shifted : {a b : State} (x y : ℕ) (f : List ℕ → List ℕ) (k : List
 unfolding shifted
 hidden-shifted x y f k g h = hidden-remarked _ _ refl (hidden-onLines _ _ _ _ _ _ h)
 
+-- another key display: H is worked out from it and the mode
+hidden-display : {a b : State} {ps qs : List Place} {p q : ℕ} (n : ℕ) → Hidden a b → ps ≡ qs → p ≡ q
+    → Hidden (withSettings (withDisplay (a .settings) n ps p) a) (withSettings (withDisplay (b .settings) n qs q) b)
+unfolding withSettings
+hidden-display n h e f = record { same = λ i. bare (withSettings (withDisplay (h .same i .settings) n (e i) (f i)) (h .same i)); on = h .on }
+
+abbrev heightUnder : ℕ → State → ℕ
+heightUnder n x = height (withDisplay (x .settings) n (x .settings .places) (x .settings .step))
+
+abbrev heldUnder : ℕ → ℕ → State → Place
+heldUnder n k x = heldPlace (linesOf (x .settings) k) (heightUnder n x) (placeOf (x .settings) k)
+
 hidden-keyLine : {a b : State} (n : ℕ) → Hidden a b → Hidden (keyLine n a) (keyLine n b)
-unfolding keyLine displaying height linesOf placeOf textRows withSettings
+unfolding keyLine displaying height linesOf placeOf textRows
 hidden-keyLine n h =
     cond₂ Hidden _ _ _ _ _ _ (same-of (λ (x : State). eqb n (x .settings .display)) h) (λ e. h)
-    (λ e. hidden-emptied (record { same = same-of (λ (x : State). bare (withSettings (displaying n (x .settings)) x)) h; on = h .on }))
+    (λ e. hidden-emptied (hidden-display n h (same-of (λ (x : State). heldUnder n 0 x ∷ heldUnder n 1 x ∷ []) h) (same-of (λ (x : State). min (x .settings .step) (heightUnder n x)) h)))
+
+-- flags, keys, the cursor's type and the patterns: other values, the same on both sides
+same-selected : {a b : State} → Hidden a b → a .settings .selected ≡ b .settings .selected
+same-selected h = same-of (λ (x : State). x .settings .selected) h
+
+same-tracking : {a b : State} → Hidden a b → a .settings .tracking ≡ b .settings .tracking
+same-tracking h = same-of (λ (x : State). x .settings .tracking) h
+
+same-step : {a b : State} → Hidden a b → a .settings .step ≡ b .settings .step
+same-step h = same-of (λ (x : State). x .settings .step) h
+
+same-secret : {a b : State} → Hidden a b → a .settings .secret ≡ b .settings .secret
+same-secret h = same-of (λ (x : State). x .settings .secret) h
+
+same-cursor : {a b : State} → Hidden a b → a .settings .cursor ≡ b .settings .cursor
+same-cursor h = same-of (λ (x : State). x .settings .cursor) h
+
+hidden-flagged : {a b : State} {s s′ t t′ p p′ e e′ c c′ : ℕ} → Hidden a b → s ≡ s′ → t ≡ t′ → p ≡ p′ → e ≡ e′ → c ≡ c′ → e ≡ 1 → Hidden (flagged s t p e c a) (flagged s′ t′ p′ e′ c′ b)
+unfolding flagged withSettings
+hidden-flagged h s t p e c on = record { same = λ i. bare (flagged (s i) (t i) (p i) (e i) (c i) (h .same i)); on = on }
+
+hidden-keys : {a b : State} {k l : Keys} → Hidden a b → k ≡ l → Hidden (withKeys k a) (withKeys l b)
+unfolding withKeys withSettings
+hidden-keys h e = record { same = λ i. bare (withKeys (e i) (h .same i)); on = h .on }
+
+hidden-led : {a b : State} (w n : ℕ) → Hidden a b → Hidden (withLed w n a) (withLed w n b)
+hidden-led w n h = hidden-keys h (same-of (λ (x : State). let k = x .settings .keys in keysWith k (set (k .leds) w n) (k .charset) (k .strings)) h)
+
+hidden-arrows : {a b : State} (w : ℕ) (cs : List ℕ) → Hidden a b → Hidden (withArrows w cs a) (withArrows w cs b)
+hidden-arrows w cs h = hidden-keys h (same-of (λ (x : State). let k = x .settings .keys in repeatWith k (k .repeat) (k .delay) (k .interval) (k .shift) (put (w * 4) cs (k .arrows))) h)
+
+hidden-kind : {a b : State} {n n′ : ℕ} {ps ps′ : List ℕ} → Hidden a b → n ≡ n′ → ps ≡ ps′ → Hidden (withKindPatterns n ps a) (withKindPatterns n′ ps′ b)
+unfolding withKindPatterns withSettings
+hidden-kind h e f = record { same = λ i. bare (withKindPatterns (e i) (f i) (h .same i)); on = h .on }
 
 -- a sequence, with the same bytes
 hidden-obeyed : (m : ℕ → ℕ) (q : Seq) {a b : State} → reveals (Sequence q) ≡ false → Hidden a b → Hidden (obeyed m q a) (obeyed m q b)
-unfolding obeyed flagged withSettings withKeys withKindPatterns modeSet withLayer emptied centred held columnsOf height linesOf placeOf textRows markOf
+unfolding obeyed modeSet withLayer centred held columnsOf height linesOf placeOf textRows markOf
 hidden-obeyed m (PrintCode c) v h = hidden-printed c c h
 hidden-obeyed m Clear v h = hidden-cleared h
-hidden-obeyed m CursorOff v h = record { same = same-of (λ (st : State). bare (obeyed m CursorOff st)) h; on = h .on }
-hidden-obeyed m CursorOn v h = record { same = same-of (λ (st : State). bare (obeyed m CursorOn st)) h; on = h .on }
+hidden-obeyed m CursorOff v h = hidden-flagged h (same-selected h) (same-tracking h) (same-step h) (same-secret h) refl (h .on)
+hidden-obeyed m CursorOn v h = hidden-flagged h (same-selected h) (same-tracking h) (same-step h) (same-secret h) refl (h .on)
 hidden-obeyed m (Put l c) v h = hidden-trackedFar (hidden-placed _ _ h (same-of (λ (st : State). putAt (l - 31) (c - 31) (here st)) h))
-hidden-obeyed m (Charset n) v h = record { same = same-of (λ (st : State). bare (obeyed m (Charset n) st)) h; on = h .on }
+hidden-obeyed m (Charset n) v h = hidden-keys h (same-of (λ (st : State). let k = st .settings .keys in keysWith k (k .leds) n (k .strings)) h)
 hidden-obeyed m Copy v h = h
 hidden-obeyed m EraseLine v h = hidden-erased _ _ (same-of (λ (st : State). endOf (marksHere st) (linesHere st) (here st .line)) h) h
 hidden-obeyed m EraseRest v h = hidden-erased _ _ (same-of linesHere h) h
-hidden-obeyed m SecretOn v h = record { same = same-of (λ (st : State). bare (obeyed m SecretOn st)) h; on = refl }
+hidden-obeyed m SecretOn v h = hidden-flagged h (same-selected h) (same-tracking h) (same-step h) refl (same-cursor h) refl
 hidden-obeyed m SecretOff v h = absurd (differ v)
 hidden-obeyed m (LinesUp a n) v h = hidden-shifted a n _ _ (marksUp a n) h
 hidden-obeyed m (LinesDown a n) v h = hidden-shifted a n _ _ (marksDown a n) h
-hidden-obeyed m (Step n) v h = record { same = same-of (λ (st : State). bare (obeyed m (Step n) st)) h; on = h .on }
-hidden-obeyed m (Tracking n) v h = record { same = same-of (λ (st : State). bare (obeyed m (Tracking n) st)) h; on = h .on }
+hidden-obeyed m (Step n) v h = hidden-flagged h (same-selected h) (same-tracking h) refl (same-secret h) (same-cursor h) (h .on)
+hidden-obeyed m (Tracking n) v h = hidden-flagged h (same-selected h) refl (same-step h) (same-secret h) (same-cursor h) (h .on)
 hidden-obeyed m WindowUp v h = hidden-held _ _ (same-of (λ (st : State). here st .top - st .settings .step) h) h
 hidden-obeyed m WindowDown v h = hidden-held _ _ (same-of (λ (st : State). here st .top + st .settings .step) h) h
-hidden-obeyed m InsOn v h = record { same = same-of (λ (st : State). bare (obeyed m InsOn st)) h; on = h .on }
-hidden-obeyed m InsOff v h = record { same = same-of (λ (st : State). bare (obeyed m InsOff st)) h; on = h .on }
-hidden-obeyed m CapsOn v h = record { same = same-of (λ (st : State). bare (obeyed m CapsOn st)) h; on = h .on }
-hidden-obeyed m CapsOff v h = record { same = same-of (λ (st : State). bare (obeyed m CapsOff st)) h; on = h .on }
-hidden-obeyed m NumOn v h = record { same = same-of (λ (st : State). bare (obeyed m NumOn st)) h; on = h .on }
-hidden-obeyed m NumOff v h = record { same = same-of (λ (st : State). bare (obeyed m NumOff st)) h; on = h .on }
-hidden-obeyed m StringsOff v h = record { same = same-of (λ (st : State). bare (obeyed m StringsOff st)) h; on = h .on }
-hidden-obeyed m StringsOn v h = record { same = same-of (λ (st : State). bare (obeyed m StringsOn st)) h; on = h .on }
+hidden-obeyed m InsOn v h = hidden-led 0 1 h
+hidden-obeyed m InsOff v h = hidden-led 0 0 h
+hidden-obeyed m CapsOn v h = hidden-led 1 1 h
+hidden-obeyed m CapsOff v h = hidden-led 1 0 h
+hidden-obeyed m NumOn v h = hidden-led 2 1 h
+hidden-obeyed m NumOff v h = hidden-led 2 0 h
+hidden-obeyed m StringsOff v h = hidden-keys h (same-of (λ (st : State). let k = st .settings .keys in keysWith k (k .leds) (k .charset) 0) h)
+hidden-obeyed m StringsOn v h = hidden-keys h (same-of (λ (st : State). let k = st .settings .keys in keysWith k (k .leds) (k .charset) 1) h)
 hidden-obeyed m (DrawLine p1 p2 p3 p4 p5 p6 p7 p8 p9 p10 p11) v h =
     hidden-dots _ _ (same-of (λ (st : State). stroke p11 (twoBytes p9 p10) (point (twoBytes p3 p4) (twoBytes p1 p2)) (point (twoBytes p7 p8) (twoBytes p5 p6)) (st .dots)) h) h
 hidden-obeyed m (DrawDot p1 p2 p3 p4) v h = hidden-dots _ _ (same-of (λ (st : State). withDot p1 p2 (twoBytes p3 p4) (st .dots)) h) h
@@ -184,22 +231,22 @@ hidden-obeyed m (Mode0 x y) v h = record { same = same-of (λ (st : State). bare
 hidden-obeyed m (Mode1 x) v h = record { same = same-of (λ (st : State). bare (obeyed m (Mode1 x) st)) h; on = omega (arith, h .on) }
 hidden-obeyed m (Mode2 x y z) v h = record { same = same-of (λ (st : State). bare (obeyed m (Mode2 x y z) st)) h; on = omega (arith, h .on) }
 hidden-obeyed m Mode3 v h = record { same = same-of (λ (st : State). bare (obeyed m Mode3 st)) h; on = omega (arith, h .on) }
-hidden-obeyed m (Select n) v h = record { same = same-of (λ (st : State). bare (obeyed m (Select n) st)) h; on = h .on }
+hidden-obeyed m (Select n) v h = hidden-emptied (hidden-flagged h refl (same-tracking h) (same-step h) (same-secret h) (same-cursor h) (h .on))
 hidden-obeyed m (Mark l c p) v h = record { same = h .same; on = h .on }
 hidden-obeyed m (Display n) v h = hidden-keyLine n h
 hidden-obeyed m WindowTop v h = hidden-topped 1 1 refl h
 hidden-obeyed m WindowBottom v h = hidden-topped _ _ (same-of (λ (st : State). linesHere st + 1 - height (st .settings)) h) h
-hidden-obeyed m (CursorKind n) v h = record { same = same-of (λ (st : State). bare (obeyed m (CursorKind n) st)) h; on = h .on }
+hidden-obeyed m (CursorKind n) v h = hidden-kind h refl (same-of (λ (st : State). st .settings .patterns) h)
 hidden-obeyed m WindowCursor v h = hidden-topped _ _ (same-of centred h) h
-hidden-obeyed m (Pattern c at) v h = record { same = same-of (λ (st : State). bare (obeyed m (Pattern c at) st)) h; on = h .on }
-hidden-obeyed m (Repeat n) v h = record { same = same-of (λ (st : State). bare (obeyed m (Repeat n) st)) h; on = h .on }
-hidden-obeyed m (RepeatDelay n) v h = record { same = same-of (λ (st : State). bare (obeyed m (RepeatDelay n) st)) h; on = h .on }
-hidden-obeyed m (RepeatInterval n) v h = record { same = same-of (λ (st : State). bare (obeyed m (RepeatInterval n) st)) h; on = h .on }
-hidden-obeyed m (Arrows1 c1 c2 c3 c4) v h = record { same = same-of (λ (st : State). bare (obeyed m (Arrows1 c1 c2 c3 c4) st)) h; on = h .on }
-hidden-obeyed m (Arrows2 c1 c2 c3 c4) v h = record { same = same-of (λ (st : State). bare (obeyed m (Arrows2 c1 c2 c3 c4) st)) h; on = h .on }
-hidden-obeyed m (Arrows3 c1 c2 c3 c4) v h = record { same = same-of (λ (st : State). bare (obeyed m (Arrows3 c1 c2 c3 c4) st)) h; on = h .on }
+hidden-obeyed m (Pattern c at) v h = hidden-kind h (same-of (λ (st : State). st .settings .kind) h) (same-of (λ (st : State). put ((c - 224) * 8) (listFrom m at 8) (st .settings .patterns)) h)
+hidden-obeyed m (Repeat n) v h = hidden-keys h (same-of (λ (st : State). let k = st .settings .keys in repeatWith k n (k .delay) (k .interval) (k .shift) (k .arrows)) h)
+hidden-obeyed m (RepeatDelay n) v h = hidden-keys h (same-of (λ (st : State). let k = st .settings .keys in repeatWith k (k .repeat) n (k .interval) (k .shift) (k .arrows)) h)
+hidden-obeyed m (RepeatInterval n) v h = hidden-keys h (same-of (λ (st : State). let k = st .settings .keys in repeatWith k (k .repeat) (k .delay) n (k .shift) (k .arrows)) h)
+hidden-obeyed m (Arrows1 c1 c2 c3 c4) v h = hidden-arrows 0 (c1 ∷ c2 ∷ c3 ∷ c4 ∷ []) h
+hidden-obeyed m (Arrows2 c1 c2 c3 c4) v h = hidden-arrows 1 (c1 ∷ c2 ∷ c3 ∷ c4 ∷ []) h
+hidden-obeyed m (Arrows3 c1 c2 c3 c4) v h = hidden-arrows 2 (c1 ∷ c2 ∷ c3 ∷ c4 ∷ []) h
 hidden-obeyed m Nothing v h = h
-hidden-obeyed m (Shift n) v h = record { same = same-of (λ (st : State). bare (obeyed m (Shift n) st)) h; on = h .on }
+hidden-obeyed m (Shift n) v h = hidden-keys h (same-of (λ (st : State). let k = st .settings .keys in repeatWith k (k .repeat) (k .delay) (k .interval) n (k .arrows)) h)
 
 -- an item, with the same bytes; what is idle in a mode is idle on both sides
 pub hidden-item : (m : ℕ → ℕ) (i : Item) {a b : State} → reveals i ≡ false → Hidden a b → Hidden (applyItem m i a) (applyItem m i b)
