@@ -9,6 +9,8 @@ use lib.ListN.{length, take}
 use lib.Dec.{leb, eqb}
 use Rattle.model.specs.declared.Settings.{Settings}
 use Rattle.model.specs.declared.Answer.{Answer}
+use Rattle.model.specs.declared.PackOutcome.{PackOutcome}
+use Rattle.model.specs.declared.Outcome.{Outcome}
 use Rattle.model.specs.Bytes.{joined, written}
 use Rattle.model.specs.State.{State, state}
 use Rattle.model.specs.Sound.{sound?}
@@ -297,6 +299,10 @@ called m given buffer answer left printer = record { asked = message m; given = 
 abbrev pub pieced : List ℕ → Terminal → List ℕ → Answer → Terminal → List ℕ → Call
 pieced m given buffer answer left printer = record { asked = piece m; given = given; left = left; answer = answer; in-record = 0; buffer = buffer; printer = printer }
 
+-- what it promises: the settings, the piece, the stores and the printer buffer that it is given; what it returns; the stores and the buffer afterwards
+abbrev pub PiecePromised : Settings → (m cells layer dots shown buffer : List ℕ) → Outcome → (cells′ layer′ dots′ shown′ printer : List ℕ) → Type 0
+PiecePromised s m cells layer dots shown buffer r cells′ layer′ dots′ shown′ printer = Promised (pieced m (terminal s cells layer dots shown) buffer (r .answer) (terminal (r .settings) cells′ layer′ dots′ shown′) printer)
+
 -- and the function `closing`, which is lent no printer buffer: what waits is never an ESC P
 abbrev pub closed : Terminal → Answer → Terminal → Call
 closed given answer left = record { asked = closing; given = given; left = left; answer = answer; in-record = 0; buffer = []; printer = [] }
@@ -312,6 +318,10 @@ KeyPromised k x given answer left = (cells layer dots shown : List ℕ) → Prom
 -- and the function `pack`, which returns a record's number beside its answer
 abbrev pub packCalled : List ℕ → Terminal → List ℕ → Answer → ℕ → Terminal → List ℕ → Call
 packCalled p given buffer answer n left printer = record { asked = pack p; given = given; left = left; answer = answer; in-record = n; buffer = buffer; printer = printer }
+
+-- what it promises: the settings, the pack, the stores and the printer buffer that it is given; what it returns; the stores and the buffer afterwards
+abbrev pub PackPromised : Settings → (p cells layer dots shown buffer : List ℕ) → PackOutcome → (cells′ layer′ dots′ shown′ printer : List ℕ) → Type 0
+PackPromised s p cells layer dots shown buffer r cells′ layer′ dots′ shown′ printer = Promised (packCalled p (terminal s cells layer dots shown) buffer (r .answer) (r .record) (terminal (r .settings) cells′ layer′ dots′ shown′) printer)
 
 -- and the function `short`
 abbrev pub quickCalled : List ℕ → Terminal → List ℕ → Answer → Terminal → List ℕ → Call

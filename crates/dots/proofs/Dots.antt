@@ -44,10 +44,10 @@ module _ (f v h : ℕ) (dots : List ℕ) where
   acted-there v′ h′ a b l ne = dot-there (wanted f (dotAt v h dots)) v h v′ h′ dots (wanted-below f (dotAt v h dots)) a b l ne
 
   -- its byte set to what `change` makes of it
-  pub act-made : (row : ℕ) {b : ℕ} → b ≡ withBit (wanted f (bitOf (weight h) (getD dots (row + h / 8) 0))) (weight h) (getD dots (row + h / 8) 0)
+  pub dot-made : (row : ℕ) {b : ℕ} → b ≡ withBit (wanted f (bitOf (weight h) (getD dots (row + h / 8) 0))) (weight h) (getD dots (row + h / 8) 0)
       → row ≡ 60 * v → set dots (row + h / 8) b ≡ acted f v h dots
   unfolding acted withDot dotAt
-  act-made row g e = rw (g, e)
+  dot-made row g e = rw (g, e)
 
 -- 199's 1 and 0 are the functions 2 and 1
 module _ (v h : ℕ) (dots : List ℕ) {on : ℕ} where

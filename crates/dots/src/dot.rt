@@ -14,9 +14,9 @@ pub fn put_dot(dots: &mut [u8], p: Point, on: u8)
     let row = 60 * (p.v as usize);
     let h = p.h as usize;
     if on == 1 {
-        act(dots, row, h, 2);
+        change_dot(dots, row, h, 2);
     } else {
-        act(dots, row, h, 1);
+        change_dot(dots, row, h, 1);
     }
 }
 
@@ -36,7 +36,7 @@ pub fn wipe(dots: &mut [u8])
 }
 
 // 198's function on the dot in column `h` of the row whose first byte is `row`.
-pub(crate) fn act(dots: &mut [u8], row: usize, h: usize, function: u8)
+pub(crate) fn change_dot(dots: &mut [u8], row: usize, h: usize, function: u8)
     requires { ⌜ (row + h / 8 < 3840) × (length (now dots) ≡ 3840) ⌝ }
     ensures { λ _. ⌜ ((v : ℕ) → row ≡ 60 * v → now (dots .exit) ≡ acted function v h (now (dots .entry))) ⌝ }
 {

@@ -5,7 +5,7 @@ ghost use lib.ListN.{length};
 ghost use Rattle.model.specs.Dot.{OnScreen};
 ghost use Rattle.model.specs.Strokes.{distance, lined, maskBit, stepped};
 ghost use Rattle.dots.specs.Walk.{Carried, Measured, shifted};
-use crate::dot::act;
+use crate::dot::change_dot;
 use model::Point;
 
 // What is carried from dot to dot: the dot's number, the first byte of its row (so that no dot costs a product), its column, and the
@@ -65,7 +65,7 @@ fn step(dots: &mut [u8], at: Reached, mask: u16, function: u8)
     ensures { λ _. ⌜ ((v : ℕ) → at .row ≡ 60 * v → now (dots .exit) ≡ stepped function mask (at .k) v (at .h) (now (dots .entry))) ⌝ }
 {
     if mask_bit(mask, at.k) == 1 {
-        act(dots, at.row, at.h, function);
+        change_dot(dots, at.row, at.h, function);
     }
 }
 

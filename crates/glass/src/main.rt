@@ -3,12 +3,12 @@
 // under the eight rows a line with the stream's counts and its first refusal; in mode 3 the dots stand below, as Braille letters. The terminal's cursor
 // stands where the settings have the cursor, or behind that line where none is to be seen. It asks of the terminal 10 rows and 80 columns, in mode 3 19
 // rows and UTF-8, sets no mode of it, and can be ended at any time.
-mod cursor;
-mod curve;
-mod drawing;
+mod cursor_place;
 mod totals;
 
 ghost use Rattle.io.specs.Counts.{Counts};
+use glass_drawing::curve;
+use glass_drawing::drawing;
 use libc::STDIN_FILENO;
 use libc::STDOUT_FILENO;
 use model::Answer;
@@ -86,7 +86,7 @@ fn take(
 ) -> Stream {
     let before = *shown;
     let given = stream.settings;
-    let outcome = stream::px8_piece(given, piece, cells, layer, shown, dots, printer);
+    let outcome = stream_piece::piece(given, piece, cells, layer, shown, dots, printer);
     say_curve(given.mode, outcome.settings.mode, dots);
     redrawn(stream.total, outcome, &before, shown)
 }
@@ -101,7 +101,7 @@ fn close(
 ) {
     let before = *shown;
     let given = stream.settings;
-    let outcome = stream::px8_closing(given, cells, layer, shown, dots);
+    let outcome = stream_closing::closing(given, cells, layer, shown, dots);
     let mode = outcome.settings.mode;
     say_curve(given.mode, mode, dots);
     redrawn(stream.total, outcome, &before, shown);
@@ -139,7 +139,7 @@ fn say_under(settings: Settings, total: Answer) {
     report::say_answer(total);
     report::say_byte(b" parameter ", total.parameter);
     report::say(b"\x1b[K");
-    let place = cursor::place(settings);
+    let place = cursor_place::place(settings);
     if place < 640 {
         report::say(&drawing::address(place));
     }

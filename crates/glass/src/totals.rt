@@ -8,7 +8,7 @@ use model::Answer;
 pub(crate) fn none() -> Answer
     ensures { λ r. ⌜ r ≡ blankAnswer 0 0 ⌝ }
 {
-    terminal::numbers::refusal(0)
+    numbers::refusal(0)
 }
 
 // Of one call more.

@@ -5,7 +5,8 @@ pub mod marks;
 pub mod places;
 
 ghost use mathlib.Core.Path.{_≡_};
-ghost use Prim.Native.Nat.{_*_, _<_, min};
+ghost use Prim.Native.Nat.{_*_, _<_};
+use store::sizes::as_size;
 
 // Of the selected screen: its first cell, its first mark, its lines and columns; the rows of the shown screen that show text and the window's height H; by
 // how many columns the picture shows it further right (mode 2, screen 2); the step of the window, whether it tracks the cursor, the rule of the last column, and
@@ -26,23 +27,9 @@ pub struct Frame {
     pub bare: bool,
 }
 
-// A byte as an index.
-pub fn wide(x: u8) -> usize
-    ensures { λ r. ⌜ r ≡ x ⌝ }
-{
-    x as usize
-}
-
-// The lesser of two.
-pub fn least(x: usize, y: usize) -> usize
-    ensures { λ r. ⌜ r ≡ min x y ⌝ }
-{
-    if x < y { x } else { y }
-}
-
 // As many lines of so many columns as cells.
 pub fn times(x: u8, y: u8) -> usize
     ensures { λ r. ⌜ (r ≡ x * y) × (r < 65536) ⌝ }
 {
-    wide(x) * wide(y)
+    as_size(x) * as_size(y)
 }

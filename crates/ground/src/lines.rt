@@ -4,8 +4,8 @@ use super::logical;
 use super::marks;
 use super::places;
 use super::times;
-use super::wide;
 use model::Place;
+use store::sizes::as_size;
 ghost use mathlib.Core.Path.{_≡_};
 ghost use mathlib.Core.Bool.{cond};
 ghost use Prim.Native.Nat.{_+_, _≤_};
@@ -25,7 +25,7 @@ pub fn cell(frame: Frame, place: Place) -> usize
     requires { ⌜ Stands frame place ⌝ }
     ensures { λ r. ⌜ r ≡ cellIn frame place ⌝ }
 {
-    frame.base + times(place.line - 1, frame.columns) + wide(place.column - 1)
+    frame.base + times(place.line - 1, frame.columns) + as_size(place.column - 1)
 }
 
 // Which way lines move.
@@ -49,7 +49,7 @@ fn scroll(
 {
     let start = frame.base + times(from, frame.columns);
     let size = times(count, frame.columns);
-    let width = wide(frame.columns);
+    let width = as_size(frame.columns);
     marks::empty(frame, layer);
     if down {
         store::scroll_down(cells, start, size, width);
@@ -133,7 +133,7 @@ fn erase_through(
     ensures { λ _. ⌜ ActsWith (erased to) frame place place (now (cells .entry)) (now (layer .entry)) (now (marks .entry)) (now (cells .exit)) (now (layer .exit)) (now (marks .exit)) ⌝ }
 {
     let below = times(to - place.line, frame.columns);
-    let count = below + (wide(frame.columns) + 1 - wide(place.column));
+    let count = below + (as_size(frame.columns) + 1 - as_size(place.column));
     blank_from(frame, place, count, cells, layer);
     logical::unmark(frame, place.line, to, marks);
 }

@@ -2,7 +2,7 @@
 // at l - 1 behind the screen's first.
 use super::Frame;
 use super::marks;
-use super::wide;
+use store::sizes::as_size;
 ghost use mathlib.Core.Path.{_≡_};
 ghost use mathlib.Core.Bool.{_&&_, not};
 ghost use Prim.Native.Nat.{_+_, _≤_};
@@ -17,7 +17,7 @@ pub fn run_on(frame: Frame, line: u8, marks: &mut [u8])
     requires { ⌜ (frame .first + 48 ≤ 96) × (length (now marks) ≡ 96) ⌝ }
     ensures { λ _. ⌜ Remarks (frame .first) (runningOn line) (now (marks .entry)) (now (marks .exit)) ⌝ }
 {
-    let at = frame.first + wide(line - 1);
+    let at = frame.first + as_size(line - 1);
     marks[at] = 1;
 }
 
@@ -27,8 +27,8 @@ pub(crate) fn unmark(frame: Frame, from: u8, to: u8, marks: &mut [u8])
     requires { ⌜ (frame .first + 48 ≤ 96) × (length (now marks) ≡ 96) ⌝ }
     ensures { λ _. ⌜ Remarks (frame .first) (unmarkedFrom from to) (now (marks .entry)) (now (marks .exit)) ⌝ }
 {
-    let start = frame.first + wide(from - 1);
-    let count = wide(to - (from - 1));
+    let start = frame.first + as_size(from - 1);
+    let count = as_size(to - (from - 1));
     marks::zero(marks, start, count);
 }
 
@@ -61,8 +61,8 @@ pub(crate) fn carry(frame: Frame, down: bool, from: u8, count: u8, marks: &mut [
     requires { ⌜ (frame .first + 48 ≤ 96) × (length (now marks) ≡ 96) ⌝ }
     ensures { λ _. ⌜ Remarks (frame .first) (carried down from count) (now (marks .entry)) (now (marks .exit)) ⌝ }
 {
-    let start = frame.first + wide(from);
-    let size = wide(count);
+    let start = frame.first + as_size(from);
+    let size = as_size(count);
     if down {
         store::scroll_down(marks, start, size, 1);
         marks[start] = 0;
@@ -78,7 +78,7 @@ fn runs(frame: Frame, line: u8, marks: &[u8]) -> bool
     requires { ⌜ (frame .first + 48 ≤ 96) × (length (now marks) ≡ 96) ⌝ }
     ensures { λ r. ⌜ r ≡ (ltb line (frame .lines) && not (eqb (markIn (frame .first) (now (marks .entry)) line) 0)) ⌝ }
 {
-    let at = frame.first + wide(line - 1);
+    let at = frame.first + as_size(line - 1);
     (line < frame.lines) & (marks[at] != 0)
 }
 

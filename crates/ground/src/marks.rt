@@ -1,7 +1,7 @@
 // The layer over the picture: emptied whole, at a place, or at places in a row. What is known to be empty is left.
 use super::Frame;
-use super::least;
 use model::SHOWN;
+use store::sizes::lesser;
 ghost use mathlib.Core.Path.{_≡_};
 ghost use Prim.Native.Nat.{_+_, _≤_};
 ghost use lib.ListN.{length, replicate};
@@ -44,7 +44,7 @@ pub fn empty_from(frame: Frame, shown: usize, count: usize, layer: &mut [u8])
         return;
     }
     if shown < SHOWN {
-        let n = least(count, SHOWN - shown);
+        let n = lesser(count, SHOWN - shown);
         zero(layer, shown, n);
         zero(layer, SHOWN + shown, n);
     }

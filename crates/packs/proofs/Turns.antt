@@ -23,7 +23,7 @@ use Rattle.calls.proofs.Bounds.{bounded}
 use Rattle.calls.proofs.PackRequests.{AllShort, Quiet, alsoShort, pack-quiet, quiet-accepted}
 use Rattle.calls.proofs.PackLoop.{Going, begins, bodies-within, ends, goes-on, recordThen}
 use Rattle.records.proofs.Laws.{bodies-at, bodies-over}
-use Rattle.pieces.specs.Parts.{Addable, bothOf}
+use Rattle.stream_parts.specs.Parts.{Addable, bothOf}
 use Rattle.serving.specs.Serves.{Servable, Serves}
 use Rattle.terminal.proofs.Answers.{served}
 use Rattle.packs.proofs.Numbers.{whole-pack}

@@ -5,9 +5,9 @@ ghost use Rattle.packs.specs.Bytes.{ofBytes};
 use model::MESSAGE;
 use model::PACK;
 use model::Settings;
+use numbers::stores_sized;
 use records::kind_at;
 use records::length_at;
-use terminal::numbers::stores_sized;
 
 // "Refusals, after 1: 19 too long, 20 cut record, 21 unknown kind, then 2": what its bytes are refused by, or 0. Its records are walked over twice: none is
 // looked at before it is known that none is cut.

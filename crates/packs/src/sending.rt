@@ -2,12 +2,12 @@
 ghost use mathlib.Core.Path.{_≡_};
 ghost use mathlib.Core.Bool.{cond};
 ghost use lib.Dec.{eqb};
-ghost use Rattle.calls.specs.Calls.{Asked, Promised, firstOf, packCalled, reasons, terminal};
+ghost use Rattle.calls.specs.Calls.{Asked, PackPromised, firstOf, reasons, terminal};
 use model::PackOutcome;
 use model::Settings;
-use pieces::together;
+use numbers::refusal;
 use records::length_at;
-use terminal::numbers::refusal;
+use stream_parts::together;
 
 // "the first refusal with its record": the record found so far, after message `number` with so many refusals, those before having so many.
 fn record_then(before: u32, own: u32, number: u32, found: u32) -> u32
@@ -31,7 +31,7 @@ pub(crate) fn send_each(
     printer: &mut [u8],
 ) -> PackOutcome
     requires { ⌜ firstOf (reasons (terminal settings (now cells) (now layer) (now dots) (now shown)) (Asked.pack (now pack))) ≡ 0 ⌝ }
-    ensures { λ r. ⌜ Promised (packCalled (now (pack .entry)) (terminal settings (now (cells .entry)) (now (layer .entry)) (now (dots .entry)) (now (shown .entry))) (now (printer .entry)) (r .answer) (r .record) (terminal (r .settings) (now (cells .exit)) (now (layer .exit)) (now (dots .exit)) (now (shown .exit))) (now (printer .exit))) ⌝ }
+    ensures { λ r. ⌜ PackPromised settings (now (pack .entry)) (now (cells .entry)) (now (layer .entry)) (now (dots .entry)) (now (shown .entry)) (now (printer .entry)) r (now (cells .exit)) (now (layer .exit)) (now (dots .exit)) (now (shown .exit)) (now (printer .exit)) ⌝ }
 {
     let mut s = settings;
     let mut answer = refusal(0);

@@ -1,7 +1,3 @@
-pub mod Painted
-pub mod Runs
-pub mod Windows
-pub mod Views
+pub mod Laid
 pub mod Pictures
-pub mod Copies
 pub mod Tested

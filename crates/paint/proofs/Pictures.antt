@@ -18,10 +18,12 @@ use Rattle.model.proofs.KeyLaws.{key-row, rows-plain, rows-shown}
 use Rattle.model.proofs.Tests.{differ, elim-at}
 use Rattle.model.proofs.ByteLaws.{length-listFrom, same-listFrom}
 use Rattle.store.proofs.Laws.{put-all}
-use Rattle.paint.specs.declared.view.View.{View}
-use Rattle.paint.specs.Panes.{ViewOf, seen}
-use Rattle.paint.specs.Painted.{below, laid, painted}
-use Rattle.paint.proofs.Painted.{listed, painted-next, painted-over, put-listed}
+use Rattle.views.specs.declared.View.{View}
+use Rattle.views.specs.Panes.{ViewOf, seen}
+use Rattle.paint.specs.Shown.{below, laid}
+use Rattle.views.specs.Painted.{painted}
+use Rattle.views.proofs.Painted.{listed, painted-next, put-listed}
+use Rattle.paint.proofs.Laid.{painted-over}
 
 -- "32 everywhere while secret is on"
 secret-at : (st : State) → eqb (st .settings .secret) 1 ≡ true → (p : ℕ) → 32 ≡ picture st p

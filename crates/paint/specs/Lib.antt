@@ -1,3 +1,1 @@
-pub mod Panes
-pub mod Painted
-pub mod Copy
+pub mod Shown

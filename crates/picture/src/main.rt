@@ -4,7 +4,7 @@ use model::CELLS;
 use model::DOTS;
 use model::LAYER;
 use model::SHOWN;
-use recording::MOST_ROOM;
+use record_input::MOST_ROOM;
 
 // A recording holds at most 1,000,000 bytes. A bad record ends it, and what stands is still written.
 fn main() {
@@ -14,9 +14,9 @@ fn main() {
     let mut dots = [0u8; DOTS];
     let mut printer = [0u8; MOST_ROOM];
     let mut body = [0u8; 65536];
-    let mut played = recording::open(&mut cells, &mut layer, &mut shown, &mut dots);
+    let mut played = playing::open(&mut cells, &mut layer, &mut shown, &mut dots);
     let mut left: usize = 1000000;
-    let mut next = recording::next_call(left, &mut body);
+    let mut next = record_input::next_call(left, &mut body);
     while next.size >= 4 {
         let length = next.size - 4;
         played = recording::play(
@@ -31,7 +31,7 @@ fn main() {
             &mut printer,
         );
         left -= next.size;
-        next = recording::next_call(left, &mut body);
+        next = record_input::next_call(left, &mut body);
     }
     let settings = played.settings;
     write_image(settings.mode, &shown, &dots);

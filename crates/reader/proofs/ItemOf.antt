@@ -15,7 +15,7 @@ use Rattle.model.specs.Checks.{inRanges?, passes, range}
 use Rattle.model.specs.Sequences.{idle?}
 use Rattle.model.specs.Judging.{allowed, badOf, fitting, judged, judgedRanges, legal?}
 use Rattle.model.proofs.Tests.{by-test, differ, elim-at}
-use Rattle.reader.specs.Decoding.{whole}
+use Rattle.decoding.specs.Decoding.{whole}
 
 -- a test that is decided
 if-true : {A : Type 0} {b : Bool} (x y : A) → b ≡ true → elim b [ true ↦ x | false ↦ y ] ≡ x

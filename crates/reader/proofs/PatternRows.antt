@@ -19,7 +19,7 @@ use Rattle.model.specs.Picture.{copySizeOf}
 use Rattle.model.specs.Judging.{allowed, badOf, fitting, judged, legal?}
 use Rattle.model.proofs.Tests.{cond-at, elim-at}
 use Rattle.model.proofs.Gathering.{found}
-use Rattle.reader.proofs.Found.{found-code}
+use Rattle.decoding.proofs.Found.{found-code}
 
 -- the second byte of a sequence, of other items 0
 abbrev codeIn : Item → ℕ

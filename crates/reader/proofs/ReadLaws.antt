@@ -18,11 +18,11 @@ use Rattle.calls.proofs.Loop.{own-some}
 use Rattle.model.proofs.Tests.{elim-at}
 use Rattle.model.proofs.Events.{legal-judged}
 use Rattle.tables.specs.Lengths.{lengthOf}
-use Rattle.reader.specs.Decoding.{whole}
+use Rattle.decoding.specs.Decoding.{whole}
 use Rattle.reader.specs.Reading.{ReadAt, byItself}
-use Rattle.reader.proofs.Needed.{needed-alone, needed-cut, needed-own, needed-plain, needed-unlisted, needed-whole, said, unlisted-own}
+use Rattle.decoding.proofs.Needed.{needed-alone, needed-cut, needed-own, needed-plain, needed-unlisted, needed-whole, said, unlisted-own}
 use Rattle.reader.proofs.ItemOf.{decoded-control, decoded-printed, decoded-sequence, ended-by, item-cut, item-whole, judged-ended}
-use Rattle.reader.proofs.DecodingLaws.{whole-unlisted}
+use Rattle.decoding.proofs.DecodingLaws.{whole-unlisted}
 use Rattle.reader.proofs.PatternRows.{pattern-rows}
 
 module _ (m : List ℕ) (at : ℕ) (s : Limits) (room : ℕ) (h : at < length m) where

@@ -1,3 +1,1 @@
-pub mod Decoding
-pub mod Judging
 pub mod Reading

@@ -1,15 +1,11 @@
-// A message into items, one at a time: which bytes are an item's own, what it is, and whether it is accepted.
+// A message into items, one at a time: which bytes are an item's own; what it is (crate decoding); and whether it is accepted (crate judging).
 ghost use Prim.Native.Nat.{_<_, _≤_};
 ghost use mathlib.Core.Path.{_≡_};
 ghost use mathlib.Core.List.{[], _∷_};
 ghost use lib.ListN.{getD, length};
 ghost use Rattle.model.specs.Reading.{ended};
 ghost use Rattle.reader.specs.Reading.{ReadAt, byItself};
-
-mod decoding;
-mod judging;
-
-pub use decoding::byte;
+use decoding::byte;
 use decoding::decode;
 use judging::judge;
 use model::Item;

@@ -3,7 +3,7 @@ use model::CELLS;
 use model::DOTS;
 use model::LAYER;
 use model::SHOWN;
-use recording::MOST_ROOM;
+use record_input::MOST_ROOM;
 
 // A recording holds at most 1,000,000 bytes.
 fn main() {
@@ -13,10 +13,10 @@ fn main() {
     let mut dots = [0u8; DOTS];
     let mut printer = [0u8; MOST_ROOM];
     let mut body = [0u8; 65536];
-    let mut played = recording::open(&mut cells, &mut layer, &mut shown, &mut dots);
+    let mut played = playing::open(&mut cells, &mut layer, &mut shown, &mut dots);
     let mut number: u64 = 1;
     let mut left: usize = 1000000;
-    let mut next = recording::next_call(left, &mut body);
+    let mut next = record_input::next_call(left, &mut body);
     while next.size >= 4 {
         let length = next.size - 4;
         played = recording::play(
@@ -32,7 +32,7 @@ fn main() {
         );
         number += 1;
         left -= next.size;
-        next = recording::next_call(left, &mut body);
+        next = record_input::next_call(left, &mut body);
     }
     if next.bad {
         report::say_number(b"", number);

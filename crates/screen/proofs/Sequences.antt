@@ -25,7 +25,7 @@ use Rattle.ground.specs.Acts.{ActsAbove, ActsWith, Top, exceptDots}
 use Rattle.model.specs.OnScreen.{onScreen?, onScreenCodes}
 use Rattle.screen.specs.Obeys.{Obeys}
 use Rattle.ground.proofs.Carried.{dots-aside, likewise-with, unmarked-acts}
-use Rattle.screen.proofs.Windows.{topped-at, topped-whole}
+use Rattle.cursor.proofs.Windows.{topped-at, topped-whole}
 
 -- P11: a second byte in neither list is idle in no mode, and one that does not draw only in mode 3
 pub never-idle : (c : ℕ) → member c idleThere ≡ false → member c drawing ≡ false → (mode : ℕ) → idle? mode c ≡ false

@@ -1,10 +1,7 @@
-// Everything that acts on the selected screen alone: its cursor and window, runs of printed bytes, its sequences. Its cells, the layer and the marks of its lines
-// are changed by the crate `ground`. What it needs of the settings is a frame, which a caller keeps beside the selected screen's place and the marks, so that a
-// printed byte copies no settings.
-pub mod cursor;
-pub mod run;
-pub mod window;
-
+// What acts on the selected screen alone: a printed byte, control codes, its sequences; and the frame of settings. Its cells, the layer and the marks of its lines
+// are changed by the crate `ground`, its cursor and window are moved by `cursor`, and bytes printed one behind another are the crate `runs`. What all these need of
+// the settings is a frame, which a caller keeps beside the selected screen's place and the marks, so that a printed byte copies no settings.
+use cursor::window;
 use ground::Frame;
 use ground::lines;
 use ground::places;
@@ -136,7 +133,7 @@ pub fn control(
 // An accepted sequence that acts on the selected screen alone. Any other leaves all as it is. The five that turn the window are idle in mode 3: there
 // the window is as tall as the screen, so that they find its top where they would put it, and no mode is asked. The dots, which 42 clears in mode 3,
 // are not lent here.
-pub fn act(
+pub fn obey_sequence(
     frame: Frame,
     place: Place,
     q: Sequence,

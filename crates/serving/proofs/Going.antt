@@ -7,7 +7,6 @@ use mathlib.Core.List.{List, [], _++_, append-assoc, append-nil}
 use lib.ListN.{drop, getD, length, take, take-append-drop}
 use lib.Seq.{drop-drop, length-take-le}
 use Rattle.model.specs.declared.Item.{Item}
-use Rattle.model.specs.declared.Item.the-variants.{Control, Printed, Refused, Sequence}
 use Rattle.model.specs.declared.Outcome.{Outcome}
 use Rattle.model.specs.Bytes.{put, written}
 use Rattle.model.specs.State.{State, state}
@@ -16,36 +15,17 @@ use Rattle.model.specs.Picture.{painting}
 use Rattle.model.specs.Judging.{judged, legalItem?, limitsOf}
 use Rattle.model.specs.Reading.{Read, itemOf, ownBytes}
 use Rattle.model.specs.Rules.{applyItem}
-use Rattle.model.specs.Items.{applyAll, blankAnswer, copies, copyOf, counted, countedAll, eventsOf, obeyedBy, printerBytes}
+use Rattle.model.specs.Items.{applyAll, blankAnswer, copies, copyOf, countedAll, eventsOf, obeyedBy, printerBytes}
 use Rattle.model.proofs.ByteLaws.{length-put}
 use Rattle.model.proofs.ItemLaws.{obeyed-item}
 use Rattle.calls.proofs.Loop.{answers, answers-turn, ends, ends-turn, prints, prints-turn, readAt, rest, rest-end}
 use Rattle.calls.proofs.Patterns.{obeyed-in-message}
 use Rattle.calls.proofs.Printing.{length-copy}
 use Rattle.store.proofs.Laws.{put-front, put-rest}
-use Rattle.serving.specs.declared.Counts.{Counts}
-use Rattle.serving.specs.Counting.{answerAt, countsWith, noCounts}
+use Rattle.counting.specs.declared.Counts.{Counts}
+use Rattle.counting.specs.Counting.{answerAt, countsWith, noCounts}
 use Rattle.serving.specs.Serves.{Serves}
-
--- counting an item is counting it
-module _ (mode : ℕ) where
-  counted-at : (i : Item) (n at : ℕ) (c : Counts) → counted i at (printerBytes mode i) (answerAt n c) ≡ answerAt n (countsWith mode i at c)
-  counted-at (Printed b) n at c = refl
-  counted-at (Control b) n at c = refl
-  counted-at (Sequence q) n at c = refl
-  counted-at (Refused k p) n at c = refl
-
-  pub printed-with : (i : Item) (at : ℕ) (c : Counts) → countsWith mode i at c .printed ≡ c .printed + printerBytes mode i
-  printed-with (Printed b) at c = omega arith
-  printed-with (Control b) at c = omega arith
-  printed-with (Sequence q) at c = refl
-  printed-with (Refused k p) at c = omega arith
-
-  counts-few : (i : Item) (at : ℕ) (c : Counts) → countsWith mode i at c .accepted + countsWith mode i at c .refused ≤ c .accepted + c .refused + 1
-  counts-few (Printed b) at c = omega arith
-  counts-few (Control b) at c = omega arith
-  counts-few (Sequence q) at c = omega arith
-  counts-few (Refused k p) at c = omega arith
+use Rattle.counting.proofs.CountingLaws.{counted-at, counts-few, printed-with}
 
 -- the message m, what stood at first and the printer buffer as it came
 module _ (m : List ℕ) (first : State) (buffer : List ℕ) where

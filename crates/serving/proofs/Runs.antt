@@ -23,9 +23,9 @@ use Rattle.model.specs.Rules.{applyItem, printed}
 use Rattle.calls.proofs.Loop.{own-some}
 use Rattle.model.proofs.Tests.{cond-at, differ, elim-at}
 use Rattle.model.proofs.Gathering.{found}
-use Rattle.screen.specs.Run.{printedAll, prints?}
-use Rattle.serving.specs.Acting.{printed?}
-use Rattle.serving.specs.declared.Counts.{Counts}
+use Rattle.runs.specs.Run.{printedAll, prints?}
+use Rattle.obeying.specs.Obeying.{printed?}
+use Rattle.counting.specs.declared.Counts.{Counts}
 use Rattle.store.proofs.Laws.{put-none}
 use Rattle.serving.proofs.Going.{Going, turn}
 

@@ -34,21 +34,22 @@ use Rattle.calls.proofs.Printing.{fits-room}
 use Rattle.reader.specs.declared.Reading.{Reading}
 use Rattle.reader.specs.Reading.{ReadAt}
 use Rattle.ground.specs.declared.Frame.{Frame}
-use Rattle.screen.specs.declared.run.Run.{Run}
+use Rattle.runs.specs.declared.Run.{Run}
 use Rattle.ground.specs.Frame.{FrameOf, Framed, Ready, Stands, limitsIn}
 use Rattle.ground.specs.Acts.{withHere}
-use Rattle.screen.specs.Run.{printedAll}
+use Rattle.runs.specs.Run.{printedAll}
 use Rattle.ground.proofs.Carried.{carried-here, framed-here, same-here}
 use Rattle.screen.proofs.Frames.{limits-are}
-use Rattle.serving.specs.declared.Counts.{Counts}
-use Rattle.serving.specs.Counting.{Countable, answerAt, countsWith, noCounts}
-use Rattle.serving.specs.Acting.{Applied, Applying, Moves, Offered, applied, bareThen, dotsThen, printed?}
+use Rattle.counting.specs.declared.Counts.{Counts}
+use Rattle.counting.specs.Counting.{Countable, answerAt, countsWith, noCounts}
+use Rattle.applying.specs.Applying.{Applied, Applying, applied}
+use Rattle.obeying.specs.Obeying.{Moves, Offered, bareThen, dotsThen, printed?}
 use Rattle.serving.specs.Serves.{Servable, Serves}
 use Rattle.serving.proofs.Going.{Going, finish, start, turn}
 use Rattle.store.proofs.Laws.{put-none}
 use Rattle.serving.proofs.Runs.{begins, run}
-use Rattle.serving.proofs.Layers.{bare-left}
-use Rattle.serving.proofs.Wiping.{away-spares, printed-spares, stays-dots}
+use Rattle.obeying.proofs.Layers.{bare-left}
+use Rattle.obeying.proofs.Wiping.{away-spares, printed-spares, stays-dots}
 
 -- an item of the selected screen is no copy
 stays-unprinted : (i : Item) (st : State) → staysOnScreen? i ≡ true → copyOf i st ≡ []

@@ -1,9 +1,5 @@
 // The message loop: items read one after the other, each obeyed, counted and, for a copy, printed; then the picture is painted. What is idle in the
 // mode is counted: of these the ones of the selected screen change nothing by themselves, and `apply` leaves the others.
-pub mod acting;
-pub mod counting;
-pub mod places;
-
 ghost use mathlib.Core.Path.{_≡_};
 ghost use mathlib.Core.Bool.{true};
 ghost use lib.ListN.{length, replicate};
@@ -11,15 +7,12 @@ ghost use Rattle.model.specs.State.{state};
 ghost use Prim.Native.Nat.{ℕ};
 ghost use mathlib.Core.List.{List};
 ghost use Rattle.model.specs.Picture.{painting};
-ghost use Rattle.paint.specs.Painted.{Visible};
+ghost use Rattle.paint.specs.Shown.{Visible};
 ghost use Rattle.ground.specs.Acts.{withPlace};
 ghost use Rattle.serving.specs.Serves.{Servable, Serves};
-use acting::act;
-use acting::apply;
-use acting::bare_after;
-use acting::read_at;
-use acting::stays;
-use acting::wipe_after;
+use applying::apply;
+use applying::places::placed;
+use applying::places::selected_place;
 use counting::answer_of;
 use counting::count;
 use counting::no_counts;
@@ -27,18 +20,11 @@ use model::Answer;
 use model::Outcome;
 use model::Place;
 use model::Settings;
-use places::placed;
-use places::selected_place;
-
-// What the answer counts, while a message is served.
-pub struct Counts {
-    pub accepted: u32,
-    pub refused: u32,
-    pub first: u8,
-    pub parameter: u8,
-    pub offset: u32,
-    pub printed: usize,
-}
+use obeying::bare_after;
+use obeying::obey_item;
+use obeying::read_at;
+use obeying::stays;
+use obeying::wipe_after;
 
 // "An accepted message is read into items; each in turn changes what stands as its rule says"; "it always ends by painting". The settings
 // stay where they are: the selected screen's place and the marks are kept beside them, and an item of that screen only changes these.
@@ -65,7 +51,7 @@ pub fn serve(
         let read = read_at(frame, printer.len() - printed, message, at);
         let item = read.item;
         counts = count(counts, frame.mode, item, at);
-        let run = act(
+        let run = obey_item(
             frame,
             place,
             item,

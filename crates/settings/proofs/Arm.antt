@@ -1,4 +1,4 @@
--- An arm that has one sequence, k: what stands is what the rules make of it, and they leave patterns and key texts.
+-- An arm of `obey` that has one sequence, k, and is not 224: what stands is what the rules make of it, and they leave patterns and key texts.
 use mathlib.Core.Path.{_≡_, _∙_, ap, sym}
 use Prim.Native.Nat.{ℕ}
 use mathlib.Core.Bool.{false}
@@ -6,19 +6,12 @@ use mathlib.Core.List.{List, []}
 use lib.Dec.{eqb}
 use Rattle.model.specs.declared.Settings.{Settings}
 use Rattle.model.specs.declared.Sequence.{Sequence as Seq}
-use Rattle.model.specs.Checks.{member}
 use Rattle.model.specs.State.{State, state}
 use Rattle.model.specs.Sequences.{codeOf}
 use Rattle.model.proofs.Tests.{differ}
-use Rattle.settings.specs.Obey.{Obeyed, Setting, more, settled}
+use Rattle.settings.specs.Obey.{Obeyed}
+use Rattle.values.specs.Setting.{settled}
+use Rattle.values.proofs.Arm.{Stayed}
 
-abbrev Stayed : Settings → Settings → Type 0
-Stayed s r = (r .patterns ≡ s .patterns) × (r .texts ≡ s .texts)
-
--- in `obey`, where it is not 224
 pub arm : {s r : Settings} {q k : Seq} {cells layer dots cells′ layer′ dots′ : List ℕ} → q ≡ k → ((m : List ℕ) → state r cells′ layer′ dots′ ≡ settled m k (state s cells layer dots)) → Stayed s (settled [] k (state s cells layer dots) .settings) → eqb (codeOf k) 224 ≡ false → Obeyed s q r cells layer dots cells′ layer′ dots′
 arm is stands kept other = record { does = λ e m. rw is (stands m); left = λ e. absurd (differ (sym e ∙ ap (λ (j : Seq). eqb (codeOf j) 224) is ∙ other)); keeps = (ap (λ (st : State). st .settings .patterns) (stands []) ∙ kept .0, ap (λ (st : State). st .settings .texts) (stands []) ∙ kept .1) }
-
--- in `set`, where it changes no store
-pub set-arm : {s r : Settings} {q k : Seq} → q ≡ k → ((m cells layer dots : List ℕ) → state r cells layer dots ≡ settled m k (state s cells layer dots)) → Stayed s (settled [] k (state s [] [] []) .settings) → member (codeOf k) more ≡ false → Setting s q r
-set-arm is stands kept other = record { does = λ e m cells layer dots. rw is (stands m cells layer dots); left = λ e. absurd (differ (sym e ∙ ap (λ (j : Seq). member (codeOf j) more) is ∙ other)); keeps = (ap (λ (st : State). st .settings .patterns) (stands [] [] [] []) ∙ kept .0, ap (λ (st : State). st .settings .texts) (stands [] [] [] []) ∙ kept .1) }

@@ -1,14 +1,8 @@
--- What the functions that change a store are given, with the ranges of document 01, "What the sequences do".
+-- What 210 and 224 are given, with the ranges of document 01, "What the sequences do".
 use mathlib.Core.Path.{_≡_}
 use mathlib.Core.List.{List}
 use Prim.Native.Nat.{ℕ, _+_, _≤_}
 use lib.ListN.{length}
-
--- "Cells: 3,840 bytes. Layer: 1,280 bytes"; P11: "a dot store of 3,840 bytes"
-pub record Sized (cells layer dots : List ℕ) : Type 0 where
-  pub cells-are : length cells ≡ 3840
-  pub layer-are : length layer ≡ 1280
-  pub dots-are : length dots ≡ 3840
 
 -- 210: "row 1 to 8, column 1 to 80"
 pub record Marking (row column : ℕ) (layer : List ℕ) : Type 0 where

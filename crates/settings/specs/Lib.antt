@@ -1,4 +1,2 @@
-pub mod Keyed
 pub mod Given
-pub mod Drawing
 pub mod Obey

@@ -1,25 +1,19 @@
 -- What obeying a sequence asks for, and what it leaves: 224 apart, since the patterns are its alone.
 use mathlib.Core.Path.{_≡_}
-use mathlib.Core.Bool.{true, false, cond}
-use mathlib.Core.List.{List, [], _∷_}
+use mathlib.Core.Bool.{true, false}
+use mathlib.Core.List.{List}
 use Prim.Native.Nat.{ℕ, _+_, _≤_}
-use lib.ListN.{length, getD}
+use lib.ListN.{length}
 use lib.Dec.{eqb}
 use Rattle.model.specs.declared.Settings.{Settings}
 use Rattle.model.specs.declared.Sequence.{Sequence as Seq}
 use Rattle.model.specs.declared.Sequence.the-variants.{Pattern}
-use Rattle.model.specs.State.{State, state, withStored}
-use Rattle.model.specs.Checks.{member}
+use Rattle.model.specs.State.{state, withStored}
 use Rattle.model.specs.Sound.{Sound}
 use Rattle.model.specs.Sequences.{codeOf, idle?}
 use Rattle.model.specs.Judging.{legal?, limitsOf}
-use Rattle.model.specs.Rules.{obeyed}
-use Rattle.settings.specs.Given.{Sized}
-use Rattle.model.specs.OnScreen.{onScreen?}
-
--- what then stands: what stood, if the sequence is crate screen's; else what the rules make of it with the message m
-unfoldable pub settled : List ℕ → Seq → State → State
-settled m q st = cond (onScreen? q) st (obeyed (λ o. getD m o 0) q st)
+use Rattle.modes.specs.Sized.{Sized}
+use Rattle.values.specs.Setting.{settled}
 
 -- sound settings, stores of their sizes, every parameter in its range, and a sequence that is not idle in the mode (P11)
 pub record Obeying (s : Settings) (q : Seq) (cells layer dots : List ℕ) : Type 0 where
@@ -35,18 +29,6 @@ pub record Obeyed (s : Settings) (q : Seq) (r : Settings) (cells layer dots cell
   -- 224 changes nothing here
   pub left : eqb (codeOf q) 224 ≡ true → state r cells′ layer′ dots′ ≡ state s cells layer dots
   -- the patterns are 224's alone, the key texts the key call's
-  pub keeps : (r .patterns ≡ s .patterns) × (r .texts ≡ s .texts)
-
--- the second bytes of those that do more than set something: the patterns are 224's, a store is changed by the others
-abbrev pub more : List ℕ
-more = 224 ∷ 208 ∷ 209 ∷ 210 ∷ 211 ∷ 198 ∷ 199 ∷ []
-
--- what `set` leaves of settings s: settings r
-pub record Setting (s : Settings) (q : Seq) (r : Settings) : Type 0 where
-  -- every other sequence does what the rules say of it, whatever the message, and touches no store
-  pub does : member (codeOf q) more ≡ false → (m cells layer dots : List ℕ) → state r cells layer dots ≡ settled m q (state s cells layer dots)
-  -- these change nothing here
-  pub left : member (codeOf q) more ≡ true → r ≡ s
   pub keeps : (r .patterns ≡ s .patterns) × (r .texts ≡ s .texts)
 
 -- for 224: sound settings, its code in its range, and the eight rows of the pattern in the message; not idle, as no 224 is

@@ -1,9 +1,2 @@
-pub mod Rows
-pub mod Kept
-pub mod Seeing
-pub mod Still
-pub mod Arms
-pub mod Watching
-pub mod Ends
+pub mod Within
 pub mod Promises
-pub mod Stirring

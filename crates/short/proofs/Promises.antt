@@ -20,16 +20,18 @@ use Rattle.calls.proofs.Loop.{answers, ends, prints, rest}
 use Rattle.calls.proofs.Message.{promised-short, promised-short-refused}
 use Rattle.calls.proofs.ShortCall.{quick-in}
 use Rattle.model.proofs.Tests.{differ}
-use Rattle.paint.specs.Painted.{Visible, painted}
+use Rattle.paint.specs.Shown.{Visible}
+use Rattle.views.specs.Painted.{painted}
 use Rattle.ground.specs.declared.Frame.{Frame}
 use Rattle.ground.specs.Frame.{FrameOf}
 use Rattle.ground.specs.Acts.{Acts, withHere, withPlace}
-use Rattle.screen.specs.Run.{printedAll}
-use Rattle.serving.specs.Counting.{answerAt, noCounts}
+use Rattle.runs.specs.Run.{printedAll}
+use Rattle.counting.specs.Counting.{answerAt, noCounts}
 use Rattle.serving.specs.Serves.{Servable}
-use Rattle.short.specs.Seen.{Sees}
-use Rattle.short.specs.Serving.{InLine, ServesShort, ShortPromised}
-use Rattle.short.proofs.Watching.{Watch, watch-ends, watch-first, watch-run}
+use Rattle.short_printing.specs.Seen.{Sees}
+use Rattle.short.specs.Short.{InLine, ShortPromised}
+use Rattle.short_serving.specs.ServesShort.{ServesShort}
+use Rattle.short_serving.proofs.Watching.{Watch, watch-ends, watch-first, watch-run}
 
 -- of a call that is promised the rest follows
 and-places : {m : List ℕ} {given : Terminal} {buffer : List ℕ} {answer : Answer} {left : Terminal} {printer : List ℕ} → Promised (quickCalled m given buffer answer left printer) → ShortPromised m given buffer answer left printer

@@ -276,7 +276,7 @@ pub fn sound(settings: Settings) -> bool
     let placed = placed(settings);
     let stored = stored(settings);
     let waiting = settings.waiting;
-    let lined = line::sound(waiting, settings.held, settings.count);
+    let lined = unfinished::sound(waiting, settings.held, settings.count);
     let marked = marked(settings);
     shaped & (placed & stored & marked & lined)
 }

@@ -1,9 +1,9 @@
--- The key call's number, and its promise: from the text that was stored, or from settings left as they came.
+-- The key call's promise: from the text that was stored, or from settings left as they came.
 use mathlib.Core.Path.{_∙_, _≡_, ap, refl, sym}
 use Prim.Native.Nat.{_*_, _-_, _≤_, ℕ}
 use native.Mathlib.Omega.{arith}
 use mathlib.Core.Bool.{Bool, _&&_, false, true}
-use mathlib.Core.List.{List, [], _∷_}
+use mathlib.Core.List.{List, []}
 use lib.ListN.{drop, length, take}
 use lib.Dec.{eqb, leb}
 use lib.Seq.{take-all}
@@ -14,11 +14,12 @@ use Rattle.model.specs.Bytes.{put}
 use Rattle.model.specs.State.{withTexts}
 use Rattle.model.specs.Sound.{Sound, arrayRanges, sound?}
 use Rattle.model.specs.Items.{blankAnswer}
-use Rattle.calls.specs.Calls.{KeyPromised, firstOf, keyText, reason, reasons, soundIn, terminal}
+use Rattle.calls.specs.Calls.{KeyPromised, firstOf, keyText, reasons, soundIn, terminal}
 use Rattle.model.specs.Keyable.{keyable}
 use Rattle.model.proofs.SoundLaws.{sound-true}
 use Rattle.model.proofs.Tests.{and-left, and-right}
 use Rattle.calls.proofs.KeyCall.{keyNumber, promised-key, promised-key-refused}
+use Rattle.numbers.proofs.KeyTests.{keyed-number}
 
 -- a key's text has its place among the ten
 pub record Placed (k : ℕ) (x : List ℕ) (s : Settings) : Type 0 where
@@ -36,11 +37,6 @@ module _ (k : ℕ) (x : List ℕ) (s : Settings) where
   unfolding reasons soundIn keyNumber
   number-is = refl
 
-  -- by its two tests
-  pub keyed-number : (a b : Bool) → sound? s ≡ a → keyable k x ≡ b → numberHere ≡ firstOf (reason 3 a ∷ reason 17 b ∷ [])
-  unfolding reasons soundIn
-  keyed-number a b p q = λ i. firstOf (reason 3 (p i) ∷ reason 17 (q i) ∷ [])
-
   -- number 0: both hold
   pub served : numberHere ≡ 0 → (sound? s ≡ true) × (keyable k x ≡ true)
   unfolding firstOf
@@ -48,8 +44,8 @@ module _ (k : ℕ) (x : List ℕ) (s : Settings) where
     where
       go : (a b : Bool) → sound? s ≡ a → keyable k x ≡ b → (sound? s ≡ true) × (keyable k x ≡ true)
       go true true p q = (p, q)
-      go true false p q = absurd (omega (arith, e, keyed-number true false p q))
-      go false b p q = absurd (omega (arith, e, keyed-number false b p q))
+      go true false p q = absurd (omega (arith, e, keyed-number k x s true false p q))
+      go false b p q = absurd (omega (arith, e, keyed-number k x s false b p q))
 
   -- any other: one does not
   unserved : (numberHere ≡ 0 → ⊥) → (sound? s && (keyable k x && true)) ≡ false
@@ -57,7 +53,7 @@ module _ (k : ℕ) (x : List ℕ) (s : Settings) where
   unserved e = go (sound? s) (keyable k x) refl refl
     where
       go : (a b : Bool) → sound? s ≡ a → keyable k x ≡ b → (sound? s && (keyable k x && true)) ≡ false
-      go true true p q = absurd (e (keyed-number true true p q))
+      go true true p q = absurd (e (keyed-number k x s true true p q))
       go true false p q = λ i. p i && (q i && true)
       go false b p q = λ i. p i && (keyable k x && true)
 

@@ -1,5 +1,4 @@
 // The calls of the terminal: opening, message, key and printer. None asks anything of its caller: bad input is refused by number.
-pub mod numbers;
 mod opened;
 
 ghost use Rattle.calls.specs.Calls.{KeyPromised, Promised, called, terminal};

@@ -8,8 +8,8 @@ use model::CELLS;
 use model::DOTS;
 use model::LAYER;
 use model::SHOWN;
-use recording::Played;
-use recording::Record;
+use playing::Played;
+use record_input::Record;
 
 // Where the file stands: before its first case, in a case, at its end.
 const BEFORE: u8 = 0;
@@ -36,7 +36,7 @@ fn main() {
     let mut case = new_case(BEFORE, &mut cells, &mut layer, &mut shown, &mut dots);
     let mut turns = u64::MAX;
     while turns > 0 && case.stage != OVER {
-        let record = recording::next_record(&mut body);
+        let record = record_input::next_record(&mut body);
         let length = body_length(record);
         case = step(
             case,
@@ -70,7 +70,7 @@ fn new_case(
     shown: &mut [u8],
     dots: &mut [u8],
 ) -> Case {
-    let played = recording::open(cells, layer, shown, dots);
+    let played = playing::open(cells, layer, shown, dots);
     Case {
         played,
         room: 1312,
@@ -138,7 +138,7 @@ fn message(
     if end > printer.len() {
         return bad_record(case);
     }
-    let played = recording::play_message(
+    let played = playing_messages::play_message(
         case.number,
         case.played,
         message,
@@ -160,8 +160,8 @@ fn with_room(case: Case, body: &[u8]) -> Case {
     if body.len() != 4 {
         return bad_record(case);
     }
-    let low = recording::little(body[0], body[1]);
-    let high = recording::little(body[2], body[3]);
+    let low = record_input::little(body[0], body[1]);
+    let high = record_input::little(body[2], body[3]);
     let played = case.played;
     Case {
         played,

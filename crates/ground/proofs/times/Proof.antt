@@ -11,5 +11,5 @@ times-spec =
     (tie.spec
     (λ c κs. search needs)
     (λ c κs. search needs)
-    (λ c. record { fits = omega (arith, product (c .before .wide .ensures) (c .wide2 .ensures) (omega arith) (omega arith)) })
-    (λ c. product (c .before .wide .ensures) (c .wide2 .ensures) (omega arith) (omega arith)))
+    (λ c. record { fits = omega (arith, product (c .before .as-size .ensures) (c .as-size2 .ensures) (omega arith) (omega arith)) })
+    (λ c. product (c .before .as-size .ensures) (c .as-size2 .ensures) (omega arith) (omega arith)))

@@ -4,7 +4,8 @@ use Prim.Native.Nat.{ℕ}
 use native.Mathlib.Omega.{arith}
 use lib.ListN.{getD}
 use borrow.Author.Needs.{needs}
-use Rattle.paint.proofs.Painted.{painted-bare, painted-same}
+use Rattle.paint.proofs.Laid.{painted-bare}
+use Rattle.views.proofs.Painted.{painted-same}
 use Rattle.paint.proofs.Tested.{is, is-not}
 use Rattle.paint.proofs.lay_over.Statement.{statement}
 use Rattle.paint.proofs.lay_over.Tie as tie

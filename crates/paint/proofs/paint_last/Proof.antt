@@ -8,7 +8,7 @@ use borrow.Author.Needs.{needs}
 use Rattle.model.specs.Bytes.{put}
 use Rattle.model.proofs.KeyLaws.{rows-plain}
 use Rattle.paint.proofs.Pictures.{row-8-keys, row-8-view, texts-size}
-use Rattle.paint.proofs.Runs.{row-inside, whole-row}
+use Rattle.views.proofs.Runs.{row-inside, whole-row}
 use Rattle.paint.proofs.paint_last.Statement.{statement}
 use Rattle.paint.proofs.paint_last.Tie as tie
 

@@ -4,7 +4,7 @@ use borrow.Author.Needs.{needs}
 use Rattle.model.specs.Rules.{control}
 use Rattle.ground.proofs.Acting.{then-above}
 use Rattle.ground.proofs.Carried.{dots-aside, then-above-with, unmarked-acts}
-use Rattle.screen.proofs.Moves.{back-acts, column-acts, no-code}
+use Rattle.cursor.proofs.Moves.{back-acts, column-acts, no-code}
 use Rattle.screen.proofs.control.Statement.{statement}
 use Rattle.screen.proofs.control.Tie as tie
 

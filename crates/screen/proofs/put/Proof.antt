@@ -2,7 +2,7 @@
 use native.Mathlib.Omega.{arith}
 use borrow.Author.Needs.{needs}
 use Rattle.ground.proofs.Acting.{then-above}
-use Rattle.screen.proofs.Moves.{put-acts}
+use Rattle.cursor.proofs.Moves.{put-acts}
 use Rattle.ground.proofs.Steps.{put-stands}
 use Rattle.screen.proofs.put.Statement.{statement}
 use Rattle.screen.proofs.put.Tie as tie

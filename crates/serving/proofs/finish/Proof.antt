@@ -11,7 +11,7 @@ use Rattle.model.specs.Sound.{arrayRanges}
 use Rattle.model.specs.State.{nowhere, state, withPlaces}
 use Rattle.model.specs.Picture.{painting}
 use Rattle.model.proofs.Keep.{chosen}
-use Rattle.paint.specs.Painted.{Visible}
+use Rattle.paint.specs.Shown.{Visible}
 use Rattle.serving.proofs.finish.Statement.{statement}
 use Rattle.serving.proofs.finish.Tie as tie
 

@@ -29,8 +29,8 @@ count-requires c κs =
     let entry = place .before .before .before .before .before .before .before in
     countable _ _ _ _ _ _ (head .loop .inv) (c .before .loop-test .taken) (c .read-at .result) (c .read-at .ensures) (omega (arith, head .loop .inv .going .same-size, entry .good .1 .1 .1 .1 .1 .1 .0))
 
-act-requires : tie.Need-act-requires Inv-loop μ-loop
-act-requires c κs =
+obey-item-requires : tie.Need-obey-item-requires Inv-loop μ-loop
+obey-item-requires c κs =
     let read = c .before .before .before .before in
     let head = read .before .before in
     (head .loop .inv .ready, (marks-are _ _ _ _ _ _ (head .loop .inv), offered _ _ _ _ _ _ (head .loop .inv) (read .before .loop-test .taken) (read .read-at .result) (read .read-at .ensures)))
@@ -44,7 +44,7 @@ loop-less c =
     let counted = moved .before .before .before .before in
     let read = counted .before in
     let head = read .before .before in
-    let more : head .loop .at < moved .act .result .at = further _ _ _ _ _ _ (head .loop .inv) (read .before .loop-test .taken) (read .read-at .result) (read .read-at .ensures) (moved .act .ensures) (known .bare-after .ensures) (wiped .wipe-after .ensures) (counted .count .ensures) in
+    let more : head .loop .at < moved .obey-item .result .at = further _ _ _ _ _ _ (head .loop .inv) (read .before .loop-test .taken) (read .read-at .result) (read .read-at .ensures) (moved .obey-item .ensures) (known .bare-after .ensures) (wiped .wipe-after .ensures) (counted .count .ensures) in
     omega (arith, more, read .before .loop-test .taken)
 
 loop-again : tie.Need-loop-again Inv-loop μ-loop
@@ -55,7 +55,7 @@ loop-again c =
     let counted = moved .before .before .before .before in
     let read = counted .before in
     let head = read .before .before in
-    acted _ _ _ _ _ _ (head .loop .inv) (read .before .loop-test .taken) (read .read-at .result) (read .read-at .ensures) (moved .act .ensures) (known .bare-after .ensures) (wiped .wipe-after .ensures) (counted .count .ensures)
+    acted _ _ _ _ _ _ (head .loop .inv) (read .before .loop-test .taken) (read .read-at .result) (read .read-at .ensures) (moved .obey-item .ensures) (known .bare-after .ensures) (wiped .wipe-after .ensures) (counted .count .ensures)
     (sym (c .before .stays .ensures) ∙ c .if1 .taken)
 
 -- one that does not
@@ -72,7 +72,7 @@ apply-requires c κs =
     let counted = moved .before .before .before .before in
     let read = counted .before in
     let head = read .before .before in
-    applying _ _ _ _ _ _ (head .loop .inv) (read .before .loop-test .taken) (read .read-at .result) (read .read-at .ensures) (moved .act .ensures) (known .bare-after .ensures) (wiped .wipe-after .ensures) (counted .count .ensures)
+    applying _ _ _ _ _ _ (head .loop .inv) (read .before .loop-test .taken) (read .read-at .result) (read .read-at .ensures) (moved .obey-item .ensures) (known .bare-after .ensures) (wiped .wipe-after .ensures) (counted .count .ensures)
     (sym (stays .before .stays .ensures) ∙ stays .if1 .left) (back .placed .ensures)
 
 selected-place-requires-2 : tie.Need-selected-place-requires-2 Inv-loop μ-loop
@@ -86,7 +86,7 @@ selected-place-requires-2 c κs =
     let counted = moved .before .before .before .before in
     let read = counted .before in
     let head = read .before .before in
-    chosen _ (good _ _ _ _ _ _ (head .loop .inv) (read .before .loop-test .taken) (read .read-at .result) (read .read-at .ensures) (moved .act .ensures) (known .bare-after .ensures) (wiped .wipe-after .ensures) (counted .count .ensures)
+    chosen _ (good _ _ _ _ _ _ (head .loop .inv) (read .before .loop-test .taken) (read .read-at .result) (read .read-at .ensures) (moved .obey-item .ensures) (known .bare-after .ensures) (wiped .wipe-after .ensures) (counted .count .ensures)
     (sym (stays .before .stays .ensures) ∙ stays .if1 .left) (back .placed .ensures) (done .apply .ensures) .sound)
 
 frame-of-requires-2 : tie.Need-frame-of-requires-2 Inv-loop μ-loop
@@ -100,7 +100,7 @@ frame-of-requires-2 c κs =
     let counted = moved .before .before .before .before in
     let read = counted .before in
     let head = read .before .before in
-    good _ _ _ _ _ _ (head .loop .inv) (read .before .loop-test .taken) (read .read-at .result) (read .read-at .ensures) (moved .act .ensures) (known .bare-after .ensures) (wiped .wipe-after .ensures) (counted .count .ensures)
+    good _ _ _ _ _ _ (head .loop .inv) (read .before .loop-test .taken) (read .read-at .result) (read .read-at .ensures) (moved .obey-item .ensures) (known .bare-after .ensures) (wiped .wipe-after .ensures) (counted .count .ensures)
     (sym (stays .before .stays .ensures) ∙ stays .if1 .left) (back .placed .ensures) (done .apply .ensures) .sound
 
 loop-less-2 : tie.Need-loop-less-2 Inv-loop μ-loop
@@ -111,7 +111,7 @@ loop-less-2 c =
     let counted = moved .before .before .before .before in
     let read = counted .before in
     let head = read .before .before in
-    let more : head .loop .at < moved .act .result .at = further _ _ _ _ _ _ (head .loop .inv) (read .before .loop-test .taken) (read .read-at .result) (read .read-at .ensures) (moved .act .ensures) (known .bare-after .ensures) (wiped .wipe-after .ensures) (counted .count .ensures) in
+    let more : head .loop .at < moved .obey-item .result .at = further _ _ _ _ _ _ (head .loop .inv) (read .before .loop-test .taken) (read .read-at .result) (read .read-at .ensures) (moved .obey-item .ensures) (known .bare-after .ensures) (wiped .wipe-after .ensures) (counted .count .ensures) in
     omega (arith, more, read .before .loop-test .taken)
 
 loop-again-2 : tie.Need-loop-again-2 Inv-loop μ-loop
@@ -126,7 +126,7 @@ loop-again-2 c =
     let counted = moved .before .before .before .before in
     let read = counted .before in
     let head = read .before .before in
-    changed _ _ _ _ _ _ (head .loop .inv) (read .before .loop-test .taken) (read .read-at .result) (read .read-at .ensures) (moved .act .ensures) (known .bare-after .ensures) (wiped .wipe-after .ensures) (counted .count .ensures)
+    changed _ _ _ _ _ _ (head .loop .inv) (read .before .loop-test .taken) (read .read-at .result) (read .read-at .ensures) (moved .obey-item .ensures) (known .bare-after .ensures) (wiped .wipe-after .ensures) (counted .count .ensures)
     (sym (stays .before .stays .ensures) ∙ stays .if1 .left) (back .placed .ensures) (done .apply .ensures) (place .selected-place2 .ensures) (c .frame-of2 .ensures)
 
 -- the end
@@ -168,7 +168,7 @@ serve-spec =
     (λ c κs. (c .loop-test .taken, c .before .loop .inv .short))
     count-requires
     (λ c. search (needs, marks-are _ _ _ _ _ _ (c .before .before .before .before .before .before .loop .inv)))
-    act-requires
+    obey-item-requires
     (λ c κs. tt)
     (λ c κs. c .before .before .before .before .before .before .before .before .before .before .before .before .before .before .before .loop .inv .going .good .dots-are)
     (λ c κs. tt)

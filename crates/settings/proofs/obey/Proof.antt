@@ -10,12 +10,13 @@ use Rattle.model.specs.Checks.{member}
 use Rattle.model.specs.OnScreen.{onScreen?}
 use Rattle.model.specs.Rules.{obeyed, flagged, withDots, withSettings, emptied, withLayer, modeSet}
 use Rattle.model.proofs.Cases.{ranged}
-use Rattle.settings.specs.Obey.{settled}
+use Rattle.values.specs.Setting.{settled}
 use Rattle.settings.proofs.Arm.{arm}
 use Rattle.settings.proofs.Drawings.{drawable, stroked}
-use Rattle.settings.proofs.Displays.{display-stays}
-use Rattle.settings.proofs.Idle.{awake-as, storeless, two-screens}
-use Rattle.settings.proofs.Parts.{stands}
+use Rattle.modes.proofs.Displays.{display-stays}
+use Rattle.values.proofs.Idle.{awake-as}
+use Rattle.settings.proofs.Idle.{storeless, two-screens}
+use Rattle.modes.proofs.Parts.{stands}
 use Rattle.settings.proofs.obey.Statement.{statement}
 use Rattle.settings.proofs.obey.Tie as tie
 

@@ -12,8 +12,9 @@ use Rattle.model.specs.OnScreen.{onScreen?}
 use Rattle.model.specs.Rules.{obeyed, withSettings, withKindPatterns}
 use Rattle.model.proofs.Tests.{differ}
 use Rattle.model.proofs.Cases.{ranged}
-use Rattle.settings.specs.Obey.{settled}
-use Rattle.settings.proofs.Idle.{awake-as, no-pattern}
+use Rattle.values.specs.Setting.{settled}
+use Rattle.values.proofs.Idle.{awake-as}
+use Rattle.settings.proofs.Idle.{no-pattern}
 use Rattle.settings.proofs.Rows.{taken-listed}
 use Rattle.settings.proofs.store_pattern.Statement.{statement}
 use Rattle.settings.proofs.store_pattern.Tie as tie

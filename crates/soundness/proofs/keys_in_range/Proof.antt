@@ -1,6 +1,6 @@
 -- The comparisons are those of the ranges; the arrays are as long as their types say.
 use borrow.Author.Needs.{needs}
-use Rattle.line.proofs.Arrays.{unmapped}
+use Rattle.unfinished.proofs.Arrays.{unmapped}
 use Rattle.soundness.proofs.Chains.{stored}
 use Rattle.soundness.proofs.keys_in_range.Statement.{statement}
 use Rattle.soundness.proofs.keys_in_range.Tie as tie

@@ -4,7 +4,7 @@ use native.Mathlib.Omega.{arith}
 use mathlib.Core.Bool.{_&&_}
 use lib.ListN.{length}
 use borrow.Author.Needs.{needs}
-use Rattle.line.proofs.Arrays.{unmapped}
+use Rattle.unfinished.proofs.Arrays.{unmapped}
 use Rattle.model.specs.Marks.{markOf}
 use Rattle.model.specs.Screens.{linesOf}
 use Rattle.model.specs.Sound.{marks?}

@@ -1,7 +1,7 @@
 -- The comparisons are those of the ranges; the arrays are as long as their types say.
 use mathlib.Core.Path.{_≡_}
 use lib.ListN.{length}
-use Rattle.line.proofs.Arrays.{unmapped}
+use Rattle.unfinished.proofs.Arrays.{unmapped}
 use Rattle.soundness.proofs.Arrays.{arrays}
 use Rattle.soundness.proofs.Chains.{plain-of}
 use Rattle.soundness.proofs.stored.Statement.{statement}

@@ -11,7 +11,7 @@ returns c =
     let done = c .before .before in
     let test = done .before .before in
     let a = test .before .before .before .before .args in
-    done .act .ensures (a .p .v) refl ∙ put-on (a .p .v) (a .p .h) (a .dots .now) (omega (arith, test .if1 .taken))
+    done .change-dot .ensures (a .p .v) refl ∙ put-on (a .p .v) (a .p .h) (a .dots .now) (omega (arith, test .if1 .taken))
 
 returns-2 : tie.Need-returns-2
 returns-2 c =
@@ -19,7 +19,7 @@ returns-2 c =
     let test = done .before .before in
     let s = test .before .before .before .before in
     let a = s .args in
-    done .act2 .ensures (a .p .v) refl ∙ put-off (a .p .v) (a .p .h) (a .dots .now) (omega (arith, test .if1 .left, s .pre .1 .0))
+    done .change-dot2 .ensures (a .p .v) refl ∙ put-off (a .p .v) (a .p .h) (a .dots .now) (omega (arith, test .if1 .left, s .pre .1 .0))
 
 pub put-dot-spec : {M : Type 1} → statement M
 put-dot-spec =

@@ -9,7 +9,7 @@ returns c =
     let done = c .before .before in
     let test = done .before .before in
     let a = test .before .before .before .args in
-    λ v e. stepped-on (a .function) (a .mask) (a .at .k) v (a .at .h) (a .dots .now) (test .before .mask-bit .ensures) (test .if1 .taken) (done .act .ensures v e)
+    λ v e. stepped-on (a .function) (a .mask) (a .at .k) v (a .at .h) (a .dots .now) (test .before .mask-bit .ensures) (test .if1 .taken) (done .change-dot .ensures v e)
 
 returns-2 : tie.Need-returns-2
 returns-2 c =

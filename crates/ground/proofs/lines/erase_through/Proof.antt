@@ -22,4 +22,4 @@ erase-through-spec =
     (λ c. search needs)
     (λ c. search needs)
     (λ c. search needs)
-    (λ c. let entry = c .before .before .before .before .before .before .before .before .before .before .before .before .before .before .before .before .before .before in erased-acts (entry .pre .1 .0) (entry .args .to) (omega (arith, c .before .before .before .before .before .before .before .before .before .before .before .before .before .times .ensures .0, c .before .before .before .before .before .before .before .before .before .before .before .before .wide .ensures, c .before .before .before .before .before .before .before .before .before .before .before .wide2 .ensures)) (c .before .before .before .before .before .before .before .before .blank-from .ensures) (c .before .before .unmark .ensures)))
+    (λ c. let entry = c .before .before .before .before .before .before .before .before .before .before .before .before .before .before .before .before .before .before in erased-acts (entry .pre .1 .0) (entry .args .to) (omega (arith, c .before .before .before .before .before .before .before .before .before .before .before .before .before .times .ensures .0, c .before .before .before .before .before .before .before .before .before .before .before .before .as-size .ensures, c .before .before .before .before .before .before .before .before .before .before .before .as-size2 .ensures)) (c .before .before .before .before .before .before .before .before .blank-from .ensures) (c .before .before .unmark .ensures)))

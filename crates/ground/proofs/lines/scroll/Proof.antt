@@ -26,7 +26,7 @@ scroll-spec =
     let sizes = way .before .before .before .before .before in
     let start = sizes .before .before .before .before .before .before in
     rw (way .if1 .taken)
-    (lines-move (search needs) (way .before .before .before .empty .ensures) _ _ scrolledDown length-down (start .pre .1 .1) (sizes .before .before .before .times .ensures .0) (sizes .before .times2 .ensures .0) (sizes .wide .ensures) (done .scroll-down .ensures)))
+    (lines-move (search needs) (way .before .before .before .empty .ensures) _ _ scrolledDown length-down (start .pre .1 .1) (sizes .before .before .before .times .ensures .0) (sizes .before .times2 .ensures .0) (sizes .as-size .ensures) (done .scroll-down .ensures)))
     (λ c. search needs)
     (λ c. search needs)
     (λ c. let done = c .before .before in
@@ -34,4 +34,4 @@ scroll-spec =
     let sizes = way .before .before .before .before .before in
     let start = sizes .before .before .before .before .before .before in
     rw (way .if1 .left)
-    (lines-move (search needs) (way .before .before .before .empty .ensures) _ _ scrolledUp length-up (start .pre .1 .1) (sizes .before .before .before .times .ensures .0) (sizes .before .times2 .ensures .0) (sizes .wide .ensures) (done .scroll-up .ensures))))
+    (lines-move (search needs) (way .before .before .before .empty .ensures) _ _ scrolledUp length-up (start .pre .1 .1) (sizes .before .before .before .times .ensures .0) (sizes .before .times2 .ensures .0) (sizes .as-size .ensures) (done .scroll-up .ensures))))

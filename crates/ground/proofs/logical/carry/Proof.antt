@@ -20,7 +20,7 @@ carry-spec =
     (λ c. search needs)
     (λ c. search needs)
     (λ c. let done = c .before .before in let way = done .before .before in let a = way .before .before .before .before .before .args in
-    rw (way .if1 .taken) (down-made (a .from) (a .count) (done .scroll-down .ensures) (way .before .wide2 .ensures) (omega arith) (omega arith) (omega arith) (omega arith)))
+    rw (way .if1 .taken) (down-made (a .from) (a .count) (done .scroll-down .ensures) (way .before .as-size2 .ensures) (omega arith) (omega arith) (omega arith) (omega arith)))
     (λ c. search needs)
     (λ c. let done = c .before .before in let way = done .before .before in let a = way .before .before .before .before .before .args in
-    rw (way .if1 .left) (up-made (a .from) (a .count) (done .scroll-up .ensures) (way .before .wide2 .ensures) (omega arith) (omega arith) (omega arith) (omega arith) (omega arith))))
+    rw (way .if1 .left) (up-made (a .from) (a .count) (done .scroll-up .ensures) (way .before .as-size2 .ensures) (omega arith) (omega arith) (omega arith) (omega arith) (omega arith))))

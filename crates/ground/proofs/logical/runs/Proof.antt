@@ -11,4 +11,4 @@ runs-spec =
     (λ c κs. search needs)
     (λ c. search needs)
     (λ c. search needs)
-    (λ c. rw (c .before .before .before .wide .ensures)))
+    (λ c. rw (c .before .before .before .as-size .ensures)))

@@ -17,4 +17,4 @@ unmark-spec =
     (λ c κs. search needs)
     (λ c κs. search needs)
     (λ c. search needs)
-    (λ c. let a = c .before .before .before .before .before .before .before .before .args in unmark-made (a .from) (a .to) (c .before .before .before .before .wide2 .result) (c .before .before .zero .ensures) (omega arith) (omega arith) (omega arith) (omega arith) (omega arith) (omega arith)))
+    (λ c. let a = c .before .before .before .before .before .before .before .before .args in unmark-made (a .from) (a .to) (c .before .before .before .before .as-size2 .result) (c .before .before .zero .ensures) (omega arith) (omega arith) (omega arith) (omega arith) (omega arith) (omega arith)))

@@ -8,7 +8,7 @@ use Rattle.ground.proofs.marks.empty_from.Tie as tie
 returns-2 : tie.Need-returns-2
 returns-2 c =
     let s = c .before .before .before .before .before .before .before .before .before .before .before .before in
-    let n = c .before .before .before .before .before .before .before .before .least in
+    let n = c .before .before .before .before .before .before .before .before .lesser in
     c .before .before .zero2 .ensures ∙ rw (c .before .before .before .before .before .before .zero .ensures) (unmarked-put (s .args .count) (s .args .shown) (s .args .layer .now) (c .before .before .before .before .before .before .before .before .before .if2 .taken) (s .pre .size) (n .ensures))
 
 pub empty-from-spec : {M : Type 1} → statement M

@@ -1,0 +1,15 @@
+-- `decoding::byte` meets its contract: past the end the list gives its default.
+use mathlib.Core.Path.{sym}
+use denote.Ref.{now}
+use lib.ListN.{List·getD-eq-default}
+use borrow.Author.Needs.{needs}
+use Rattle.decoding.proofs.byte.Statement.{statement}
+use Rattle.decoding.proofs.byte.Tie as tie
+
+pub byte-spec : {M : Type 1} → statement M
+byte-spec =
+    tie.close
+    (tie.spec
+    (λ c. search needs)
+    (λ c. search needs)
+    (λ c. sym (List·getD-eq-default (now (c .before .args .bytes)) 0 (c .if1 .left))))

@@ -1,0 +1,3 @@
+pub mod Curve
+pub mod Drawing
+pub mod Seen

@@ -1,0 +1,4 @@
+pub mod Sizes
+pub mod OpeningTests
+pub mod MessageTests
+pub mod KeyTests

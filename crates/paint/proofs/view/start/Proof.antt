@@ -1,7 +1,0 @@
--- `start`: the row lies among the cells, so its first cell does.
-use borrow.Author.Needs.{needs}
-use Rattle.paint.proofs.view.start.Statement.{statement}
-use Rattle.paint.proofs.view.start.Tie as tie
-
-pub start-spec : {M : Type 1} → statement M
-start-spec = tie.close (tie.spec (λ c. search needs) (λ c. search needs) (λ c. record { starts = search needs; inside = search needs }))

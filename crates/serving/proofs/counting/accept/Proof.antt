@@ -1,8 +1,0 @@
--- One accepted sequence more, and its printer bytes.
-use mathlib.Core.Path.{refl}
-use borrow.Author.Needs.{needs}
-use Rattle.serving.proofs.counting.accept.Statement.{statement}
-use Rattle.serving.proofs.counting.accept.Tie as tie
-
-pub accept-spec : {M : Type 1} → statement M
-accept-spec = tie.close (tie.spec (λ c. search needs) (λ c. search needs) (λ c. refl))

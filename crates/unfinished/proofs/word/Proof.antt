@@ -1,0 +1,17 @@
+-- Four bytes fit a number.
+use mathlib.Core.Path.{refl}
+use borrow.Author.Needs.{needs}
+use Rattle.unfinished.proofs.word.Statement.{statement}
+use Rattle.unfinished.proofs.word.Tie as tie
+
+pub word-spec : {M : Type 1} → statement M
+word-spec =
+    tie.close
+    (tie.spec
+    (λ c. search needs)
+    (λ c. search needs)
+    (λ c. search needs)
+    (λ c. search needs)
+    (λ c. search needs)
+    (λ c. search needs)
+    (λ c. refl))

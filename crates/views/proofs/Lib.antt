@@ -1,0 +1,4 @@
+pub mod Painted
+pub mod Runs
+pub mod Windows
+pub mod Views
