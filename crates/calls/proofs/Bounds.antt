@@ -14,7 +14,7 @@ use Rattle.model.specs.State.{State}
 use Rattle.model.specs.Judging.{limitsOf}
 use Rattle.model.specs.Reading.{Read, uncut}
 use Rattle.model.specs.Items.{blankAnswer, counted, countedAll, obeyedBy, read, readsOf}
-use Rattle.calls.specs.Calls.{Promised, Request, Terminal, accepted, answerOf, called, itemBytes, message, numberOf, readsBy, readsIn, request, startOf, takenIn}
+use Rattle.calls.specs.Calls.{Promised, Request, Terminal, granted, answerOf, called, itemBytes, message, numberOf, readsBy, readsIn, request, startOf, takenIn}
 use Rattle.model.proofs.Tests.{cond-at}
 use Rattle.calls.proofs.CallLaws.{refused-answer}
 use Rattle.model.proofs.Gathering.{AllSome, joined-uncut, none, some, some-uncut}
@@ -68,18 +68,18 @@ module _ (m : List ℕ) (t : Terminal) (room : ℕ) where
 
   few-answer : answerOf t q .accepted + answerOf t q .refused ≤ length m
   unfolding answerOf readsIn readsBy itemBytes startOf countedAll
-  few-answer = cond-at (λ (rs : List Read). countedAll rs none-yet .accepted + countedAll rs none-yet .refused ≤ length m) (accepted t q) (readsBy t q) []
+  few-answer = cond-at (λ (rs : List Read). countedAll rs none-yet .accepted + countedAll rs none-yet .refused ≤ length m) (granted t q) (readsBy t q) []
       (λ e. omega (arith, few-all (some-uncut m) 0 (t .state) room none-yet, ap length (joined-uncut m))) (λ e. omega arith)
 
   near-answer : answerOf t q .offset ≤ length m
   unfolding answerOf readsIn readsBy itemBytes startOf countedAll
-  near-answer = cond-at (λ (rs : List Read). countedAll rs none-yet .offset ≤ length m) (accepted t q) (readsBy t q) []
+  near-answer = cond-at (λ (rs : List Read). countedAll rs none-yet .offset ≤ length m) (granted t q) (readsBy t q) []
       (λ e. near-all (uncut m) 0 (t .state) room none-yet (length m) (omega (arith, ap length (joined-uncut m))) (omega arith)) (λ e. omega arith)
 
   taken-few : answerOf t q .taken ≤ length m
-  taken-few = go (accepted t q) refl
+  taken-few = go (granted t q) refl
     where
-      go : (x : Bool) → accepted t q ≡ x → answerOf t q .taken ≤ length m
+      go : (x : Bool) → granted t q ≡ x → answerOf t q .taken ≤ length m
       go true e = omega (arith, taken-is t q e)
       go false e = omega (arith, ap (λ (x : Answer). x .taken) (refused-answer t q e))
 

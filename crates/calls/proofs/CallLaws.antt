@@ -23,7 +23,7 @@ use Rattle.model.specs.Records.{uncut?}
 use Rattle.calls.specs.Packs.{readsEach, recordFrom}
 use Rattle.calls.specs.Repaint.{painted?, repainted, shownBehind}
 use Rattle.model.specs.Items.{Event, applyAll, blankAnswer, copies, counted, countedAll, eventsOf, readsOf}
-use Rattle.calls.specs.Calls.{Asked, Call, Promised, Reason, Request, Terminal, accepted, allFree, answerOf, besideItems, closing, countable, eventsBy, eventsIn, firstOf, keyText, knownIn, message, noneWaits, numberOf, ownReasons, pack, packable, packed?, packedBy, paints?, piece, printedBy, quick, quick?, readsBy, readsIn, reason, reasons, recordOf, request, requestOf, served, short, shortIn, shownAfter, sized, soundIn, takenBy, takenIn, terminal}
+use Rattle.calls.specs.Calls.{Asked, Call, Promised, Reason, Request, Terminal, granted, allFree, answerOf, besideItems, closing, countable, eventsBy, eventsIn, firstOf, keyText, knownIn, message, noneWaits, numberOf, ownReasons, pack, packable, packed?, packedBy, paints?, piece, printedBy, short, short?, readsBy, readsIn, reason, reasons, recordOf, request, requestOf, served, sendable, sendableIn, shownAfter, sized, soundIn, takenBy, takenIn, terminal}
 use Rattle.model.specs.Keyable.{keyable}
 use Rattle.calls.specs.Opening.{openedBy, openedTerminal, openingNumber, ruled, unopened}
 use Rattle.calls.specs.Claims.{Shown}
@@ -35,7 +35,7 @@ use Rattle.model.proofs.MarkLaws.{none-marked}
 use Rattle.model.proofs.SoundLaws.{sound-true, true-sound}
 use Rattle.model.proofs.Events.{AllLegal, events-append, legal-append, legal-reads}
 use Rattle.model.proofs.Gathering.{none-unfinished}
-use Rattle.calls.proofs.Printing.{printed-reads, reads-accepted, reads-either}
+use Rattle.calls.proofs.Printing.{printed-reads, reads-granted, reads-either}
 use Rattle.calls.proofs.ByRows.{below, byRows, overlaid, row, rowsFrom}
 use Rattle.calls.proofs.PaintLaws.{painted-by-rows}
 
@@ -54,9 +54,9 @@ free-at [] i e = refl
 free-at (r ∷ rs) zero e = and-left (r .free) (allFree rs) e
 free-at (r ∷ rs) (suc i) e = free-at rs i (and-right (r .free) (allFree rs) e)
 
-pub number-accepted : (t : Terminal) (q : Request) → accepted t q ≡ true → numberOf t q ≡ 0
-unfolding accepted numberOf
-number-accepted t q e = free-number (reasons t (q .asked)) e
+pub number-granted : (t : Terminal) (q : Request) → granted t q ≡ true → numberOf t q ≡ 0
+unfolding granted numberOf
+number-granted t q e = free-number (reasons t (q .asked)) e
 
 -- no reason's number is 0
 abbrev Numbered : List Reason → Type 0
@@ -78,36 +78,36 @@ numbered-reasons t (message m) = (omega arith, (omega arith, (omega arith, (omeg
 numbered-reasons t (piece m) = (omega arith, (omega arith, (omega arith, (omega arith, tt))))
 numbered-reasons t closing = (omega arith, (omega arith, tt))
 numbered-reasons t (keyText k x) = (omega arith, (omega arith, tt))
-numbered-reasons t (quick m) = (omega arith, (omega arith, (omega arith, (omega arith, tt))))
+numbered-reasons t (short m) = (omega arith, (omega arith, (omega arith, (omega arith, tt))))
 numbered-reasons t (pack p) = (omega arith, (omega arith, (omega arith, (omega arith, (omega arith, (omega arith, (omega arith, tt)))))))
 
-pub accepted-number : (t : Terminal) (q : Request) → numberOf t q ≡ 0 → accepted t q ≡ true
-unfolding accepted numberOf
-accepted-number t q e = number-free (reasons t (q .asked)) (numbered-reasons t (q .asked)) e
+pub granted-number : (t : Terminal) (q : Request) → numberOf t q ≡ 0 → granted t q ≡ true
+unfolding granted numberOf
+granted-number t q e = number-free (reasons t (q .asked)) (numbered-reasons t (q .asked)) e
 
-pub refused-number : (t : Terminal) (q : Request) → (numberOf t q ≡ 0 → ⊥) → accepted t q ≡ false
-refused-number t q n = go (accepted t q) refl
+pub refused-number : (t : Terminal) (q : Request) → (numberOf t q ≡ 0 → ⊥) → granted t q ≡ false
+refused-number t q n = go (granted t q) refl
   where
-    go : (b : Bool) → accepted t q ≡ b → accepted t q ≡ false
-    go true e = absurd (n (number-accepted t q e))
+    go : (b : Bool) → granted t q ≡ b → granted t q ≡ false
+    go true e = absurd (n (number-granted t q e))
     go false e = e
 
 -- of a refused call: "the settings given, zero counts, its number, and every store unaltered"
-pub refused-leaves : (t : Terminal) (q : Request) → accepted t q ≡ false → served t q ≡ t
+pub refused-leaves : (t : Terminal) (q : Request) → granted t q ≡ false → served t q ≡ t
 unfolding served eventsIn shownAfter applyAll
 refused-leaves t q e =
-    ap (λ (b : Bool). let st = applyAll (cond b (eventsBy t q) []) (t .state) in terminal (st .settings) (st .cells) (st .layer) (st .dots) (cond (b && paints? (q .asked)) (painting st) (cond (b && quick? (q .asked)) (shownBehind (readsBy t q) (t .state) st (t .shown)) (t .shown)))) e
+    ap (λ (b : Bool). let st = applyAll (cond b (eventsBy t q) []) (t .state) in terminal (st .settings) (st .cells) (st .layer) (st .dots) (cond (b && paints? (q .asked)) (painting st) (cond (b && short? (q .asked)) (shownBehind (readsBy t q) (t .state) st (t .shown)) (t .shown)))) e
 
-pub refused-answer : (t : Terminal) (q : Request) → accepted t q ≡ false → answerOf t q ≡ blankAnswer (numberOf t q) 0
+pub refused-answer : (t : Terminal) (q : Request) → granted t q ≡ false → answerOf t q ≡ blankAnswer (numberOf t q) 0
 unfolding answerOf readsIn takenIn countedAll
 refused-answer t q e = ap (λ (b : Bool). countedAll (cond b (readsBy t q) []) (blankAnswer (numberOf t q) (cond b (takenBy (q .asked)) 0))) e
 
-pub refused-prints : (t : Terminal) (q : Request) → accepted t q ≡ false → printedBy t q ≡ []
+pub refused-prints : (t : Terminal) (q : Request) → granted t q ≡ false → printedBy t q ≡ []
 unfolding printedBy eventsIn copies
 refused-prints t q e = ap (λ (b : Bool). copies (cond b (eventsBy t q) []) (t .state)) e
 
 -- P6: and no record; nor has one that is no pack
-pub refused-record : (t : Terminal) (q : Request) → accepted t q ≡ false → recordOf t q ≡ 0
+pub refused-record : (t : Terminal) (q : Request) → granted t q ≡ false → recordOf t q ≡ 0
 unfolding recordOf
 refused-record t q e = ap (λ (b : Bool). cond (packed? (q .asked) && b) (recordFrom 1 (packedBy (q .asked)) (t .state) (q .room)) 0) e ∙ go (packed? (q .asked))
   where
@@ -117,29 +117,29 @@ refused-record t q e = ap (λ (b : Bool). cond (packed? (q .asked) && b) (record
 
 pub plain-record : (t : Terminal) (q : Request) → packed? (q .asked) ≡ false → recordOf t q ≡ 0
 unfolding recordOf
-plain-record t q e = ap (λ (b : Bool). cond (b && accepted t q) (recordFrom 1 (packedBy (q .asked)) (t .state) (q .room)) 0) e
+plain-record t q e = ap (λ (b : Bool). cond (b && granted t q) (recordFrom 1 (packedBy (q .asked)) (t .state) (q .room)) 0) e
 
 -- of an accepted call
 unfoldable pub after : Terminal → Request → Terminal
 after t q =
     let st = applyAll (eventsBy t q) (t .state) in
-    record { state = st; shown = cond (paints? (q .asked)) (painting st) (cond (quick? (q .asked)) (shownBehind (readsBy t q) (t .state) st (t .shown)) (t .shown)) }
+    record { state = st; shown = cond (paints? (q .asked)) (painting st) (cond (short? (q .asked)) (shownBehind (readsBy t q) (t .state) st (t .shown)) (t .shown)) }
 
-pub accepted-leaves : (t : Terminal) (q : Request) → accepted t q ≡ true → served t q ≡ after t q
+pub granted-leaves : (t : Terminal) (q : Request) → granted t q ≡ true → served t q ≡ after t q
 unfolding served eventsIn shownAfter after
-accepted-leaves t q e =
-    ap (λ (b : Bool). let st = applyAll (cond b (eventsBy t q) []) (t .state) in terminal (st .settings) (st .cells) (st .layer) (st .dots) (cond (b && paints? (q .asked)) (painting st) (cond (b && quick? (q .asked)) (shownBehind (readsBy t q) (t .state) st (t .shown)) (t .shown)))) e
+granted-leaves t q e =
+    ap (λ (b : Bool). let st = applyAll (cond b (eventsBy t q) []) (t .state) in terminal (st .settings) (st .cells) (st .layer) (st .dots) (cond (b && paints? (q .asked)) (painting st) (cond (b && short? (q .asked)) (shownBehind (readsBy t q) (t .state) st (t .shown)) (t .shown)))) e
 
-pub accepted-painted : (t : Terminal) (q : Request) → accepted t q ≡ true → paints? (q .asked) ≡ true → let st = applyAll (eventsBy t q) (t .state) in served t q ≡ record { state = st; shown = painting st }
+pub granted-painted : (t : Terminal) (q : Request) → granted t q ≡ true → paints? (q .asked) ≡ true → let st = applyAll (eventsBy t q) (t .state) in served t q ≡ record { state = st; shown = painting st }
 unfolding after
-accepted-painted t q e f = accepted-leaves t q e ∙ (λ i. let st = applyAll (eventsBy t q) (t .state) in record { state = st; shown = cond (f i) (painting st) (cond (quick? (q .asked)) (shownBehind (readsBy t q) (t .state) st (t .shown)) (t .shown)) })
+granted-painted t q e f = granted-leaves t q e ∙ (λ i. let st = applyAll (eventsBy t q) (t .state) in record { state = st; shown = cond (f i) (painting st) (cond (short? (q .asked)) (shownBehind (readsBy t q) (t .state) st (t .shown)) (t .shown)) })
 
-pub accepted-answer : (t : Terminal) (q : Request) → accepted t q ≡ true → answerOf t q ≡ countedAll (readsBy t q) (blankAnswer 0 (takenBy (q .asked)))
+pub granted-answer : (t : Terminal) (q : Request) → granted t q ≡ true → answerOf t q ≡ countedAll (readsBy t q) (blankAnswer 0 (takenBy (q .asked)))
 unfolding answerOf readsIn takenIn
-accepted-answer t q e = (λ i. countedAll (cond (e i) (readsBy t q) []) (blankAnswer (number-accepted t q e i) (cond (e i) (takenBy (q .asked)) 0)))
+granted-answer t q e = (λ i. countedAll (cond (e i) (readsBy t q) []) (blankAnswer (number-granted t q e i) (cond (e i) (takenBy (q .asked)) 0)))
 
-pub accepted-prints : (t : Terminal) (q : Request) → accepted t q ≡ true → printedBy t q ≡ copies (eventsOf (readsBy t q)) (t .state)
-accepted-prints t q e = printed-reads t q ∙ ap (λ (rs : List Read). copies (eventsOf rs) (t .state)) (reads-accepted t q e)
+pub granted-prints : (t : Terminal) (q : Request) → granted t q ≡ true → printedBy t q ≡ copies (eventsOf (readsBy t q)) (t .state)
+granted-prints t q e = printed-reads t q ∙ ap (λ (rs : List Read). copies (eventsOf rs) (t .state)) (reads-granted t q e)
 
 -- counting leaves the number
 counted-number : (i : Item) (at n : ℕ) (a : Answer) → counted i at n a .number ≡ a .number
@@ -167,8 +167,8 @@ state-served t q = refl
 
 -- an accepted call was given sound settings, and, but for a key call, stores of their sizes; a piece is within the limit, a message is read
 -- while none waits, and a key and its text are what they must be
-sound-in : (t : Terminal) (q : Request) → accepted t q ≡ true → (paints? (q .asked) ≡ true → sized t ≡ true) × (soundIn t ≡ true)
-unfolding accepted reasons
+sound-in : (t : Terminal) (q : Request) → granted t q ≡ true → (paints? (q .asked) ≡ true → sized t ≡ true) × (soundIn t ≡ true)
+unfolding granted reasons
 sound-in t q e = go (q .asked) e
   where
     go : (a : Asked) → allFree (reasons t a) ≡ true → (paints? a ≡ true → sized t ≡ true) × (soundIn t ≡ true)
@@ -177,55 +177,55 @@ sound-in t q e = go (q .asked) e
     go closing e = (λ h. free-at (reasons t closing) 0 e, free-at (reasons t closing) 1 e)
     go (keyText k x) e = (λ h. absurd (differ (sym h)), free-at (reasons t (keyText k x)) 0 e)
     go (pack p) e = (λ h. free-at (reasons t (pack p)) 0 e, free-at (reasons t (pack p)) 5 e)
-    go (quick m) e = (λ h. absurd (differ (sym h)), free-at (reasons t (quick m)) 2 e)
+    go (short m) e = (λ h. absurd (differ (sym h)), free-at (reasons t (short m)) 2 e)
 
-pub accepted-sized : (t : Terminal) (q : Request) → accepted t q ≡ true → paints? (q .asked) ≡ true → sized t ≡ true
-accepted-sized t q e = sound-in t q e .0
+pub granted-sized : (t : Terminal) (q : Request) → granted t q ≡ true → paints? (q .asked) ≡ true → sized t ≡ true
+granted-sized t q e = sound-in t q e .0
 
-pub accepted-sound : (t : Terminal) (q : Request) → accepted t q ≡ true → Sound (t .state .settings)
+pub granted-sound : (t : Terminal) (q : Request) → granted t q ≡ true → Sound (t .state .settings)
 unfolding soundIn
-accepted-sound t q e = sound-true (t .state .settings) (sound-in t q e .1)
+granted-sound t q e = sound-true (t .state .settings) (sound-in t q e .1)
 
-pub accepted-counts : (t : Terminal) (m : List ℕ) (room : ℕ) → accepted t (request (piece m) room) ≡ true → t .state .settings .count + length m ≤ limit
-unfolding accepted reasons countable
-accepted-counts t m room e = leb-true _ _ (free-at (reasons t (piece m)) 3 e)
+pub granted-counts : (t : Terminal) (m : List ℕ) (room : ℕ) → granted t (request (piece m) room) ≡ true → t .state .settings .count + length m ≤ limit
+unfolding granted reasons countable
+granted-counts t m room e = leb-true _ _ (free-at (reasons t (piece m)) 3 e)
 
-pub accepted-quiet : (t : Terminal) (m : List ℕ) (room : ℕ) → accepted t (request (message m) room) ≡ true → t .state .settings .held ≡ 0
-unfolding accepted reasons noneWaits
-accepted-quiet t m room e = eqb-true _ _ (free-at (reasons t (message m)) 3 e)
+pub granted-quiet : (t : Terminal) (m : List ℕ) (room : ℕ) → granted t (request (message m) room) ≡ true → t .state .settings .held ≡ 0
+unfolding granted reasons noneWaits
+granted-quiet t m room e = eqb-true _ _ (free-at (reasons t (message m)) 3 e)
 
-pub accepted-keyable : (t : Terminal) (k : ℕ) (x : List ℕ) (room : ℕ) → accepted t (request (keyText k x) room) ≡ true → keyable k x ≡ true
-unfolding accepted reasons
-accepted-keyable t k x room e = free-at (reasons t (keyText k x)) 1 e
+pub granted-keyable : (t : Terminal) (k : ℕ) (x : List ℕ) (room : ℕ) → granted t (request (keyText k x) room) ≡ true → keyable k x ≡ true
+unfolding granted reasons
+granted-keyable t k x room e = free-at (reasons t (keyText k x)) 1 e
 
 -- P6: a pack, that all its messages are short, and that none waits
-pub accepted-pack : (t : Terminal) (p : List ℕ) (room : ℕ) → accepted t (request (pack p) room) ≡ true → (sized t ≡ true) × (shortIn p ≡ true) × (t .state .settings .held ≡ 0)
-unfolding accepted reasons noneWaits
-accepted-pack t p room e = let rs = reasons t (pack p) in (free-at rs 0 e, free-at rs 4 e, eqb-true _ _ (free-at rs 6 e))
+pub granted-pack : (t : Terminal) (p : List ℕ) (room : ℕ) → granted t (request (pack p) room) ≡ true → (sized t ≡ true) × (sendableIn p ≡ true) × (t .state .settings .held ≡ 0)
+unfolding granted reasons noneWaits
+granted-pack t p room e = let rs = reasons t (pack p) in (free-at rs 0 e, free-at rs 4 e, eqb-true _ _ (free-at rs 6 e))
 
 -- P12: a short message, the same
-pub accepted-quick : (t : Terminal) (m : List ℕ) (room : ℕ) → accepted t (request (quick m) room) ≡ true → (sized t ≡ true) × (length m ≤ 4096) × (t .state .settings .held ≡ 0)
-unfolding accepted reasons noneWaits
-accepted-quick t m room e = let rs = reasons t (quick m) in (free-at rs 0 e, leb-true _ _ (free-at rs 1 e), eqb-true _ _ (free-at rs 3 e))
+pub granted-short : (t : Terminal) (m : List ℕ) (room : ℕ) → granted t (request (short m) room) ≡ true → (sized t ≡ true) × (length m ≤ 4096) × (t .state .settings .held ≡ 0)
+unfolding granted reasons noneWaits
+granted-short t m room e = let rs = reasons t (short m) in (free-at rs 0 e, leb-true _ _ (free-at rs 1 e), eqb-true _ _ (free-at rs 3 e))
 
 -- and a message that is short is accepted while none waits
-pub message-accepted : (t : Terminal) (m : List ℕ) (room : ℕ) → sized t ≡ true → Sound (t .state .settings) → t .state .settings .held ≡ 0 → length m ≤ 4096 → accepted t (request (message m) room) ≡ true
-unfolding accepted reasons allFree soundIn noneWaits
-message-accepted t m room z s q l =
-    and-both (sized t) _ z (and-both (short m) _ (le-leb _ _ l) (and-both (soundIn t) _ (true-sound (t .state .settings) s) (and-both (eqb (t .state .settings .held) 0) true (eq-eqb _ _ q) refl)))
+pub message-granted : (t : Terminal) (m : List ℕ) (room : ℕ) → sized t ≡ true → Sound (t .state .settings) → t .state .settings .held ≡ 0 → length m ≤ 4096 → granted t (request (message m) room) ≡ true
+unfolding granted reasons allFree soundIn noneWaits
+message-granted t m room z s q l =
+    and-both (sized t) _ z (and-both (sendable m) _ (le-leb _ _ l) (and-both (soundIn t) _ (true-sound (t .state .settings) s) (and-both (eqb (t .state .settings .held) 0) true (eq-eqb _ _ q) refl)))
 
 -- what a call leaves of the line is sound, and a text that it sets has its place
-legal-moved : (t : Terminal) (a : Asked) (room : ℕ) → accepted t (request a room) ≡ true → (st : State) → AllLegal (besideItems (t .state .settings) a) st
+legal-moved : (t : Terminal) (a : Asked) (room : ℕ) → granted t (request a room) ≡ true → (st : State) → AllLegal (besideItems (t .state .settings) a) st
 unfolding besideItems
 legal-moved t (message m) room e st = tt
 legal-moved t (piece m) room e st =
     let s = t .state .settings in
     let r : List ℕ = remaining (heldIn s) m in
-    (true-line (padded r) (length r) (s .count + length m) (sound-piece (s .waiting) (s .held) (s .count) (accepted-sound t (request (piece m) room) e .line) m (accepted-counts t m room e)), tt)
+    (true-line (padded r) (length r) (s .count + length m) (sound-piece (s .waiting) (s .held) (s .count) (granted-sound t (request (piece m) room) e .line) m (granted-counts t m room e)), tt)
 legal-moved t closing room e st = (true-line (padded []) 0 0 (sound-padded [] 0 none-unfinished (omega arith) (omega arith)), tt)
-legal-moved t (keyText k x) room e st = (accepted-keyable t k x room e, tt)
+legal-moved t (keyText k x) room e st = (granted-keyable t k x room e, tt)
 legal-moved t (pack p) room e st = tt
-legal-moved t (quick m) room e st = tt
+legal-moved t (short m) room e st = tt
 
 -- what happens in a call is legal
 legal-each : (ms : List (List ℕ)) (st : State) (room : ℕ) → AllLegal (eventsOf (readsEach ms st room)) st
@@ -237,7 +237,7 @@ legal-each (m ∷ ms) st room =
 
 pub legal-in : (t : Terminal) (q : Request) → AllLegal (eventsIn t q) (t .state)
 unfolding eventsIn eventsBy
-legal-in t q = cond-at (λ (es : List Event). AllLegal es (t .state)) (accepted t q) _ _
+legal-in t q = cond-at (λ (es : List Event). AllLegal es (t .state)) (granted t q) _ _
     (λ e. legal-append (eventsOf (readsBy t q)) (besideItems (t .state .settings) (q .asked)) (t .state)
     (reads-either (λ rs. AllLegal (eventsOf rs) (t .state)) t q (λ ms. legal-each ms (t .state) (q .room)) (λ bss at. legal-reads bss at (t .state) (q .room)))
     (legal-moved t (q .asked) (q .room) e (applyAll (eventsOf (readsBy t q)) (t .state)))) (λ e. tt)
@@ -255,8 +255,8 @@ shown-painting st = record { places = length-listFrom (picture st) 0 640; each =
         getD-listFrom (picture st) 640 0 i (omega arith) ∙ ap (picture st) (zero-add i) ∙ (λ j. pictureAt st (e₁ j) (e₂ j))
 
 -- an accepted call that paints paints all of it
-pub shown-accepted : (t : Terminal) (q : Request) → accepted t q ≡ true → paints? (q .asked) ≡ true → Shown (served t q)
-shown-accepted t q e f = subst Shown (sym (accepted-painted t q e f)) (shown-painting _)
+pub shown-granted : (t : Terminal) (q : Request) → granted t q ≡ true → paints? (q .asked) ≡ true → Shown (served t q)
+shown-granted t q e f = subst Shown (sym (granted-painted t q e f)) (shown-painting _)
 
 -- a short message leaves a shown screen of its size (P12)
 length-repainted : (wide : Bool) (places : List ℕ) (st : State) (shown : List ℕ) → length (repainted wide places st shown) ≡ 640
@@ -265,8 +265,8 @@ length-repainted wide places st shown = length-listFrom (λ p. cond (painted? wi
 
 pub sized-served : (t : Terminal) (q : Request) → length (t .shown) ≡ 640 → length (served t q .shown) ≡ 640
 unfolding served painting shownAfter
-sized-served t q e = cond-at (λ (l : List ℕ). length l ≡ 640) (accepted t q && paints? (q .asked)) _ _ (λ a. length-listFrom (picture (served t q .state)) 0 640)
-    (λ a. cond-at (λ (l : List ℕ). length l ≡ 640) (accepted t q && quick? (q .asked)) _ (t .shown) (λ a. length-repainted _ _ _ (t .shown)) (λ a. e))
+sized-served t q e = cond-at (λ (l : List ℕ). length l ≡ 640) (granted t q && paints? (q .asked)) _ _ (λ a. length-listFrom (picture (served t q .state)) 0 640)
+    (λ a. cond-at (λ (l : List ℕ). length l ≡ 640) (granted t q && short? (q .asked)) _ (t .shown) (λ a. length-repainted _ _ _ (t .shown)) (λ a. e))
 
 -- which calls a good terminal accepts
 pub sized-good : (t : Terminal) → Good (t .state) → length (t .shown) ≡ 640 → sized t ≡ true
@@ -291,12 +291,12 @@ unfolding numberOf reasons ownReasons firstOf
 number-good t q g e = go (q .asked)
   where
     go : (a : Asked) → firstOf (reasons t a) ≡ firstOf (ownReasons (t .state .settings) a)
-    go (message m) = λ i. firstOf (reason 1 (sized-good t g e i) ∷ reason 2 (short m) ∷ reason 3 (sound-good t g i) ∷ reason 16 (noneWaits (t .state .settings)) ∷ [])
-    go (piece m) = λ i. firstOf (reason 1 (sized-good t g e i) ∷ reason 2 (short m) ∷ reason 3 (sound-good t g i) ∷ reason 15 (countable (t .state .settings) m) ∷ [])
+    go (message m) = λ i. firstOf (reason 1 (sized-good t g e i) ∷ reason 2 (sendable m) ∷ reason 3 (sound-good t g i) ∷ reason 16 (noneWaits (t .state .settings)) ∷ [])
+    go (piece m) = λ i. firstOf (reason 1 (sized-good t g e i) ∷ reason 2 (sendable m) ∷ reason 3 (sound-good t g i) ∷ reason 15 (countable (t .state .settings) m) ∷ [])
     go closing = λ i. firstOf (reason 1 (sized-good t g e i) ∷ reason 3 (sound-good t g i) ∷ [])
     go (keyText k x) = λ i. firstOf (reason 3 (sound-good t g i) ∷ reason 17 (keyable k x) ∷ [])
-    go (quick m) = λ i. firstOf (reason 1 (sized-good t g e i) ∷ reason 2 (short m) ∷ reason 3 (sound-good t g i) ∷ reason 16 (noneWaits (t .state .settings)) ∷ [])
-    go (pack p) = λ i. firstOf (reason 1 (sized-good t g e i) ∷ reason 19 (packable p) ∷ reason 20 (uncut? p) ∷ reason 21 (knownIn p) ∷ reason 2 (shortIn p) ∷ reason 3 (sound-good t g i) ∷ reason 16 (noneWaits (t .state .settings)) ∷ [])
+    go (short m) = λ i. firstOf (reason 1 (sized-good t g e i) ∷ reason 2 (sendable m) ∷ reason 3 (sound-good t g i) ∷ reason 16 (noneWaits (t .state .settings)) ∷ [])
+    go (pack p) = λ i. firstOf (reason 1 (sized-good t g e i) ∷ reason 19 (packable p) ∷ reason 20 (uncut? p) ∷ reason 21 (knownIn p) ∷ reason 2 (sendableIn p) ∷ reason 3 (sound-good t g i) ∷ reason 16 (noneWaits (t .state .settings)) ∷ [])
 
 -- what an accepted opening leaves, with either rule: blank, and the picture is blank
 ruled-range : (rule : ℕ) → ruled rule ≡ true → Passes (range 1 rule 2)
@@ -376,5 +376,5 @@ module _ (t : Terminal) (o : Opening t) where
 pub number-is : (c : Call) → Promised c → c .answer .number ≡ numberOf (c .given) (requestOf c)
 number-is c p = ap (λ (a : Answer). a .number) (p .answer-is) ∙ answer-number (c .given) (requestOf c)
 
-pub is-accepted : (c : Call) → Promised c → c .answer .number ≡ 0 → accepted (c .given) (requestOf c) ≡ true
-is-accepted c p e = accepted-number (c .given) (requestOf c) (sym (number-is c p) ∙ e)
+pub is-granted : (c : Call) → Promised c → c .answer .number ≡ 0 → granted (c .given) (requestOf c) ≡ true
+is-granted c p e = granted-number (c .given) (requestOf c) (sym (number-is c p) ∙ e)

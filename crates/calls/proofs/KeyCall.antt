@@ -10,10 +10,10 @@ use Rattle.model.specs.State.{withTexts}
 use Rattle.model.specs.Sound.{sound?}
 use Rattle.model.specs.Rules.{withSettings}
 use Rattle.model.specs.Items.{blankAnswer, copies, countedAll, readsOf, texted}
-use Rattle.calls.specs.Calls.{KeyPromised, Request, Terminal, accepted, allFree, firstOf, itemBytes, keyText, keyed, numberOf, readsBy, reason, reasons, request, served, soundIn, takenBy, terminal}
+use Rattle.calls.specs.Calls.{KeyPromised, Request, Terminal, granted, allFree, firstOf, itemBytes, keyText, keyed, numberOf, readsBy, reason, reasons, request, served, soundIn, takenBy, terminal}
 use Rattle.model.specs.Keyable.{keyable}
 use Rattle.model.proofs.Tests.{and-both}
-use Rattle.calls.proofs.CallLaws.{accepted-answer, accepted-prints, plain-record}
+use Rattle.calls.proofs.CallLaws.{granted-answer, granted-prints, plain-record}
 use Rattle.calls.proofs.LineAfter.{leaves-texted}
 use Rattle.calls.proofs.Promises.{promised-none}
 
@@ -29,9 +29,9 @@ module _ (k : ℕ) (x : List ℕ) (s : Settings) where
   unfolding numberOf reasons soundIn keyNumber
   number-here cells layer dots shown = refl
 
-  accepted-here : (cells layer dots shown : List ℕ) → accepted (terminal s cells layer dots shown) asked ≡ (sound? s && (keyable k x && true))
-  unfolding accepted reasons allFree soundIn
-  accepted-here cells layer dots shown = refl
+  granted-here : (cells layer dots shown : List ℕ) → granted (terminal s cells layer dots shown) asked ≡ (sound? s && (keyable k x && true))
+  unfolding granted reasons allFree soundIn
+  granted-here cells layer dots shown = refl
 
   -- served: the text in its place
   pub promised-key : (answer : Answer) (left : Settings) → sound? s ≡ true → keyable k x ≡ true
@@ -39,22 +39,22 @@ module _ (k : ℕ) (x : List ℕ) (s : Settings) where
   unfolding texted withSettings readsBy itemBytes readsOf takenBy countedAll copies written
   promised-key answer left e f l a cells layer dots shown =
       let d : Terminal = terminal s cells layer dots shown in
-      let ok : accepted d asked ≡ true = accepted-here cells layer dots shown ∙ and-both (sound? s) (keyable k x && true) e (and-both (keyable k x) true f refl) in
+      let ok : granted d asked ≡ true = granted-here cells layer dots shown ∙ and-both (sound? s) (keyable k x && true) e (and-both (keyable k x) true f refl) in
       let z : served d asked ≡ record { state = texted k x (d .state); shown = shown } = leaves-texted d k x 0 ok in
       record {
-        answer-is = a ∙ sym (accepted-answer d asked ok);
+        answer-is = a ∙ sym (granted-answer d asked ok);
         record-is = sym (plain-record d asked refl);
         settings-are = l ∙ sym (ap (λ (y : Terminal). y .state .settings) z);
         cells-are = sym (ap (λ (y : Terminal). y .state .cells) z);
         layer-is = sym (ap (λ (y : Terminal). y .state .layer) z);
         dots-are = sym (ap (λ (y : Terminal). y .state .dots) z);
         shown-is = sym (ap (λ (y : Terminal). y .shown) z);
-        printer-is = ap (λ (ys : List ℕ). written ys []) (sym (accepted-prints d asked ok));
+        printer-is = ap (λ (ys : List ℕ). written ys []) (sym (granted-prints d asked ok));
       }
 
   -- refused: "17, after 3, nothing changed"
   pub promised-key-refused : (answer : Answer) (left : Settings) → (sound? s && (keyable k x && true)) ≡ false
       → left ≡ s → answer ≡ blankAnswer keyNumber 0 → KeyPromised k x s answer left
   promised-key-refused answer left e l a cells layer dots shown =
-      promised-none (keyed k x s answer left cells layer dots shown) (accepted-here cells layer dots shown ∙ e) (λ i. terminal (l i) cells layer dots shown)
+      promised-none (keyed k x s answer left cells layer dots shown) (granted-here cells layer dots shown ∙ e) (λ i. terminal (l i) cells layer dots shown)
       (a ∙ ap (λ (n : ℕ). blankAnswer n 0) (sym (number-here cells layer dots shown))) refl refl

@@ -11,9 +11,9 @@ use Rattle.model.specs.Picture.{painting}
 use Rattle.model.specs.Reading.{Read}
 use Rattle.calls.specs.Repaint.{shownBehind}
 use Rattle.model.specs.Items.{Event, applyAll, blankAnswer, eventsOf}
-use Rattle.calls.specs.Calls.{Promised, Request, Terminal, accepted, besideItems, called, eventsBy, itemBytes, message, numberOf, quick, quickCalled, readsBy, recordOf, request, served, startOf, takenBy}
+use Rattle.calls.specs.Calls.{Promised, Request, Terminal, granted, besideItems, called, eventsBy, itemBytes, message, numberOf, short, shortCalled, readsBy, recordOf, request, served, startOf, takenBy}
 use Rattle.calls.proofs.Loop.{answers, ends, prints, rest}
-use Rattle.calls.proofs.CallLaws.{accepted-answer, accepted-leaves, accepted-prints, after}
+use Rattle.calls.proofs.CallLaws.{granted-answer, granted-leaves, granted-prints, after}
 use Rattle.calls.proofs.Promises.{promised-by, promised-none}
 
 module _ (m : List ℕ) (d : Terminal) (buffer : List ℕ) where
@@ -21,7 +21,7 @@ module _ (m : List ℕ) (d : Terminal) (buffer : List ℕ) where
   asked = request (message m) (length buffer)
 
   -- served: the loop's end from offset 0, then the painting; the line stays, since a message has no event for it
-  pub promised-served : (answer : Answer) (left : Terminal) (printer : List ℕ) → accepted d asked ≡ true
+  pub promised-served : (answer : Answer) (left : Terminal) (printer : List ℕ) → granted d asked ≡ true
       → left .state ≡ ends m 0 (d .state) (length buffer) → left .shown ≡ painting (left .state)
       → answer ≡ answers m 0 (d .state) (length buffer) (blankAnswer 0 (length m)) → printer ≡ written (prints m 0 (d .state) (length buffer)) buffer
       → Promised (called m d buffer answer left printer)
@@ -29,39 +29,39 @@ module _ (m : List ℕ) (d : Terminal) (buffer : List ℕ) where
   promised-served answer left printer e s p a w =
       let made : ends m 0 (d .state) (length buffer) ≡ after d asked .state = ap (λ (es : List Event). applyAll es (d .state)) (sym (append-nil (eventsOf (readsBy d asked)))) in
       promised-by (called m d buffer answer left printer) e refl
-      (s ∙ made ∙ sym (ap (λ (x : Terminal). x .state) (accepted-leaves d asked e))) p
-      (a ∙ sym (accepted-answer d asked e)) (w ∙ ap (λ (ys : List ℕ). written ys buffer) (sym (accepted-prints d asked e))) refl
+      (s ∙ made ∙ sym (ap (λ (x : Terminal). x .state) (granted-leaves d asked e))) p
+      (a ∙ sym (granted-answer d asked e)) (w ∙ ap (λ (ys : List ℕ). written ys buffer) (sym (granted-prints d asked e))) refl
 
   -- refused
-  pub promised-refused : (answer : Answer) (left : Terminal) (printer : List ℕ) → accepted d asked ≡ false
+  pub promised-refused : (answer : Answer) (left : Terminal) (printer : List ℕ) → granted d asked ≡ false
       → left ≡ d → answer ≡ blankAnswer (numberOf d asked) 0 → printer ≡ buffer → Promised (called m d buffer answer left printer)
   promised-refused answer left printer e s a w = promised-none (called m d buffer answer left printer) e s a w refl
 
   -- P12: the same, with these places painted
-  pub promised-short : (answer : Answer) (left : Terminal) (printer : List ℕ) → accepted d (request (quick m) (length buffer)) ≡ true
+  pub promised-short : (answer : Answer) (left : Terminal) (printer : List ℕ) → granted d (request (short m) (length buffer)) ≡ true
       → left .state ≡ ends m 0 (d .state) (length buffer)
       → let rs = rest m 0 (d .state) (length buffer) in left .shown ≡ shownBehind rs (d .state) (left .state) (d .shown)
       → answer ≡ answers m 0 (d .state) (length buffer) (blankAnswer 0 (length m)) → printer ≡ written (prints m 0 (d .state) (length buffer)) buffer
-      → Promised (quickCalled m d buffer answer left printer)
+      → Promised (shortCalled m d buffer answer left printer)
   unfolding ends answers prints rest after readsBy itemBytes startOf eventsBy besideItems takenBy recordOf
   promised-short answer left printer e s p a w =
-      let q : Request = request (quick m) (length buffer) in
+      let q : Request = request (short m) (length buffer) in
       let rs : List Read = readsBy d q in
       let made : ends m 0 (d .state) (length buffer) ≡ after d q .state = ap (λ (es : List Event). applyAll es (d .state)) (sym (append-nil (eventsOf rs))) in
-      let z : left .state ≡ served d q .state = s ∙ made ∙ sym (ap (λ (x : Terminal). x .state) (accepted-leaves d q e)) in
+      let z : left .state ≡ served d q .state = s ∙ made ∙ sym (ap (λ (x : Terminal). x .state) (granted-leaves d q e)) in
       let shown : served d q .shown ≡ shownBehind rs (d .state) (served d q .state) (d .shown) =
-      subst (λ (x : Terminal). x .shown ≡ shownBehind rs (d .state) (x .state) (d .shown)) (sym (accepted-leaves d q e)) refl in
+      subst (λ (x : Terminal). x .shown ≡ shownBehind rs (d .state) (x .state) (d .shown)) (sym (granted-leaves d q e)) refl in
       record {
-        answer-is = a ∙ sym (accepted-answer d q e);
+        answer-is = a ∙ sym (granted-answer d q e);
         record-is = refl;
         settings-are = ap (λ (x : State). x .settings) z;
         cells-are = ap (λ (x : State). x .cells) z;
         layer-is = ap (λ (x : State). x .layer) z;
         dots-are = ap (λ (x : State). x .dots) z;
         shown-is = p ∙ ap (λ (x : State). shownBehind rs (d .state) x (d .shown)) z ∙ sym shown;
-        printer-is = w ∙ ap (λ (ys : List ℕ). written ys buffer) (sym (accepted-prints d q e));
+        printer-is = w ∙ ap (λ (ys : List ℕ). written ys buffer) (sym (granted-prints d q e));
       }
 
-  pub promised-short-refused : (answer : Answer) (left : Terminal) (printer : List ℕ) → accepted d (request (quick m) (length buffer)) ≡ false
-      → left ≡ d → answer ≡ blankAnswer (numberOf d (request (quick m) (length buffer))) 0 → printer ≡ buffer → Promised (quickCalled m d buffer answer left printer)
-  promised-short-refused answer left printer e s a w = promised-none (quickCalled m d buffer answer left printer) e s a w refl
+  pub promised-short-refused : (answer : Answer) (left : Terminal) (printer : List ℕ) → granted d (request (short m) (length buffer)) ≡ false
+      → left ≡ d → answer ≡ blankAnswer (numberOf d (request (short m) (length buffer))) 0 → printer ≡ buffer → Promised (shortCalled m d buffer answer left printer)
+  promised-short-refused answer left printer e s a w = promised-none (shortCalled m d buffer answer left printer) e s a w refl

@@ -16,17 +16,17 @@ use Rattle.model.specs.Reading.{Read}
 use Rattle.model.specs.Records.{Record, bodyIn, lengthIn, recordIn, recordsAfter}
 use Rattle.calls.specs.Packs.{bodiesOf}
 use Rattle.model.specs.Items.{blankAnswer, countedAll}
-use Rattle.calls.specs.Calls.{Promised, Request, Terminal, accepted, answerOf, called, message, pack, packCalled, printedBy, readsBy, recordOf, request, served, takenBy}
+use Rattle.calls.specs.Calls.{Promised, Request, Terminal, granted, answerOf, called, message, pack, packCalled, printedBy, readsBy, recordOf, request, served, takenBy}
 use Rattle.calls.specs.Lists.{oneByOne, stands}
 use Rattle.model.specs.Answers.{together}
 use Rattle.model.proofs.Tests.{cond-at}
 use Rattle.calls.proofs.Printing.{printed-is, taken-is}
-use Rattle.calls.proofs.CallLaws.{accepted-answer, answer-number, left-is, number-accepted}
+use Rattle.calls.proofs.CallLaws.{granted-answer, answer-number, left-is, number-granted}
 use Rattle.model.proofs.AnswerLaws.{joint, joint-refused, together-assoc}
 use Rattle.calls.proofs.OverRequests.{answersOver, printedOver}
 use Rattle.calls.proofs.Bounds.{Bounded, bounded}
 use Rattle.calls.proofs.PieceServings.{written-twice}
-use Rattle.calls.proofs.PackRequests.{AllShort, Quiet, alsoShort, pack-answer, pack-prints, pack-quiet, pack-record, pack-short, pack-stands, quiet-accepted, quiet-left, refusedFrom}
+use Rattle.calls.proofs.PackRequests.{AllSendable, Quiet, alsoSendable, pack-answer, pack-prints, pack-quiet, pack-record, pack-sendable, pack-stands, quiet-granted, quiet-left, refusedFrom}
 
 -- the bodies are among the bytes of the pack, and no more than these
 within-after : (n : ℕ) (bs : List ℕ) → let ms = map (λ (r : Record). r .body) (recordsAfter n bs) in (length (joined ms) ≤ length bs - n) × (length ms ≤ length bs - n)
@@ -52,11 +52,11 @@ recordThen a b k n = cond (eqb (a .refused) 0) (cond (eqb (b .refused) 0) n k) n
 abbrev Clean : Answer → Type 0
 Clean a = together a (blankAnswer 0 0) ≡ a
 
-clean-message : (x : Terminal) (m : List ℕ) (room : ℕ) → accepted x (request (message m) room) ≡ true → Clean (answerOf x (request (message m) room))
+clean-message : (x : Terminal) (m : List ℕ) (room : ℕ) → granted x (request (message m) room) ≡ true → Clean (answerOf x (request (message m) room))
 unfolding countedAll takenBy
 clean-message x m room e =
     let rs : List Read = readsBy x (request (message m) room) in
-    let a : answerOf x (request (message m) room) ≡ countedAll rs (blankAnswer 0 (length m)) = accepted-answer x (request (message m) room) e in
+    let a : answerOf x (request (message m) room) ≡ countedAll rs (blankAnswer 0 (length m)) = granted-answer x (request (message m) room) e in
     ap (λ (b : Answer). together b (blankAnswer 0 0)) a ∙ joint rs [] (length m) 0 ∙ (λ i. countedAll (append-nil rs i) (blankAnswer 0 (add-zero (length m) i))) ∙ sym a
 
 module _ (t : Terminal) (p buffer : List ℕ) where
@@ -70,7 +70,7 @@ module _ (t : Terminal) (p buffer : List ℕ) where
   -- bodies ms are left, the next of them number k; x stands; a is the sum of the answers and n the record of the first refusal so far
   pub record Going (ms : List (List ℕ)) (k : ℕ) (x : Terminal) (a : Answer) (n : ℕ) (printer : List ℕ) : Type 0 where
     pub quiet : Quiet x
-    pub shorts : AllShort ms
+    pub sendables : AllSendable ms
     pub left-is : stands x (ahead ms x a) ≡ served t asked
     pub answer-is : together a (answersOver x (ahead ms x a)) ≡ answerOf t asked
     pub clean : Clean a
@@ -88,11 +88,11 @@ module _ (t : Terminal) (p buffer : List ℕ) where
     pub near : a .offset ≤ 4096
     pub counted : k + length ms ≡ length (bodiesOf p) + 1
 
-  pub begins : accepted t asked ≡ true → Going (bodiesOf p) 1 t (blankAnswer 0 0) 0 buffer
+  pub begins : granted t asked ≡ true → Going (bodiesOf p) 1 t (blankAnswer 0 0) 0 buffer
   unfolding written
   begins e = let z = sub-zero (length buffer) in record {
     quiet = pack-quiet t p (length buffer) e;
-    shorts = pack-short t p (length buffer) e;
+    sendables = pack-sendable t p (length buffer) e;
     left-is = ap (λ (r : ℕ). stands t (oneByOne t (bodiesOf p) r)) z ∙ sym (pack-stands t p (length buffer) e);
     answer-is = joint-refused 0 _ ∙ ap (λ (r : ℕ). answersOver t (oneByOne t (bodiesOf p) r)) z ∙ sym (pack-answer t p (length buffer) e);
     clean = joint-refused 0 (blankAnswer 0 0);
@@ -136,11 +136,11 @@ module _ (t : Terminal) (p buffer : List ℕ) where
     abbrev one : Request
     one = request (message m) room
 
-    short-one : AllShort (m ∷ ms) → (length m ≤ 4096) × AllShort ms
-    short-one (alsoShort h hs) = (h, hs)
+    sendable-one : AllSendable (m ∷ ms) → (length m ≤ 4096) × AllSendable ms
+    sendable-one (alsoSendable h hs) = (h, hs)
 
     pub shorter : length m ≤ 4096
-    shorter = short-one (g .shorts) .0
+    shorter = sendable-one (g .sendables) .0
 
     -- what it is lent
     part-is : part ≡ drop (length (g .done)) buffer
@@ -154,8 +154,8 @@ module _ (t : Terminal) (p buffer : List ℕ) where
     asked-is : request (message m) (length part) ≡ one
     asked-is = ap (request (message m)) room-is
 
-    ok : accepted x one ≡ true
-    ok = quiet-accepted (g .quiet) m shorter room
+    ok : granted x one ≡ true
+    ok = quiet-granted (g .quiet) m shorter room
 
     -- it is served
     answer-one : b ≡ answerOf x one
@@ -216,7 +216,7 @@ module _ (t : Terminal) (p buffer : List ℕ) where
     unfolding oneByOne stands answersOver printedOver refusedFrom joined wrote
     goes-on = record {
       quiet = subst Quiet (sym left-one) (quiet-left (g .quiet) m shorter room);
-      shorts = short-one (g .shorts) .1;
+      sendables = sendable-one (g .sendables) .1;
       left-is = (λ i. stands (left-one i) (sym ahead-is i)) ∙ g .left-is;
       answer-is = (λ i. together (together a (answer-one i)) (answersOver (left-one i) (sym ahead-is i))) ∙ sym (together-assoc a (answerOf x one) _) ∙ g .answer-is;
       clean = sym (together-assoc a b (blankAnswer 0 0)) ∙ ap (together a) clean-one;
@@ -235,4 +235,4 @@ module _ (t : Terminal) (p buffer : List ℕ) where
 
     -- its number is 0
     pub serves : b .number ≡ 0
-    serves = ap (λ (z : Answer). z .number) answer-one ∙ answer-number x one ∙ number-accepted x one ok
+    serves = ap (λ (z : Answer). z .number) answer-one ∙ answer-number x one ∙ number-granted x one ok

@@ -18,13 +18,13 @@ use Rattle.model.specs.Line.{heldIn}
 use Rattle.model.specs.Reading.{Read, gathered, remaining, uncut}
 use Rattle.model.specs.Judging.{limitsOf}
 use Rattle.model.specs.Items.{applyAll, blankAnswer, copies, copyOf, counted, countedAll, eventsOf, happened, lined, obeyedBy, read, readsOf}
-use Rattle.calls.specs.Calls.{Terminal, accepted, answerOf, itemBytes, piece, printedBy, readsBy, request, served, startOf, takenBy}
+use Rattle.calls.specs.Calls.{Terminal, granted, answerOf, itemBytes, piece, printedBy, readsBy, request, served, startOf, takenBy}
 use Rattle.calls.specs.Claims.{countAfter, waitsAfter}
 use Rattle.model.specs.Answers.{together}
 use Rattle.model.proofs.Gathering.{joined-uncut}
 use Rattle.model.proofs.Events.{applied-append}
 use Rattle.calls.proofs.Printing.{length-copy, prints-append}
-use Rattle.calls.proofs.CallLaws.{accepted-answer, accepted-prints}
+use Rattle.calls.proofs.CallLaws.{granted-answer, granted-prints}
 use Rattle.calls.proofs.LineAfter.{leaves-lined}
 use Rattle.calls.proofs.Offsets.{further, further-counts, further-effect, further-prints}
 use Rattle.model.proofs.AnswerLaws.{joint}
@@ -94,7 +94,7 @@ module _ (k : ℕ) (xs : List ℕ) (st : State) (room : ℕ) where
   later-counts n = ap (λ (o : ℕ). countedAll (readsOf (uncut xs) o st room) (blankAnswer 0 n)) (sym k-is) ∙ further-counts k (uncut xs) 0 st room (blankAnswer 0 n)
 
 -- a piece as two servings: of xs, the first item where bytes wait (or of none), and of ys, the whole items behind it, in the room left over
-module _ (t : Terminal) (m : List ℕ) (room : ℕ) (xs ys : List ℕ) (cut : gathered (heldIn (t .state .settings)) m ≡ uncut xs ++ uncut ys) (ok : accepted t (request (piece m) room) ≡ true) where
+module _ (t : Terminal) (m : List ℕ) (room : ℕ) (xs ys : List ℕ) (cut : gathered (heldIn (t .state .settings)) m ≡ uncut xs ++ uncut ys) (ok : granted t (request (piece m) room) ≡ true) where
   abbrev s : Settings
   s = t .state .settings
 
@@ -135,7 +135,7 @@ module _ (t : Terminal) (m : List ℕ) (room : ℕ) (xs ys : List ℕ) (cut : ga
   piece-prints =
       let rs : List Read = readsOf (uncut xs) start (t .state) room in
       let rs₂ : List Read = readsOf (uncut ys) (start + length xs) st₁ room₂ in
-      accepted-prints t (request (piece m) room) ok
+      granted-prints t (request (piece m) room) ok
       ∙ ap (λ (l : List Read). copies (eventsOf l) (t .state)) two-reads ∙ prints-append rs rs₂ (t .state)
       ∙ (λ i. later-prints start xs (t .state) room i ++ (ap (copies (eventsOf rs₂)) (later-state start xs (t .state) room) ∙ later-prints (start + length xs) ys st₁ room₂) i)
 
@@ -146,6 +146,6 @@ module _ (t : Terminal) (m : List ℕ) (room : ℕ) (xs ys : List ℕ) (cut : ga
   piece-answer n₁ n₂ =
       let rs : List Read = readsOf (uncut xs) start (t .state) room in
       let rs₂ : List Read = readsOf (uncut ys) (start + length xs) st₁ room₂ in
-      accepted-answer t (request (piece m) room) ok ∙ ap (λ (l : List Read). countedAll l (blankAnswer 0 (length m))) two-reads
+      granted-answer t (request (piece m) room) ok ∙ ap (λ (l : List Read). countedAll l (blankAnswer 0 (length m))) two-reads
       ∙ sym (taking-all (length m) (rs ++ rs₂) (blankAnswer 0 (n₁ + n₂)))
       ∙ ap (taking (length m)) (sym (joint rs rs₂ n₁ n₂) ∙ (λ i. together (later-counts start xs (t .state) room n₁ i) (later-counts (start + length xs) ys st₁ room₂ n₂ i)))

@@ -21,7 +21,7 @@ use Rattle.model.specs.Reading.{Read, itemOf, uncut}
 use Rattle.model.specs.Judging.{allowed, fitting, limitsOf}
 use Rattle.model.specs.Items.{Event, applyAll, blankAnswer, bytesRead, copies, copyOf, counted, countedAll, happened, eventsOf, obeyedBy, printerBytes, printsOf, read, readsOf}
 use Rattle.calls.specs.Packs.{bodiesOf, readsEach}
-use Rattle.calls.specs.Calls.{Asked, Call, Promised, Request, Terminal, accepted, answerOf, closing, eventsBy, eventsIn, itemBytes, besideItems, keyText, message, numberOf, pack, packed?, packedBy, piece, printedBy, quick, readsBy, readsIn, request, requestOf, sentBy, startOf, takenBy, takenIn, partOf}
+use Rattle.calls.specs.Calls.{Asked, Call, Promised, Request, Terminal, granted, answerOf, closing, eventsBy, eventsIn, itemBytes, besideItems, keyText, message, numberOf, pack, packed?, packedBy, piece, printedBy, short, readsBy, readsIn, request, requestOf, sentBy, startOf, takenBy, takenIn, partOf}
 use Rattle.calls.specs.Claims.{InBodies, InOrder, noBody, oneBody}
 use Rattle.model.proofs.Tests.{cond-at, cond₂}
 use Rattle.model.proofs.ByteLaws.{length-listFrom, length-written}
@@ -147,7 +147,7 @@ moved-prints s (piece m) a = refl
 moved-prints s closing a = refl
 moved-prints s (keyText k x) a = refl
 moved-prints s (pack p) a = refl
-moved-prints s (quick m) a = refl
+moved-prints s (short m) a = refl
 
 -- the items alone print
 pub prints-by : (t : Terminal) (q : Request) → copies (eventsBy t q) (t .state) ≡ copies (eventsOf (readsBy t q)) (t .state)
@@ -159,7 +159,7 @@ prints-by t q =
 
 pub printed-reads : (t : Terminal) (q : Request) → printedBy t q ≡ copies (eventsOf (readsIn t q)) (t .state)
 unfolding printedBy eventsIn readsIn copies
-printed-reads t q = cond₂ (λ (es : List Event) (rs : List Read). copies es (t .state) ≡ copies (eventsOf rs) (t .state)) (accepted t q) (accepted t q) (eventsBy t q) [] (readsBy t q) [] refl (λ e. prints-by t q) (λ e. refl)
+printed-reads t q = cond₂ (λ (es : List Event) (rs : List Read). copies es (t .state) ≡ copies (eventsOf rs) (t .state)) (granted t q) (granted t q) (eventsBy t q) [] (readsBy t q) [] refl (λ e. prints-by t q) (λ e. refl)
 
 -- the printer bytes of a call fit in its room
 pub prints-fit : (d : Terminal) (q : Request) → length (printedBy d q) ≤ q .room
@@ -167,7 +167,7 @@ unfolding readsIn copies
 prints-fit d q =
     let Fits : List Read → Type 0 = λ rs. length (copies (eventsOf rs) (d .state)) ≤ q .room in
     subst (λ (l : List ℕ). length l ≤ q .room) (sym (printed-reads d q))
-    (cond-at Fits (accepted d q) _ [] (λ e. reads-either Fits d q (λ ms. fit-each ms (d .state) (q .room)) (λ bss at. copies-fit bss at (d .state) (q .room))) (λ e. omega arith))
+    (cond-at Fits (granted d q) _ [] (λ e. reads-either Fits d q (λ ms. fit-each ms (d .state) (q .room)) (λ bss at. copies-fit bss at (d .state) (q .room))) (λ e. omega arith))
 
 -- so the printer buffer keeps its length
 pub buffer-length : (c : Call) → Promised c → length (c .printer) ≡ length (c .buffer)
@@ -185,7 +185,7 @@ unfolding answerOf readsIn countedAll copies
 printed-is d q =
     let a : Answer = blankAnswer (numberOf d q) (takenIn d q) in
     let Prints : List Read → Type 0 = λ rs. countedAll rs a .printed ≡ 0 + length (copies (eventsOf rs) (d .state)) in
-    cond-at Prints (accepted d q) (readsBy d q) [] (λ e. reads-either Prints d q (λ ms. printed-each ms (d .state) (q .room) a) (λ bss at. all-printed bss at (d .state) (q .room) a)) (λ e. refl)
+    cond-at Prints (granted d q) (readsBy d q) [] (λ e. reads-either Prints d q (λ ms. printed-each ms (d .state) (q .room) a) (λ bss at. all-printed bss at (d .state) (q .room) a)) (λ e. refl)
     ∙ zero-add _ ∙ ap length (sym (printed-reads d q))
 
 all-taken : (rs : List Read) (a : Answer) → countedAll rs a .taken ≡ a .taken
@@ -211,7 +211,7 @@ some-asked s (piece m) = some-gathered (heldIn s) m
 some-asked s closing = some-last (heldIn s)
 some-asked s (keyText k x) = none
 some-asked s (pack p) = none
-some-asked s (quick m) = some-uncut m
+some-asked s (short m) = some-uncut m
 
 taken-asked : (a : Asked) → takenBy a ≡ length (sentBy a)
 unfolding takenBy
@@ -220,7 +220,7 @@ taken-asked (piece m) = refl
 taken-asked closing = refl
 taken-asked (keyText k x) = refl
 taken-asked (pack p) = refl
-taken-asked (quick m) = refl
+taken-asked (short m) = refl
 
 -- P6: body by body
 bodies-each : (ms : List (List ℕ)) (st : State) (room : ℕ) → InBodies ms (readsEach ms st room)
@@ -229,17 +229,17 @@ bodies-each [] st room = noBody
 bodies-each (m ∷ ms) st room =
     oneBody (firstOnes m ms st room) (others m ms st room) (ap joined (bytes-of (uncut m) 0 st room) ∙ joined-uncut m) (in-order (some-uncut m) 0 st room) (bodies-each ms _ _)
 
-module _ (t : Terminal) (q : Request) (e : accepted t q ≡ true) where
-  pub reads-accepted : readsIn t q ≡ readsBy t q
+module _ (t : Terminal) (q : Request) (e : granted t q ≡ true) where
+  pub reads-granted : readsIn t q ≡ readsBy t q
   unfolding readsIn
-  reads-accepted = ap (λ (b : Bool). cond b (readsBy t q) []) e
+  reads-granted = ap (λ (b : Bool). cond b (readsBy t q) []) e
 
   -- of a call that is no pack
   pub reads-own : packed? (q .asked) ≡ false → readsIn t q ≡ readsOf (itemBytes (t .state .settings) (q .asked)) (startOf (t .state .settings) (q .asked)) (t .state) (q .room)
   unfolding readsBy
   reads-own n =
       let s : Settings = t .state .settings in
-      reads-accepted ∙ ap (λ (b : Bool). cond b (readsEach (packedBy (q .asked)) (t .state) (q .room)) (readsOf (itemBytes s (q .asked)) (startOf s (q .asked)) (t .state) (q .room))) n
+      reads-granted ∙ ap (λ (b : Bool). cond b (readsEach (packedBy (q .asked)) (t .state) (q .room)) (readsOf (itemBytes s (q .asked)) (startOf s (q .asked)) (t .state) (q .room))) n
 
   pub ordered : packed? (q .asked) ≡ false → InOrder (startOf (t .state .settings) (q .asked)) (readsIn t q)
   ordered n = subst (InOrder (startOf (t .state .settings) (q .asked))) (sym (reads-own n)) (in-order (some-asked (t .state .settings) (q .asked)) _ (t .state) (q .room))
@@ -254,7 +254,7 @@ module _ (t : Terminal) (q : Request) (e : accepted t q ≡ true) where
   pub in-bodies : (p : List ℕ) → q .asked ≡ pack p → InBodies (bodiesOf p) (readsIn t q)
   unfolding readsBy
   in-bodies p f =
-      subst (InBodies (bodiesOf p)) (sym (reads-accepted ∙ ap (λ (a : Asked). readsBy t (request a (q .room))) f)) (bodies-each (bodiesOf p) (t .state) (q .room))
+      subst (InBodies (bodiesOf p)) (sym (reads-granted ∙ ap (λ (a : Asked). readsBy t (request a (q .room))) f)) (bodies-each (bodiesOf p) (t .state) (q .room))
 
 -- the printer bytes of a call
 pub printed-in : (c : Call) → Promised c → (length (printedBy (c .given) (requestOf c)) ≡ c .answer .printed) × (length (c .printer) ≡ length (c .buffer))

@@ -12,8 +12,8 @@ use Rattle.model.specs.declared.Item.{Item}
 use Rattle.model.specs.declared.Item.the-variants.{Control, Printed, Refused, Sequence}
 use Rattle.model.specs.declared.Place.{Place}
 use Rattle.model.specs.declared.Sequence.{Sequence as Seq}
-use Rattle.model.specs.declared.Sequence.the-variants.{Arrows1, Arrows2, Arrows3, CapsOff, CapsOn, Charset, Clear, Copy, CursorKind, CursorOff, CursorOn, Display, DrawDot, DrawLine, EraseLine, EraseRest, InsOff, InsOn, LinesDown, LinesUp, Mark, Mode0, Mode1, Mode2, Mode3, Nothing, NumOff, NumOn, Pattern, PrintCode, Put, Repeat, RepeatDelay, RepeatInterval, SecretOff, SecretOn, Select, Shift, Step, StringsOff, StringsOn, Tracking, WindowBottom, WindowCursor, WindowDown, WindowTop, WindowUp}
-use Rattle.model.specs.State.{State, putAt, topAt, waitAt}
+use Rattle.model.specs.declared.Sequence.the-variants.{Arrows1, Arrows2, Arrows3, CapsOff, CapsOn, Charset, Clear, Copy, CursorKind, CursorOff, CursorOn, Display, DrawDot, DrawLine, EraseLine, EraseRest, InsOff, InsOn, LinesDown, LinesUp, Cover, Mode0, Mode1, Mode2, Mode3, Nothing, NumOff, NumOn, Pattern, PrintCode, Put, Repeat, RepeatDelay, RepeatInterval, SecretOff, SecretOn, Select, Shift, Step, StringsOff, StringsOn, Tracking, WindowBottom, WindowCursor, WindowDown, WindowTop, WindowUp}
+use Rattle.model.specs.State.{State, putAt, topAt, lateAt}
 use Rattle.model.specs.Checks.{InRanges, inRanges?, member}
 use Rattle.model.specs.Screens.{base, cellAt, columnsHere, columnsOf, here, lineAt, linesHere, placeOf, textRows}
 use Rattle.model.specs.Marks.{runningOn}
@@ -21,7 +21,7 @@ use Rattle.model.specs.Sound.{Good}
 use Rattle.model.specs.Picture.{covered, halves, picture, pictureAt, sides, textAt, under, windowAt}
 use Rattle.model.specs.Sequences.{codeOf, idle?}
 use Rattle.model.specs.Reading.{Read, byteOf}
-use Rattle.model.specs.Rules.{applyItem, awaited, centred, cleared, control, down, emptied, flagged, missed, nearest, obeyed, onward, placed, printed, remarked, right, runsOn, stored, toColumn, topped, tracked, trackedFar, withDots, withKeys, withKindPatterns, withLayer, withSettings}
+use Rattle.model.specs.Rules.{applyItem, lateStep, centred, cleared, control, down, emptied, flagged, missed, nearest, obeyed, onward, placed, printed, remarked, right, runsOn, stored, toColumn, topped, tracked, trackedFar, withDots, withKeys, withKindPatterns, withLayer, withSettings}
 use Rattle.model.specs.Judging.{judgedRanges, legal?, legalItem?, limitsOf, ranges}
 use Rattle.model.specs.Items.{applyAll, eventsOf, happened, obeyedBy}
 use Rattle.calls.specs.Repaint.{calm?, lifts?, lowest?, movesTop?, placeBy, placesIn, printLifts?, printPlace, wide?, wideCodes, wideIn}
@@ -29,7 +29,7 @@ use Rattle.model.proofs.Tests.{cond-at, differ, or-false, ranges-true}
 use Rattle.model.proofs.Events.{AllLegal}
 use Rattle.model.proofs.ItemLaws.{kept-put, obeyed-item}
 use Rattle.model.proofs.Keep.{Kept, place-other, place-same}
-use Rattle.model.proofs.Steps.{columns-some, fits, kept-awaited, kept-down, kept-right, kept-stored, kept-toColumn}
+use Rattle.model.proofs.Steps.{columns-some, fits, kept-late-step, kept-down, kept-right, kept-stored, kept-toColumn}
 use Rattle.model.proofs.Views.{SameView, other-picture, own-picture, same-picture, same-top, view-refl, view-trans}
 
 not-true : (b : Bool) → not b ≡ true → b ≡ false
@@ -91,15 +91,15 @@ module _ (a : State) (g : Good a) where
       view-trans (view-column a g 1) (view-trans (view-down b (k .good) low) (view-marked (down b) (d .good) (runningOn (here (down b) .line - 1))))
 
   -- the late step, and the move right
-  view-awaited : (eqb (here a .waiting) 1 && lowest? a) ≡ false → SameView a (awaited a)
-  unfolding awaited
-  view-awaited e = cond-at (SameView a) (eqb (here a .waiting) 1) (onward a) a (λ t. view-onward (sym (ap (λ (b : Bool). b && lowest? a) t) ∙ e)) (λ t. view-refl a)
+  view-late-step : (eqb (here a .waiting) 1 && lowest? a) ≡ false → SameView a (lateStep a)
+  unfolding lateStep
+  view-late-step e = cond-at (SameView a) (eqb (here a .waiting) 1) (onward a) a (λ t. view-onward (sym (ap (λ (b : Bool). b && lowest? a) t) ∙ e)) (λ t. view-refl a)
 
   view-right : (not (ltb (here a .column) (columnsHere a)) && (not (eqb (a .settings .rule) 2) && lowest? a)) ≡ false → SameView a (right a)
   unfolding right
   view-right e =
       cond-at (SameView a) (ltb (here a .column) (columnsHere a)) _ _ (λ t. view-column a g (here a .column + 1))
-      (λ t. cond-at (SameView a) (eqb (a .settings .rule) 2) _ _ (λ u. view-placed a g (waitAt (here a)) refl)
+      (λ t. cond-at (SameView a) (eqb (a .settings .rule) 2) _ _ (λ u. view-placed a g (lateAt (here a)) refl)
       (λ u. view-onward (sym (λ i. not (t i) && (not (u i) && lowest? a)) ∙ e)))
 
   -- a window that is looked for and does not move
@@ -129,27 +129,27 @@ module _ (a : State) (g : Good a) where
 
 -- a printed character that does not lift and moves no top: every place but its own is as it was, and its own shows it
 module _ (a : State) (g : Good a) (c : ℕ) (none : printLifts? a ≡ false) (top : here (printed c a) .top ≡ here a .top) where
-  waited : State
-  waited = awaited a
+  stepped : State
+  stepped = lateStep a
 
-  kept₁ : Kept a waited
-  unfolding waited
-  kept₁ = kept-awaited a g
+  kept₁ : Kept a stepped
+  unfolding stepped
+  kept₁ = kept-late-step a g
 
-  view₁ : SameView a waited
-  unfolding waited printLifts?
-  view₁ = view-awaited a g (or-false (eqb (here a .waiting) 1 && lowest? a) _ none .0)
+  view₁ : SameView a stepped
+  unfolding stepped printLifts?
+  view₁ = view-late-step a g (or-false (eqb (here a .waiting) 1 && lowest? a) _ none .0)
 
   moved : State
-  moved = right (stored c waited)
+  moved = right (stored c stepped)
 
-  view₂ : SameView (stored c waited) moved
-  unfolding moved waited printLifts? stored lowest?
-  view₂ = view-right (stored c waited) (kept-stored waited (kept₁ .good) c .good) (or-false (eqb (here a .waiting) 1 && lowest? a) _ none .1)
+  view₂ : SameView (stored c stepped) moved
+  unfolding moved stepped printLifts? stored lowest?
+  view₂ = view-right (stored c stepped) (kept-stored stepped (kept₁ .good) c .good) (or-false (eqb (here a .waiting) 1 && lowest? a) _ none .1)
 
-  kept₂ : Kept (stored c waited) moved
+  kept₂ : Kept (stored c stepped) moved
   unfolding moved
-  kept₂ = kept-right (stored c waited) (kept-stored waited (kept₁ .good) c .good)
+  kept₂ = kept-right (stored c stepped) (kept-stored stepped (kept₁ .good) c .good)
 
   -- so the window stays where it is
   same-tops : here moved .top ≡ here a .top
@@ -157,17 +157,17 @@ module _ (a : State) (g : Good a) (c : ℕ) (none : printLifts? a ≡ false) (to
   same-tops = same-top view₂ ∙ same-top view₁
 
   printed-is : printed c a ≡ moved
-  unfolding printed moved waited
+  unfolding printed moved stepped
   printed-is = tracked-still moved (kept₂ .good) (top ∙ sym same-tops)
 
   printed-other : (p : ℕ) → p < 640 → (p ≡ printPlace a → ⊥) → picture (printed c a) p ≡ picture a p
-  unfolding printPlace waited
-  printed-other p h n = ap (λ (x : State). picture x p) printed-is ∙ same-picture view₂ p ∙ other-picture waited (kept₁ .good) c p h n ∙ same-picture view₁ p
+  unfolding printPlace stepped
+  printed-other p h n = ap (λ (x : State). picture x p) printed-is ∙ same-picture view₂ p ∙ other-picture stepped (kept₁ .good) c p h n ∙ same-picture view₁ p
 
   pub printed-own : printPlace a < 640 → picture (printed c a) (printPlace a) ≡ cond (eqb (a .settings .secret) 1) 32 c
-  unfolding printPlace waited
+  unfolding printPlace stepped
   printed-own h =
-      ap (λ (x : State). picture x (printPlace a)) printed-is ∙ same-picture view₂ (printPlace a) ∙ own-picture waited (kept₁ .good) c h
+      ap (λ (x : State). picture x (printPlace a)) printed-is ∙ same-picture view₂ (printPlace a) ∙ own-picture stepped (kept₁ .good) c h
       ∙ ap (λ (n : ℕ). cond (eqb n 1) 32 c) (view₁ .same-secret)
 
 -- codes but 12
@@ -235,7 +235,7 @@ sequence-other ms (Mode1 x) a g e w f t p h j = absurd (differ w)
 sequence-other ms (Mode2 x m y) a g e w f t p h j = absurd (differ w)
 sequence-other ms Mode3 a g e w f t p h j = absurd (differ w)
 sequence-other ms (Select n) a g e w f t p h j = absurd (differ w)
-sequence-other ms (Mark r c m) a g e w f t p h j = absurd (differ w)
+sequence-other ms (Cover r c m) a g e w f t p h j = absurd (differ w)
 sequence-other ms (Display m) a g e w f t p h j = absurd (differ w)
 sequence-other ms WindowTop a g e w f t p h j = absurd (differ w)
 sequence-other ms WindowBottom a g e w f t p h j = absurd (differ w)

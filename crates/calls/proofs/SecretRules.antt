@@ -12,7 +12,7 @@ use Rattle.model.specs.Rules.{shownAt}
 use Rattle.calls.specs.Repaint.{lifts?, lowest?, placeBy, printLifts?, printPlace}
 use Rattle.calls.specs.SecretRules.{Blindness}
 use Rattle.model.specs.Hidden.{Hidden}
-use Rattle.model.proofs.HiddenLaws.{hidden-awaited, hidden-item, hidden-lined, hidden-printed, hidden-texted, same-of, same-copied, same-limits, same-picture, same-sound}
+use Rattle.model.proofs.HiddenLaws.{hidden-late-step, hidden-item, hidden-lined, hidden-printed, hidden-texted, same-of, same-copied, same-limits, same-picture, same-sound}
 
 -- P12: which places are painted
 same-lowest : {a b : State} → Hidden a b → lowest? a ≡ lowest? b
@@ -22,7 +22,7 @@ same-lowest h = same-of lowest? h
 same-print-lifts : {a b : State} → Hidden a b → printLifts? a ≡ printLifts? b
 unfolding printLifts? columnsOf placeOf
 same-print-lifts h =
-    let z = hidden-awaited h in
+    let z = hidden-late-step h in
     λ i. (same-of (λ (x : State). eqb (here x .waiting) 1) h i && same-lowest h i)
     || (same-of (λ (x : State). not (ltb (here x .column) (columnsHere x))) z i && (same-of (λ (x : State). not (eqb (x .settings .rule) 2)) z i && same-lowest z i))
 
@@ -35,7 +35,7 @@ same-lifts (Refused n p) h = refl
 
 same-print-place : {a b : State} → Hidden a b → printPlace a ≡ printPlace b
 unfolding printPlace shownAt placeOf textRows
-same-print-place h = same-of (λ (x : State). shownAt (x .settings) (here x .line) (here x .column)) (hidden-awaited h)
+same-print-place h = same-of (λ (x : State). shownAt (x .settings) (here x .line) (here x .column)) (hidden-late-step h)
 
 same-places : (i : Item) {a b : State} → Hidden a b → placeBy i a ≡ placeBy i b
 unfolding placeBy

@@ -19,14 +19,14 @@ use Rattle.model.specs.Reading.{Read, byteOf, uncut}
 use Rattle.model.specs.Rules.{applyItem}
 use Rattle.model.specs.Items.{Event, applyAll, eventsOf, happened, obeyedBy, readsOf}
 use Rattle.calls.specs.Repaint.{calm?, movesTop?, painted?, placesIn, repainted, wide?, wideIn}
-use Rattle.calls.specs.Calls.{Request, Terminal, accepted, answerOf, besideItems, eventsBy, eventsIn, itemBytes, message, numberOf, printedBy, quick, readsBy, readsIn, reasons, request, served, startOf, takenBy, takenIn, Asked, Call, Promised, requestOf}
+use Rattle.calls.specs.Calls.{Request, Terminal, granted, answerOf, besideItems, eventsBy, eventsIn, itemBytes, message, numberOf, printedBy, short, readsBy, readsIn, reasons, request, served, startOf, takenBy, takenIn, Asked, Call, Promised, requestOf}
 use Rattle.calls.specs.Claims.{Plain, PlaceAfter, ShownIn, aboveRow8, painted, plainItem?, unaltered, Quick}
 use Rattle.model.proofs.Tests.{differ}
 use Rattle.model.proofs.ByteLaws.{getD-listFrom, same-listFrom}
 use Rattle.model.proofs.Steps.{kept-control, kept-printed}
 use Rattle.model.proofs.ItemLaws.{obeyed-item}
 use Rattle.model.proofs.Events.{AllLegal, legal-reads}
-use Rattle.calls.proofs.CallLaws.{accepted-leaves, accepted-painted, accepted-quick, accepted-sound, after, sizes, left-is, is-accepted}
+use Rattle.calls.proofs.CallLaws.{granted-leaves, granted-painted, granted-short, granted-sound, after, sizes, left-is, is-granted}
 use Rattle.calls.proofs.Repainting.{untouched}
 use Rattle.model.specs.Bytes.{written}
 
@@ -76,38 +76,38 @@ plain-narrow (r ∷ rs) a g l h =
 -- the message's own
 module _ (t : Terminal) (m : List ℕ) (room : ℕ) where
   abbrev q : Request
-  q = request (quick m) room
+  q = request (short m) room
 
   abbrev old : Request
   old = request (message m) room
 
-  pub same-accepted : accepted t q ≡ accepted t old
-  unfolding accepted reasons
-  same-accepted = refl
+  pub same-granted : granted t q ≡ granted t old
+  unfolding granted reasons
+  same-granted = refl
 
   pub same-state : served t q .state ≡ served t old .state
-  unfolding served eventsIn eventsBy readsBy itemBytes startOf besideItems accepted reasons
+  unfolding served eventsIn eventsBy readsBy itemBytes startOf besideItems granted reasons
   same-state = refl
 
   pub same-answer : answerOf t q ≡ answerOf t old
-  unfolding answerOf readsIn readsBy itemBytes startOf numberOf takenIn takenBy accepted reasons
+  unfolding answerOf readsIn readsBy itemBytes startOf numberOf takenIn takenBy granted reasons
   same-answer = refl
 
   pub same-prints : printedBy t q ≡ printedBy t old
-  unfolding printedBy eventsIn eventsBy readsBy itemBytes startOf besideItems accepted reasons
+  unfolding printedBy eventsIn eventsBy readsBy itemBytes startOf besideItems granted reasons
   same-prints = refl
 
   -- its items
   abbrev rs : List Read
   rs = readsOf (uncut m) 0 (t .state) room
 
-  module _ (e : accepted t q ≡ true) where
+  module _ (e : granted t q ≡ true) where
     abbrev st : State
     st = served t q .state
 
-    pub quick-reads : readsIn t q ≡ rs
+    pub short-reads : readsIn t q ≡ rs
     unfolding readsIn readsBy itemBytes startOf
-    quick-reads = ap (λ (b : Bool). cond b rs []) e
+    short-reads = ap (λ (b : Bool). cond b rs []) e
 
     abbrev wide : Bool
     wide = wideIn rs (t .state)
@@ -117,14 +117,14 @@ module _ (t : Terminal) (m : List ℕ) (room : ℕ) where
 
     pub shown-is : served t q .shown ≡ repainted wide places st (t .shown)
     unfolding after readsBy itemBytes startOf
-    shown-is = subst (λ (x : Terminal). x .shown ≡ repainted wide places (x .state) (t .shown)) (sym (accepted-leaves t q e)) refl
+    shown-is = subst (λ (x : Terminal). x .shown ≡ repainted wide places (x .state) (t .shown)) (sym (granted-leaves t q e)) refl
 
     made : st ≡ applyAll (eventsOf rs) (t .state)
     unfolding after eventsBy readsBy itemBytes startOf besideItems
-    made = ap (λ (x : Terminal). x .state) (accepted-leaves t q e) ∙ ap (λ (es : List Event). applyAll es (t .state)) (append-nil (eventsOf rs))
+    made = ap (λ (x : Terminal). x .state) (granted-leaves t q e) ∙ ap (λ (es : List Event). applyAll es (t .state)) (append-nil (eventsOf rs))
 
     good : Good (t .state)
-    good = sizes t (accepted-quick t m room e .0) (accepted-sound t q e) .0
+    good = sizes t (granted-short t m room e .0) (granted-sound t q e) .0
 
     -- what is not painted is as it was
     kept-picture : (p : ℕ) → p < 640 → wide ≡ false → member p places ≡ false → picture st p ≡ picture (t .state) p
@@ -181,17 +181,17 @@ module _ (t : Terminal) (m : List ℕ) (room : ℕ) where
         all = shown-is ∙ all-painted wide places st (t .shown) now
 
         last : served t old .shown ≡ painting (served t old .state)
-        last = subst (λ (x : Terminal). x .shown ≡ painting (x .state)) (sym (accepted-painted t old (sym same-accepted ∙ e) refl)) refl
+        last = subst (λ (x : Terminal). x .shown ≡ painting (x .state)) (sym (granted-painted t old (sym same-granted ∙ e) refl)) refl
 
 -- so a short message that kept its promise
-pub quick-in : (c : Call) → Promised c → c .answer .number ≡ 0 → (m : List ℕ) → c .asked ≡ quick m → Quick c m
-quick-in c p e m f =
+pub short-in : (c : Call) → Promised c → c .answer .number ≡ 0 → (m : List ℕ) → c .asked ≡ short m → Quick c m
+short-in c p e m f =
     let t : Terminal = c .given in
     let room : ℕ = length (c .buffer) in
-    let fq : requestOf c ≡ request (quick m) room = ap (λ (a : Asked). request a room) f in
-    let ok : accepted t (request (quick m) room) ≡ true = subst (λ (q : Request). accepted t q ≡ true) fq (is-accepted c p e) in
-    let x : c .left ≡ served t (request (quick m) room) = left-is c p ∙ ap (served t) fq in
-    let rs : readsIn t (requestOf c) ≡ readsOf (uncut m) 0 (t .state) room = ap (readsIn t) fq ∙ quick-reads t m room ok in
+    let fq : requestOf c ≡ request (short m) room = ap (λ (a : Asked). request a room) f in
+    let ok : granted t (request (short m) room) ≡ true = subst (λ (q : Request). granted t q ≡ true) fq (is-granted c p e) in
+    let x : c .left ≡ served t (request (short m) room) = left-is c p ∙ ap (served t) fq in
+    let rs : readsIn t (requestOf c) ≡ readsOf (uncut m) 0 (t .state) room = ap (readsIn t) fq ∙ short-reads t m room ok in
     record {
       old-state = ap (λ (y : Terminal). y .state) x ∙ same-state t m room;
       old-answer = p .answer-is ∙ ap (answerOf t) fq ∙ same-answer t m room;

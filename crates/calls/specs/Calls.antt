@@ -41,7 +41,7 @@ pub data Asked : Type 0 where
   closing : Asked
   keyText : ℕ → List ℕ → Asked
   pack : List ℕ → Asked
-  quick : List ℕ → Asked
+  short : List ℕ → Asked
 
 -- the bytes that are sent to be read; P2: a key call "sets the texts and reads nothing"; P6: of a pack its bodies
 abbrev pub sentBy : Asked → List ℕ
@@ -50,7 +50,7 @@ sentBy (piece m) = m
 sentBy closing = []
 sentBy (keyText k x) = []
 sentBy (pack p) = joined (bodiesOf p)
-sentBy (quick m) = m
+sentBy (short m) = m
 
 -- P6: a pack is asked
 abbrev pub packed? : Asked → Bool
@@ -59,7 +59,7 @@ packed? (piece m) = false
 packed? closing = false
 packed? (keyText k x) = false
 packed? (pack p) = true
-packed? (quick m) = false
+packed? (short m) = false
 
 -- P6: the messages that it packs; no other call packs any
 abbrev pub packedBy : Asked → List (List ℕ)
@@ -68,16 +68,16 @@ packedBy (piece m) = []
 packedBy closing = []
 packedBy (keyText k x) = []
 packedBy (pack p) = bodiesOf p
-packedBy (quick m) = []
+packedBy (short m) = []
 
 -- P12: a short message is asked
-abbrev pub quick? : Asked → Bool
-quick? (message m) = false
-quick? (piece m) = false
-quick? closing = false
-quick? (keyText k x) = false
-quick? (pack p) = false
-quick? (quick m) = true
+abbrev pub short? : Asked → Bool
+short? (message m) = false
+short? (piece m) = false
+short? closing = false
+short? (keyText k x) = false
+short? (pack p) = false
+short? (short m) = true
 
 -- "the messages and the printer room of each call": what a call is worked out from, beside what stands
 pub record Request : Type 0 where
@@ -97,7 +97,7 @@ itemBytes s (piece m) = gathered (heldIn s) m
 itemBytes s closing = lastly (heldIn s)
 itemBytes s (keyText k x) = []
 itemBytes s (pack p) = []
-itemBytes s (quick m) = uncut m
+itemBytes s (short m) = uncut m
 
 -- the offset of the first item: "offsets count from the stream's start", where the bytes that wait are the last of the count
 unfoldable pub startOf : Settings → Asked → ℕ
@@ -106,7 +106,7 @@ startOf s (piece m) = s .count - length (heldIn s)
 startOf s closing = s .count - length (heldIn s)
 startOf s (keyText k x) = 0
 startOf s (pack p) = 0
-startOf s (quick m) = 0
+startOf s (short m) = 0
 
 -- what moves settings beside the items. P1: "the waiting bytes and the count moving as said here": a piece leaves the bytes that it did not
 -- finish and is counted; closing "forgets the bytes and the count"; "A whole message leaves the count", and so do those of a pack. P2: a key call sets its text
@@ -116,7 +116,7 @@ besideItems s (piece m) = lineLeft (remaining (heldIn s) m) (s .count + length m
 besideItems s closing = lineLeft [] 0 ∷ []
 besideItems s (keyText k x) = keySet k x ∷ []
 besideItems s (pack p) = []
-besideItems s (quick m) = []
+besideItems s (short m) = []
 
 -- "A piece takes all its bytes, closing none"; a message all of its own, a pack those of its messages
 unfoldable pub takenBy : Asked → ℕ
@@ -125,7 +125,7 @@ takenBy (piece m) = length m
 takenBy closing = 0
 takenBy (keyText k x) = 0
 takenBy (pack p) = length (joined (bodiesOf p))
-takenBy (quick m) = length m
+takenBy (short m) = length m
 
 -- "It always ends by painting all 640 places", "A piece paints as a message does; closing paints too"; P2: a key call paints nothing, its text is
 -- "seen from the next message on"; P6: a pack paints as its messages do, the last of them all that is seen then, and "An empty pack .. does nothing";
@@ -136,15 +136,15 @@ paints? (piece m) = true
 paints? closing = true
 paints? (keyText k x) = false
 paints? (pack p) = some? (bodiesOf p)
-paints? (quick m) = false
+paints? (short m) = false
 
 -- 1: "a store is not of its size"; here, that all are: cells 3,840, layer 1,280, P11: dots 3,840, shown screen 640
 unfoldable pub sized : Terminal → Bool
 sized t = eqb (length (t .state .cells)) 3840 && (eqb (length (t .state .layer)) 1280 && (eqb (length (t .state .dots)) 3840 && eqb (length (t .shown)) 640))
 
 -- 2: "message over 4,096 bytes", "2 for a piece too"; here, that it is not
-abbrev pub short : List ℕ → Bool
-short m = leb (length m) 4096
+abbrev pub sendable : List ℕ → Bool
+sendable m = leb (length m) 4096
 
 -- 3: "settings not sound"; here, that they are
 unfoldable pub soundIn : Terminal → Bool
@@ -167,8 +167,8 @@ unfoldable pub knownIn : List ℕ → Bool
 knownIn p = all? known? (recordsOf p)
 
 -- 2: here, that no message of the pack is over 4,096 bytes
-unfoldable pub shortIn : List ℕ → Bool
-shortIn p = all? (λ (r : Record). short (r .body)) (recordsOf p)
+unfoldable pub sendableIn : List ℕ → Bool
+sendableIn p = all? (λ (r : Record). sendable (r .body)) (recordsOf p)
 
 -- a reason to refuse a call: its number, and whether the call is free of it
 pub record Reason : Type 0 where
@@ -193,29 +193,29 @@ allFree (r ∷ rs) = r .free && allFree rs
 -- whole pack is checked for each number before the next", "after 1: 19 too long, 20 cut record, 21 unknown kind, then 2 and 3, with 16 from P1 after 3"; P12: a
 -- short message is refused as the message is
 unfoldable pub reasons : Terminal → Asked → List Reason
-reasons t (message m) = reason 1 (sized t) ∷ reason 2 (short m) ∷ reason 3 (soundIn t) ∷ reason 16 (noneWaits (t .state .settings)) ∷ []
-reasons t (piece m) = reason 1 (sized t) ∷ reason 2 (short m) ∷ reason 3 (soundIn t) ∷ reason 15 (countable (t .state .settings) m) ∷ []
+reasons t (message m) = reason 1 (sized t) ∷ reason 2 (sendable m) ∷ reason 3 (soundIn t) ∷ reason 16 (noneWaits (t .state .settings)) ∷ []
+reasons t (piece m) = reason 1 (sized t) ∷ reason 2 (sendable m) ∷ reason 3 (soundIn t) ∷ reason 15 (countable (t .state .settings) m) ∷ []
 reasons t closing = reason 1 (sized t) ∷ reason 3 (soundIn t) ∷ []
 reasons t (keyText k x) = reason 3 (soundIn t) ∷ reason 17 (keyable k x) ∷ []
-reasons t (pack p) = reason 1 (sized t) ∷ reason 19 (packable p) ∷ reason 20 (uncut? p) ∷ reason 21 (knownIn p) ∷ reason 2 (shortIn p) ∷ reason 3 (soundIn t) ∷ reason 16 (noneWaits (t .state .settings)) ∷ []
-reasons t (quick m) = reason 1 (sized t) ∷ reason 2 (short m) ∷ reason 3 (soundIn t) ∷ reason 16 (noneWaits (t .state .settings)) ∷ []
+reasons t (pack p) = reason 1 (sized t) ∷ reason 19 (packable p) ∷ reason 20 (uncut? p) ∷ reason 21 (knownIn p) ∷ reason 2 (sendableIn p) ∷ reason 3 (soundIn t) ∷ reason 16 (noneWaits (t .state .settings)) ∷ []
+reasons t (short m) = reason 1 (sized t) ∷ reason 2 (sendable m) ∷ reason 3 (soundIn t) ∷ reason 16 (noneWaits (t .state .settings)) ∷ []
 
 -- those without 1 and 3, which stores of their sizes and sound settings exclude
 unfoldable pub ownReasons : Settings → Asked → List Reason
-ownReasons s (message m) = reason 2 (short m) ∷ reason 16 (noneWaits s) ∷ []
-ownReasons s (piece m) = reason 2 (short m) ∷ reason 15 (countable s m) ∷ []
+ownReasons s (message m) = reason 2 (sendable m) ∷ reason 16 (noneWaits s) ∷ []
+ownReasons s (piece m) = reason 2 (sendable m) ∷ reason 15 (countable s m) ∷ []
 ownReasons s closing = []
 ownReasons s (keyText k x) = reason 17 (keyable k x) ∷ []
-ownReasons s (pack p) = reason 19 (packable p) ∷ reason 20 (uncut? p) ∷ reason 21 (knownIn p) ∷ reason 2 (shortIn p) ∷ reason 16 (noneWaits s) ∷ []
-ownReasons s (quick m) = reason 2 (short m) ∷ reason 16 (noneWaits s) ∷ []
+ownReasons s (pack p) = reason 19 (packable p) ∷ reason 20 (uncut? p) ∷ reason 21 (knownIn p) ∷ reason 2 (sendableIn p) ∷ reason 16 (noneWaits s) ∷ []
+ownReasons s (short m) = reason 2 (sendable m) ∷ reason 16 (noneWaits s) ∷ []
 
 -- the call's number
 unfoldable pub numberOf : Terminal → Request → ℕ
 numberOf t q = firstOf (reasons t (q .asked))
 
--- 0: "call served"
-unfoldable pub accepted : Terminal → Request → Bool
-accepted t q = allFree (reasons t (q .asked))
+-- 0: "call served"; the papers speak of an accepted call, here the word accepted is left to sequences
+unfoldable pub granted : Terminal → Request → Bool
+granted t q = allFree (reasons t (q .asked))
 
 -- the items that an accepted call reads: one behind the other; of a pack those of its messages, each from its own start
 unfoldable pub readsBy : Terminal → Request → List Read
@@ -225,7 +225,7 @@ readsBy t q =
 
 -- the items that a call reads: "a refused call changes nothing"
 unfoldable pub readsIn : Terminal → Request → List Read
-readsIn t q = cond (accepted t q) (readsBy t q) []
+readsIn t q = cond (granted t q) (readsBy t q) []
 
 -- what happens in an accepted call: its items, then what it leaves of the line, or sets
 unfoldable pub eventsBy : Terminal → Request → List Event
@@ -233,14 +233,14 @@ eventsBy t q = eventsOf (readsBy t q) ++ besideItems (t .state .settings) (q .as
 
 -- what happens in a call
 unfoldable pub eventsIn : Terminal → Request → List Event
-eventsIn t q = cond (accepted t q) (eventsBy t q) []
+eventsIn t q = cond (granted t q) (eventsBy t q) []
 
 -- an accepted call that paints, paints all 640 places; an accepted short message those that it must (P12); a key call and an empty pack none; a refused call
 -- leaves "every store unaltered"
 unfoldable pub shownAfter : Terminal → Request → State → List ℕ
 shownAfter t q st =
-    cond (accepted t q && paints? (q .asked)) (painting st)
-    (cond (accepted t q && quick? (q .asked)) (shownBehind (readsBy t q) (t .state) st (t .shown)) (t .shown))
+    cond (granted t q && paints? (q .asked)) (painting st)
+    (cond (granted t q && short? (q .asked)) (shownBehind (readsBy t q) (t .state) st (t .shown)) (t .shown))
 
 -- what a call leaves
 unfoldable pub served : Terminal → Request → Terminal
@@ -248,7 +248,7 @@ served t q = let st = applyAll (eventsIn t q) (t .state) in record { state = st;
 
 -- the bytes that it takes: none where it is refused
 unfoldable pub takenIn : Terminal → Request → ℕ
-takenIn t q = cond (accepted t q) (takenBy (q .asked)) 0
+takenIn t q = cond (granted t q) (takenBy (q .asked)) 0
 
 -- its answer
 unfoldable pub answerOf : Terminal → Request → Answer
@@ -256,7 +256,7 @@ answerOf t q = countedAll (readsIn t q) (blankAnswer (numberOf t q) (takenIn t q
 
 -- P6: the record of its first refusal, counted from 1; 0 where no message of a pack has one, where it is refused, and of any other call
 unfoldable pub recordOf : Terminal → Request → ℕ
-recordOf t q = cond (packed? (q .asked) && accepted t q) (recordFrom 1 (packedBy (q .asked)) (t .state) (q .room)) 0
+recordOf t q = cond (packed? (q .asked) && granted t q) (recordFrom 1 (packedBy (q .asked)) (t .state) (q .room)) 0
 
 -- its printer bytes
 unfoldable pub printedBy : Terminal → Request → List ℕ
@@ -324,5 +324,5 @@ abbrev pub PackPromised : Settings → (p cells layer dots shown buffer : List �
 PackPromised s p cells layer dots shown buffer r cells′ layer′ dots′ shown′ printer = Promised (packCalled p (terminal s cells layer dots shown) buffer (r .answer) (r .record) (terminal (r .settings) cells′ layer′ dots′ shown′) printer)
 
 -- and the function `short`
-abbrev pub quickCalled : List ℕ → Terminal → List ℕ → Answer → Terminal → List ℕ → Call
-quickCalled m given buffer answer left printer = record { asked = quick m; given = given; left = left; answer = answer; in-record = 0; buffer = buffer; printer = printer }
+abbrev pub shortCalled : List ℕ → Terminal → List ℕ → Answer → Terminal → List ℕ → Call
+shortCalled m given buffer answer left printer = record { asked = short m; given = given; left = left; answer = answer; in-record = 0; buffer = buffer; printer = printer }

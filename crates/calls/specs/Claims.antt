@@ -19,7 +19,7 @@ use Rattle.model.specs.Bytes.{joined, written}
 use Rattle.calls.specs.Packs.{bodiesOf, some?}
 use Rattle.calls.specs.Repaint.{lifts?, placesIn}
 use Rattle.model.specs.Items.{bytesRead, obeyedBy}
-use Rattle.calls.specs.Calls.{Terminal, Asked, message, piece, closing, keyText, pack, quick, Request, request, accepted, readsIn, served, answerOf, printedBy, Call, requestOf}
+use Rattle.calls.specs.Calls.{Terminal, Asked, message, piece, closing, keyText, pack, short, Request, request, granted, readsIn, served, answerOf, printedBy, Call, requestOf}
 
 -- items one behind the other: each begins where the one before ended, and has a byte
 abbrev pub InOrder : ℕ → List Read → Type 0
@@ -39,7 +39,7 @@ waitsAfter s (piece m) = remaining (heldIn s) m
 waitsAfter s closing = []
 waitsAfter s (keyText k x) = heldIn s
 waitsAfter s (pack p) = []
-waitsAfter s (quick m) = []
+waitsAfter s (short m) = []
 
 -- and the stream's byte count
 unfoldable pub countAfter : Settings → Asked → ℕ
@@ -48,7 +48,7 @@ countAfter s (piece m) = s .count + length m
 countAfter s closing = 0
 countAfter s (keyText k x) = s .count
 countAfter s (pack p) = s .count
-countAfter s (quick m) = s .count
+countAfter s (short m) = s .count
 
 -- "Row r, column c is byte 80(r−1)+c−1 of the shown screen": all 640 places show the picture of what stands
 pub record Shown (t : Terminal) : Type 0 where
@@ -73,11 +73,11 @@ claims (piece m) places p = true
 claims closing places p = true
 claims (keyText k x) places p = places p && aboveRow8 p
 claims (pack b) places p = some? (bodiesOf b) || places p
-claims (quick m) places p = places p || not (aboveRow8 p)
+claims (short m) places p = places p || not (aboveRow8 p)
 
 -- and after any call: a refused one leaves what was claimed
 unfoldable pub claimedBy : Terminal → Request → (ℕ → Bool) → ℕ → Bool
-claimedBy t q places p = cond (accepted t q) (claims (q .asked) places p) (places p)
+claimedBy t q places p = cond (granted t q) (claims (q .asked) places p) (places p)
 
 -- P2: a call after which less may be claimed
 abbrev pub unclaims? : Asked → Bool
@@ -86,7 +86,7 @@ unclaims? (piece m) = false
 unclaims? closing = false
 unclaims? (keyText k x) = true
 unclaims? (pack p) = false
-unclaims? (quick m) = false
+unclaims? (short m) = false
 
 -- P12, "Afterwards each place holds the new picture, or is unaltered and had the same picture before and after"
 pub data PlaceAfter (given after : Terminal) (p : ℕ) : Type 0 where

@@ -7,7 +7,7 @@ use lib.ListN.{length, getD, take}
 use Rattle.model.specs.State.{State}
 use Rattle.model.specs.Sound.{Sound}
 use Rattle.model.specs.Items.{Event, applyAll}
-use Rattle.calls.specs.Calls.{Terminal, message, packed?, packedBy, Request, request, Call, requestOf, Promised, accepted, answerOf, eventsIn, served}
+use Rattle.calls.specs.Calls.{Terminal, message, packed?, packedBy, Request, request, Call, requestOf, Promised, granted, answerOf, eventsIn, served}
 use Rattle.calls.specs.Opening.{OpeningPromised}
 use Rattle.calls.specs.Claims.{unclaims?, claimedBy}
 use Rattle.model.specs.Kept.{setsMode, movesWindow, noEvent}
@@ -83,7 +83,7 @@ oneByOne t (m ∷ ms) room = let q = request (message m) room in q ∷ oneByOne 
 
 -- what a call stands for: "an accepted pack stands for its messages, a refused one for none"; any other call for itself
 unfoldable pub standsFor : Terminal → Request → List Request
-standsFor t q = cond (packed? (q .asked)) (cond (accepted t q) (oneByOne t (packedBy (q .asked)) (q .room)) []) (q ∷ [])
+standsFor t q = cond (packed? (q .asked)) (cond (granted t q) (oneByOne t (packedBy (q .asked)) (q .room)) []) (q ∷ [])
 
 -- a list with each pack replaced by its messages
 unfoldable pub unpacked : Terminal → List Request → List Request

@@ -14,7 +14,7 @@ use Rattle.model.specs.Screens.{here, linesHere, columnsHere}
 use Rattle.model.specs.Picture.{picture}
 use Rattle.model.specs.Sequences.{codeOf}
 use Rattle.model.specs.Reading.{Read}
-use Rattle.model.specs.Rules.{shownAt, awaited}
+use Rattle.model.specs.Rules.{shownAt, lateStep}
 use Rattle.model.specs.Items.{obeyedBy}
 
 -- the second bytes of the sequences after which the picture may be another anywhere: they blank, move or select, or change the layer, the window, secret or the key line
@@ -35,7 +35,7 @@ lowest? st = not (ltb (here st .line) (linesHere st))
 -- a printed character lifts it: by the late step before it (P9), or by the step from the last column behind it
 unfoldable pub printLifts? : State → Bool
 printLifts? st =
-    let a = awaited st in
+    let a = lateStep st in
     (eqb (here st .waiting) 1 && lowest? st) || (not (ltb (here a .column) (columnsHere a)) && (not (eqb (a .settings .rule) 2) && lowest? a))
 
 -- an item lifts it
@@ -55,7 +55,7 @@ wide? r st = not (calm? (r .item)) || (lifts? (r .item) st || movesTop? r st)
 
 -- the place of the cell that a printed character goes to, after its late step (P9); 640 where the window does not show it
 unfoldable pub printPlace : State → ℕ
-printPlace st = let a = awaited st in shownAt (a .settings) (here a .line) (here a .column)
+printPlace st = let a = lateStep st in shownAt (a .settings) (here a .line) (here a .column)
 
 -- "places of cells it prints": an item's, 640 if it prints none
 unfoldable pub placeBy : Item → State → ℕ

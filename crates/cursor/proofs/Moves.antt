@@ -8,11 +8,11 @@ use lib.ListN.{length-set, set}
 use lib.Dec.{eqb, ltb}
 use borrow.Author.Tests.{eq-eqb, eqb-true, le-ltb, lt-ltb, ne-eqb}
 use Rattle.model.specs.declared.Place.{Place}
-use Rattle.model.specs.State.{State, putAt, state, waitAt}
+use Rattle.model.specs.State.{State, putAt, state, lateAt}
 use Rattle.model.specs.Screens.{columnsHere, here, linesHere}
 use Rattle.model.specs.Marks.{runningOn}
-use Rattle.model.specs.Sound.{mostWait}
-use Rattle.model.specs.Rules.{awaited, control, down, lifted, onward, placed, remarked, right, runsOn, stored, toColumn, unmark}
+use Rattle.model.specs.Sound.{mostLate}
+use Rattle.model.specs.Rules.{lateStep, control, down, lifted, onward, placed, remarked, right, runsOn, stored, toColumn, emptyAt}
 use Rattle.ground.specs.declared.Frame.{Frame}
 use Rattle.model.proofs.Tests.{and-right, cond-at}
 use Rattle.ground.specs.Frame.{Ready, Stands}
@@ -21,7 +21,7 @@ use Rattle.ground.specs.Logical.{Remarks}
 use Rattle.ground.specs.Here.{cellIn, shownHere}
 use Rattle.ground.proofs.Acting.{at-value, likewise, stays, still, when-false, when-true}
 use Rattle.ground.proofs.Carried.{at-value-with, remarked-acts, then-with, unmarked-acts, when-false-with, when-true-with}
-use Rattle.ground.proofs.Steps.{cell-is, cursor-acts, here-is, moved, placed-acts, put-stands, unmarked-layer}
+use Rattle.ground.proofs.Steps.{cell-is, cursor-acts, here-is, moved, placed-acts, put-stands, emptied-layer}
 
 -- tests: the cursor's line is above the last, its column before the last
 line-test : {f : Frame} {p : Place} {b : Bool} → ltb (p .line) (f .lines) ≡ b → Reads (λ (st : State). ltb (here st .line) (linesHere st)) f p b
@@ -54,20 +54,20 @@ module _ {f : Frame} {p : Place} {c l : List ℕ} (h : Ready f p c l) where
       at-value (λ (x : Place) (st : State). toColumn (max 1 (x .column - 1)) st) here-is
       (column-acts (max 1 (p .column - 1)) (omega arith) (omega (arith, h .stands .fits)) (rw a at k))
 
-  pub stored-acts : (code : ℕ) {m n : ℕ} {l′ : List ℕ} → m ≡ cellIn f p → Reads shownHere f p n → l′ ≡ unmark n l → Acts (stored code) f p p c l (set c m code) l′
+  pub stored-acts : (code : ℕ) {m n : ℕ} {l′ : List ℕ} → m ≡ cellIn f p → Reads shownHere f p n → l′ ≡ emptyAt n l → Acts (stored code) f p p c l (set c m code) l′
   unfolding stored
   stored-acts code {m} {n} a shown b =
-      stays (record { stands = h .stands; cells-are = length-set c m code ∙ h .cells-are; layer-are = unmarked-layer n (h .layer-are) b })
+      stays (record { stands = h .stands; cells-are = length-set c m code ∙ h .cells-are; layer-are = emptied-layer n (h .layer-are) b })
       (λ s ds e i. rw (cell-is (state s c l ds) e i, shown (state s c l ds) e i, a, b))
 
 -- P9: a cursor waits in the last column under rule 2, and nowhere else
-waiting-stands : {f : Frame} {p : Place} → Stands f p → f .columns ≤ p .column → f .rule ≡ 2 → Stands f (waitAt p)
-waiting-stands {f} {p} h k e =
-    let w : 1 ≤ mostWait (f .rule) (f .columns) (p .column) = rw (eq-eqb (f .rule) 2 e, eq-eqb (p .column) (f .columns) (omega (arith, h .fits))) (omega arith) in
+late-stands : {f : Frame} {p : Place} → Stands f p → f .columns ≤ p .column → f .rule ≡ 2 → Stands f (lateAt p)
+late-stands {f} {p} h k e =
+    let w : 1 ≤ mostLate (f .rule) (f .columns) (p .column) = rw (eq-eqb (f .rule) 2 e, eq-eqb (p .column) (f .columns) (omega (arith, h .fits))) (omega arith) in
     moved h (record { line-low = h .fits .line-low; line-high = h .fits .line-high; column-low = h .fits .column-low; column-high = h .fits .column-high; top-low = h .fits .top-low; top-high = h .fits .top-high; waits = w })
 
-pub waits-not : {f : Frame} {p : Place} → Stands f p → p .column < f .columns → p .waiting ≡ 0
-waits-not {f} {p} h k =
+pub late-not : {f : Frame} {p : Place} → Stands f p → p .column < f .columns → p .waiting ≡ 0
+late-not {f} {p} h k =
     cond-at (λ (x : ℕ). p .waiting ≤ x → p .waiting ≡ 0) (eqb (f .rule) 2 && eqb (p .column) (f .columns)) 1 0
     (λ e i. absurd (omega (arith, eqb-true (p .column) (f .columns) (and-right (eqb (f .rule) 2) (eqb (p .column) (f .columns)) e)))) (λ e i. omega arith) (h .fits .waits)
 
@@ -95,24 +95,24 @@ module _ {f : Frame} {p : Place} {c l : List ℕ} where
       (at-value (λ (x : Place) (st : State). toColumn (x .column + 1) st) here-is (column-acts h (p .column + 1) (omega arith) (omega arith) j))
 
   -- P9: in the last column, by the rule
-  pub right-waits : {r : Place} → Ready f p c l → f .columns ≤ p .column → f .rule ≡ 2 → r ≡ waitAt p → Acts right f p r c l c l
+  pub right-late : {r : Place} → Ready f p c l → f .columns ≤ p .column → f .rule ≡ 2 → r ≡ lateAt p → Acts right f p r c l c l
   unfolding right
-  right-waits h k e j =
+  right-late h k e j =
       when-false _ (column-test (le-ltb (p .column) (f .columns) k))
-      (when-true _ (rule-test (eq-eqb (f .rule) 2 e)) (rw j (at-value (λ (x : Place) (st : State). placed (waitAt x) st) here-is (placed-acts h (waitAt p) (waiting-stands (h .stands) k e)))))
+      (when-true _ (rule-test (eq-eqb (f .rule) 2 e)) (rw j (at-value (λ (x : Place) (st : State). placed (lateAt x) st) here-is (placed-acts h (lateAt p) (late-stands (h .stands) k e)))))
 
   pub right-wraps : {r : Place} {m c′ l′ m′ : List ℕ} → f .columns ≤ p .column → (f .rule ≡ 2 → ⊥) → ActsWith onward f p r c l m c′ l′ m′ → ActsWith right f p r c l m c′ l′ m′
   unfolding right
   right-wraps k e a = when-false-with _ (column-test (le-ltb (p .column) (f .columns) k)) (when-false-with _ (rule-test (ne-eqb (f .rule) 2 e)) a)
 
   -- P9: the step that waited
-  pub awaited-steps : {r : Place} {m c′ l′ m′ : List ℕ} → p .waiting ≡ 1 → ActsWith onward f p r c l m c′ l′ m′ → ActsWith awaited f p r c l m c′ l′ m′
-  unfolding awaited
-  awaited-steps k a = when-true-with _ (flag-test (eq-eqb (p .waiting) 1 k)) a
+  pub late-step-steps : {r : Place} {m c′ l′ m′ : List ℕ} → p .waiting ≡ 1 → ActsWith onward f p r c l m c′ l′ m′ → ActsWith lateStep f p r c l m c′ l′ m′
+  unfolding lateStep
+  late-step-steps k a = when-true-with _ (flag-test (eq-eqb (p .waiting) 1 k)) a
 
-  pub awaited-still : Ready f p c l → (p .waiting ≡ 1 → ⊥) → Acts awaited f p p c l c l
-  unfolding awaited
-  awaited-still h k = when-false _ (flag-test (ne-eqb (p .waiting) 1 k)) (still h)
+  pub late-step-still : Ready f p c l → (p .waiting ≡ 1 → ⊥) → Acts lateStep f p p c l c l
+  unfolding lateStep
+  late-step-still h k = when-false _ (flag-test (ne-eqb (p .waiting) 1 k)) (still h)
 
   -- P5: the line above the cursor's is marked after the step
   pub onward-marks : {r : Place} {m c′ l′ m₁ m₂ : List ℕ} → ActsWith (λ (st : State). down (toColumn 1 st)) f p r c l m c′ l′ m₁ → Remarks (f .first) (runningOn (r .line - 1)) m₁ m₂ → ActsWith onward f p r c l m c′ l′ m₂

@@ -18,7 +18,7 @@ use Rattle.ground.specs.Acts.{Reads, withPlace}
 use Rattle.ground.specs.Here.{shownHere}
 use Rattle.cursor.specs.Uncovers.{Uncovers}
 use Rattle.ground.proofs.Acting.{framed-placed, placed-there}
-use Rattle.ground.proofs.Rows.{unmarked-empty}
+use Rattle.ground.proofs.Rows.{empty-from-bare}
 
 -- line l under a window of top t over r rows: a where the rows show it, b where mode 1 shows it in the right half
 spot : Bool → ℕ → ℕ → ℕ → ℕ → ℕ → ℕ
@@ -99,7 +99,7 @@ pub bare-uncovers : {f : Frame} {p : Place} {l : List ℕ} (n : ℕ) → l ≡ r
 bare-uncovers {f} {p} {l} n k = go (ltb (p .line) (p .top)) (ltb (p .line - p .top) (f .rows)) (ltb (p .line - p .top) (f .height)) refl refl refl
   where
     from : (a : ℕ) → Reads shownHere f p a → Uncovers f p n l l
-    from a h = record { from = a; shows = h; is = sym (unmarked-empty n a l k) }
+    from a h = record { from = a; shows = h; is = sym (empty-from-bare n a l k) }
 
     go : (a b d : Bool) → ltb (p .line) (p .top) ≡ a → ltb (p .line - p .top) (f .rows) ≡ b → ltb (p .line - p .top) (f .height) ≡ d → Uncovers f p n l l
     go true b d e i j = from 640 (shown-above (ltb-true (p .line) (p .top) e))

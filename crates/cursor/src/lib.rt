@@ -12,7 +12,7 @@ use store::sizes::as_size;
 ghost use mathlib.Core.Path.{_≡_};
 ghost use lib.ListN.{length};
 ghost use Prim.Native.Nat.{_-_, _≤_, max};
-ghost use Rattle.model.specs.Rules.{awaited, stored, down, onward, right};
+ghost use Rattle.model.specs.Rules.{lateStep, stored, down, onward, right};
 ghost use Rattle.ground.specs.Frame.{LayerOf, Ready, Stands};
 ghost use Rattle.ground.specs.Acts.{Acts, ActsWith, Reads};
 ghost use Rattle.ground.specs.Here.{shownHere};
@@ -102,14 +102,14 @@ pub fn right(
     if place.column < frame.columns {
         places::put_at(place, place.line, place.column + 1)
     } else if frame.rule == 2 {
-        places::wait_at(place)
+        places::late_at(place)
     } else {
         onward(frame, place, cells, layer, marks)
     }
 }
 
 // P9: "the next printed character first steps to the next line", where the cursor waits.
-pub fn awaited(
+pub fn late_step(
     frame: Frame,
     place: Place,
     cells: &mut [u8],
@@ -118,7 +118,7 @@ pub fn awaited(
 ) -> Place
     requires { ⌜ Ready frame place (now cells) (now layer) ⌝ }
     requires { ⌜ length (now marks) ≡ 96 ⌝ }
-    ensures { λ r. ⌜ ActsWith awaited frame place r (now (cells .entry)) (now (layer .entry)) (now (marks .entry)) (now (cells .exit)) (now (layer .exit)) (now (marks .exit)) ⌝ }
+    ensures { λ r. ⌜ ActsWith lateStep frame place r (now (cells .entry)) (now (layer .entry)) (now (marks .entry)) (now (cells .exit)) (now (layer .exit)) (now (marks .exit)) ⌝ }
 {
     if place.waiting == 1 {
         onward(frame, place, cells, layer, marks)

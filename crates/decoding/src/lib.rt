@@ -125,7 +125,7 @@ fn four_or_five_bytes(own: &[u8], at: usize, second: u8) -> Item
             from: byte(own, 2),
             count: byte(own, 3),
         }),
-        210 => Item::Sequence(Sequence::Mark {
+        210 => Item::Sequence(Sequence::Cover {
             row: byte(own, 2),
             column: byte(own, 3),
             code: byte(own, 4),

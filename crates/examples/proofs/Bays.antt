@@ -2,7 +2,7 @@
 use mathlib.Core.Path.{_∙_, _≡_}
 use mathlib.Core.Bool.{true}
 use mathlib.Core.List.{_++_}
-use Rattle.examples.specs.Examples.{added, allRight, marked, parameters, unmarked}
+use Rattle.examples.specs.Examples.{added, allRight, provedRows, parameters, otherRows}
 use Rattle.examples.specs.Runs.{allRun, keyLines, streams}
 use Rattle.examples.specs.LineRuns.{logicalLines}
 use Rattle.examples.specs.WrapRuns.{lateWraps}
@@ -10,7 +10,7 @@ use Rattle.examples.specs.CurveRuns.{curveRuns, loadCurve}
 use Rattle.examples.proofs.Worked.{examples, runs}
 use Rattle.examples.proofs.ComputingLaws.{all-computed, computed-runs}
 
-pub bays : allRight (marked ++ (unmarked ++ (added ++ (parameters ++ loadCurve)))) ≡ true
+pub bays : allRight (provedRows ++ (otherRows ++ (added ++ (parameters ++ loadCurve)))) ≡ true
 bays = all-computed _ ∙ examples
 
 pub turns : allRun (streams ++ (keyLines ++ (logicalLines ++ (lateWraps ++ curveRuns)))) ≡ true

@@ -7,7 +7,7 @@ use lib.ListN.{replicate}
 use Rattle.model.specs.declared.Answer.{Answer}
 use Rattle.calls.specs.Repaint.{shownBehind}
 use Rattle.model.specs.Items.{applyAll, blankAnswer, copies, countedAll, eventsOf}
-use Rattle.calls.specs.Calls.{Request, Terminal, accepted, eventsBy, message, numberOf, paints?, quick?, readsBy, request, short, takenBy, terminal}
+use Rattle.calls.specs.Calls.{Request, Terminal, granted, eventsBy, message, numberOf, paints?, short?, readsBy, request, sendable, takenBy, terminal}
 use Rattle.calls.specs.Opening.{openedTerminal}
 use Rattle.examples.specs.Examples.{Example, Fact, allHold}
 use Rattle.examples.specs.Runs.{Run, Turn}
@@ -15,7 +15,7 @@ use Rattle.calls.proofs.ByRows.{byRows}
 
 -- what an accepted call leaves, its answer, its printer bytes
 unfoldable pub left : Terminal → Request → Terminal
-left t q = let st = applyAll (eventsBy t q) (t .state) in record { state = st; shown = cond (paints? (q .asked)) (byRows st) (cond (quick? (q .asked)) (shownBehind (readsBy t q) (t .state) st (t .shown)) (t .shown)) }
+left t q = let st = applyAll (eventsBy t q) (t .state) in record { state = st; shown = cond (paints? (q .asked)) (byRows st) (cond (short? (q .asked)) (shownBehind (readsBy t q) (t .state) st (t .shown)) (t .shown)) }
 
 unfoldable pub answered : Terminal → Request → Answer
 answered t q = countedAll (readsBy t q) (blankAnswer 0 (takenBy (q .asked)))
@@ -34,7 +34,7 @@ refusedRight fs t q = allHold fs t (blankAnswer (numberOf t q) 0) []
 unfoldable pub computedRight : Example → Bool
 computedRight e =
     let q : Request = request (message (e .sent)) (e .room) in
-    elim (short (e .sent)) [ true ↦ servedRight (e .facts) (openedTerminal 1) q | false ↦ refusedRight (e .facts) (openedTerminal 1) q ]
+    elim (sendable (e .sent)) [ true ↦ servedRight (e .facts) (openedTerminal 1) q | false ↦ refusedRight (e .facts) (openedTerminal 1) q ]
 
 unfoldable pub allComputed : List Example → Bool
 allComputed [] = true
@@ -45,7 +45,7 @@ unfoldable pub computedTurns : Terminal → List Turn → Bool
 computedTurns t [] = true
 computedTurns t (x ∷ xs) =
     let q : Request = request (x .asked) (x .room) in
-    elim (accepted t q) [
+    elim (granted t q) [
       | true ↦ elim (servedRight (x .facts) t q) [ true ↦ computedTurns (left t q) xs | false ↦ false ]
       | false ↦ elim (refusedRight (x .facts) t q) [ true ↦ computedTurns t xs | false ↦ false ]
     ]

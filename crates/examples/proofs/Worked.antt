@@ -15,13 +15,13 @@ use Rattle.model.specs.Picture.{copied, copiedRows, covered, halves, painting, 
 use Rattle.model.specs.Sequences.{find, modeRowOf, rowOf, idle?}
 use Rattle.model.specs.Reading.{afterEscape, afterMode, byteOf, decoded, ended, gathered, itemOf, kindOf, needed, remaining, unfinished?}
 use Rattle.model.specs.Judging.{allowed, badOf, fitting, legal?, judgedRanges}
-use Rattle.model.specs.Rules.{applyItem, awaited, blankFrom, centred, cleared, control, displaying, down, emptied, erased, flagged, held, keyLine, lifted, onward, remarked, runsOn, shifted, withKeys, withKindPatterns, mark, missed, modeSet, nearest, obeyed, onLines, placed, printed, right, shownAt, stored, toColumn, topped, tracked, trackedFar, unmark, withCells, withLayer, withSettings, dotsCleared, withDots}
+use Rattle.model.specs.Rules.{applyItem, lateStep, blankFrom, centred, cleared, control, displaying, down, emptied, erased, flagged, held, keyLine, lifted, onward, remarked, runsOn, shifted, withKeys, withKindPatterns, cover, missed, modeSet, nearest, obeyed, onLines, placed, printed, right, shownAt, stored, toColumn, topped, tracked, trackedFar, emptyAt, withCells, withLayer, withSettings, dotsCleared, withDots}
 use Rattle.model.specs.Dot.{acted, dotAt, weight, withDot}
 use Rattle.model.specs.Strokes.{drawn, flat, lineDot, lined as stroke, longer, maskBit, offsetAt, placed as strokePlaced, shorter, stepped}
 use Rattle.model.specs.Items.{applyAll, copies, countedAll, happened, lined, readsOf, texted}
-use Rattle.calls.specs.Calls.{accepted, allFree, answerOf, countable, eventsBy, eventsIn, firstOf, itemBytes, besideItems, noneWaits, numberOf, printedBy, readsBy, readsIn, reasons, served, soundIn, shownAfter, sized, startOf, takenBy, takenIn, knownIn, packable, recordOf, shortIn}
+use Rattle.calls.specs.Calls.{granted, allFree, answerOf, countable, eventsBy, eventsIn, firstOf, itemBytes, besideItems, noneWaits, numberOf, printedBy, readsBy, readsIn, reasons, served, soundIn, shownAfter, sized, startOf, takenBy, takenIn, knownIn, packable, recordOf, sendableIn}
 use Rattle.model.specs.Keyable.{keyable}
-use Rattle.examples.specs.Examples.{added, allHold, holds, marked, parameters, unmarked}
+use Rattle.examples.specs.Examples.{added, allHold, holds, provedRows, parameters, otherRows}
 use Rattle.examples.specs.Runs.{allRun, keyLines, streams, turnsHold}
 use Rattle.examples.specs.LineRuns.{logicalLines}
 use Rattle.calls.specs.Opening.{openedBy, openingNumber, ruled}
@@ -37,17 +37,17 @@ use Rattle.examples.specs.ShortRuns.{afterAll, allLooks, allSighted, sho
 use Rattle.examples.proofs.Computing.{allComputed, answered, copiedBy, left, computedRight, computedRuns, computedTurns, refusedRight, servedRight}
 use Rattle.calls.proofs.ByRows.{below, byRows, overlaid, row, rowsFrom}
 
-pub examples : allComputed (marked ++ (unmarked ++ (added ++ (parameters ++ loadCurve)))) ≡ true
-unfolding copySizeOf dotCopy pictureCopy withDots dotsCleared weight dotAt withDot acted longer shorter flat offsetAt strokePlaced lineDot maskBit stepped drawn stroke idle? judgedRanges screens aloneRanges second? joined onPart blanked scrolledUp scrolledDown put member passes inRanges? firstBad linesOf columnsOf placeOf textRows height base size lineAt cellAt keyRanges plainRanges arrayRanges insideRanges shapeRanges otherRanges inside? zeros? line? markOf marked? marks? sound? windowAt halves sides textAt under covered pictureAt picture painting copiedRows copied find rowOf modeRowOf afterMode afterEscape needed unfinished? gathered remaining kindOf decoded ended itemOf byteOf legal? badOf allowed fitting withSettings withCells withLayer placed emptied shownAt unmark mark stored onLines listed remarked lifted down toColumn runningOn runsOn onward right awaited topped held centred nearest missed tracked trackedFar printed unmarkedFrom cleared control blankFrom running endOf erased marksUp marksDown endUnmarked shifted modeSet flagged displaying keyLine withKeys withKindPatterns obeyed applyItem readsOf happened applyAll copies countedAll itemBytes sized soundIn firstOf allFree reasons numberOf accepted noneWaits countable keyable besideItems startOf takenBy readsBy eventsBy holds allHold marked unmarked added parameters loadCurve overlaid below row rowsFrom byRows left answered copiedBy servedRight refusedRight computedRight allComputed
+pub examples : allComputed (provedRows ++ (otherRows ++ (added ++ (parameters ++ loadCurve)))) ≡ true
+unfolding copySizeOf dotCopy pictureCopy withDots dotsCleared weight dotAt withDot acted longer shorter flat offsetAt strokePlaced lineDot maskBit stepped drawn stroke idle? judgedRanges screens aloneRanges second? joined onPart blanked scrolledUp scrolledDown put member passes inRanges? firstBad linesOf columnsOf placeOf textRows height base size lineAt cellAt keyRanges plainRanges arrayRanges insideRanges shapeRanges otherRanges inside? zeros? line? markOf marked? marks? sound? windowAt halves sides textAt under covered pictureAt picture painting copiedRows copied find rowOf modeRowOf afterMode afterEscape needed unfinished? gathered remaining kindOf decoded ended itemOf byteOf legal? badOf allowed fitting withSettings withCells withLayer placed emptied shownAt emptyAt cover stored onLines listed remarked lifted down toColumn runningOn runsOn onward right lateStep topped held centred nearest missed tracked trackedFar printed unmarkedFrom cleared control blankFrom running endOf erased marksUp marksDown endUnmarked shifted modeSet flagged displaying keyLine withKeys withKindPatterns obeyed applyItem readsOf happened applyAll copies countedAll itemBytes sized soundIn firstOf allFree reasons numberOf granted noneWaits countable keyable besideItems startOf takenBy readsBy eventsBy holds allHold provedRows otherRows added parameters loadCurve overlaid below row rowsFrom byRows left answered copiedBy servedRight refusedRight computedRight allComputed
 examples = refl
 
 pub runs : computedRuns (streams ++ (keyLines ++ (logicalLines ++ (lateWraps ++ curveRuns)))) ≡ true
-unfolding copySizeOf dotCopy pictureCopy withDots dotsCleared weight dotAt withDot acted longer shorter flat offsetAt strokePlaced lineDot maskBit stepped drawn stroke idle? judgedRanges screens aloneRanges second? padded lined texted joined onPart blanked scrolledUp scrolledDown put member passes inRanges? firstBad linesOf columnsOf placeOf textRows height base size lineAt cellAt keyRanges plainRanges arrayRanges insideRanges shapeRanges otherRanges inside? zeros? line? markOf marked? marks? sound? windowAt halves sides textAt under covered pictureAt picture painting copiedRows copied find rowOf modeRowOf afterMode afterEscape needed unfinished? gathered remaining kindOf decoded ended itemOf byteOf legal? badOf allowed fitting withSettings withCells withLayer placed emptied shownAt unmark mark stored onLines listed remarked lifted down toColumn runningOn runsOn onward right awaited topped held centred nearest missed tracked trackedFar printed unmarkedFrom cleared control blankFrom running endOf erased marksUp marksDown endUnmarked shifted modeSet flagged displaying keyLine withKeys withKindPatterns obeyed applyItem readsOf happened applyAll copies countedAll itemBytes sized soundIn firstOf allFree reasons numberOf accepted noneWaits countable keyable besideItems startOf takenBy readsBy eventsBy holds allHold streams keyLines logicalLines lateWraps curveRuns overlaid below row rowsFrom byRows left answered copiedBy servedRight refusedRight computedTurns computedRuns
+unfolding copySizeOf dotCopy pictureCopy withDots dotsCleared weight dotAt withDot acted longer shorter flat offsetAt strokePlaced lineDot maskBit stepped drawn stroke idle? judgedRanges screens aloneRanges second? padded lined texted joined onPart blanked scrolledUp scrolledDown put member passes inRanges? firstBad linesOf columnsOf placeOf textRows height base size lineAt cellAt keyRanges plainRanges arrayRanges insideRanges shapeRanges otherRanges inside? zeros? line? markOf marked? marks? sound? windowAt halves sides textAt under covered pictureAt picture painting copiedRows copied find rowOf modeRowOf afterMode afterEscape needed unfinished? gathered remaining kindOf decoded ended itemOf byteOf legal? badOf allowed fitting withSettings withCells withLayer placed emptied shownAt emptyAt cover stored onLines listed remarked lifted down toColumn runningOn runsOn onward right lateStep topped held centred nearest missed tracked trackedFar printed unmarkedFrom cleared control blankFrom running endOf erased marksUp marksDown endUnmarked shifted modeSet flagged displaying keyLine withKeys withKindPatterns obeyed applyItem readsOf happened applyAll copies countedAll itemBytes sized soundIn firstOf allFree reasons numberOf granted noneWaits countable keyable besideItems startOf takenBy readsBy eventsBy holds allHold streams keyLines logicalLines lateWraps curveRuns overlaid below row rowsFrom byRows left answered copiedBy servedRight refusedRight computedTurns computedRuns
 runs = refl
 
 -- "A piece takes all its bytes" is of the definition that these forms pass by
 pub first-run : allRun (take 1 streams) ≡ true
-unfolding copySizeOf dotCopy pictureCopy withDots dotsCleared weight dotAt withDot acted longer shorter flat offsetAt strokePlaced lineDot maskBit stepped drawn stroke idle? judgedRanges screens aloneRanges second? padded lined texted joined onPart blanked scrolledUp scrolledDown put member passes inRanges? firstBad linesOf columnsOf placeOf textRows height base size lineAt cellAt keyRanges plainRanges arrayRanges insideRanges shapeRanges otherRanges inside? zeros? line? markOf marked? marks? sound? windowAt halves sides textAt under covered pictureAt picture painting copiedRows copied find rowOf modeRowOf afterMode afterEscape needed unfinished? gathered remaining kindOf decoded ended itemOf byteOf legal? badOf allowed fitting withSettings withCells withLayer placed emptied shownAt unmark mark stored onLines listed remarked lifted down toColumn runningOn runsOn onward right awaited topped held centred nearest missed tracked trackedFar printed unmarkedFrom cleared control blankFrom running endOf erased marksUp marksDown endUnmarked shifted modeSet flagged displaying keyLine withKeys withKindPatterns obeyed applyItem readsOf happened applyAll copies countedAll itemBytes sized soundIn firstOf allFree reasons numberOf accepted noneWaits countable keyable besideItems startOf takenBy takenIn readsBy readsIn eventsBy eventsIn shownAfter served answerOf printedBy holds allHold turnsHold allRun streams
+unfolding copySizeOf dotCopy pictureCopy withDots dotsCleared weight dotAt withDot acted longer shorter flat offsetAt strokePlaced lineDot maskBit stepped drawn stroke idle? judgedRanges screens aloneRanges second? padded lined texted joined onPart blanked scrolledUp scrolledDown put member passes inRanges? firstBad linesOf columnsOf placeOf textRows height base size lineAt cellAt keyRanges plainRanges arrayRanges insideRanges shapeRanges otherRanges inside? zeros? line? markOf marked? marks? sound? windowAt halves sides textAt under covered pictureAt picture painting copiedRows copied find rowOf modeRowOf afterMode afterEscape needed unfinished? gathered remaining kindOf decoded ended itemOf byteOf legal? badOf allowed fitting withSettings withCells withLayer placed emptied shownAt emptyAt cover stored onLines listed remarked lifted down toColumn runningOn runsOn onward right lateStep topped held centred nearest missed tracked trackedFar printed unmarkedFrom cleared control blankFrom running endOf erased marksUp marksDown endUnmarked shifted modeSet flagged displaying keyLine withKeys withKindPatterns obeyed applyItem readsOf happened applyAll copies countedAll itemBytes sized soundIn firstOf allFree reasons numberOf granted noneWaits countable keyable besideItems startOf takenBy takenIn readsBy readsIn eventsBy eventsIn shownAfter served answerOf printedBy holds allHold turnsHold allRun streams
 first-run = refl
 
 pub opens : openings ≡ true
@@ -55,7 +55,7 @@ unfolding openings openingNumber openedBy ruled sized
 opens = refl
 
 pub kept : dotsKept ≡ true
-unfolding copySizeOf dotCopy pictureCopy withDots dotsCleared weight dotAt withDot acted longer shorter flat offsetAt strokePlaced lineDot maskBit stepped drawn stroke idle? judgedRanges screens aloneRanges second? padded lined texted joined onPart blanked scrolledUp scrolledDown put member passes inRanges? firstBad linesOf columnsOf placeOf textRows height base size lineAt cellAt keyRanges plainRanges arrayRanges insideRanges shapeRanges otherRanges inside? zeros? line? markOf marked? marks? sound? windowAt halves sides textAt under covered pictureAt picture painting copiedRows copied find rowOf modeRowOf afterMode afterEscape needed unfinished? gathered remaining kindOf decoded ended itemOf byteOf legal? badOf allowed fitting withSettings withCells withLayer placed emptied shownAt unmark mark stored onLines listed remarked lifted down toColumn runningOn runsOn onward right awaited topped held centred nearest missed tracked trackedFar printed unmarkedFrom cleared control blankFrom running endOf erased marksUp marksDown endUnmarked shifted modeSet flagged displaying keyLine withKeys withKindPatterns obeyed applyItem readsOf happened applyAll copies countedAll itemBytes sized soundIn firstOf allFree reasons numberOf accepted noneWaits countable keyable besideItems startOf takenBy takenIn readsBy readsIn eventsBy eventsIn shownAfter served answerOf printedBy dotsKept
+unfolding copySizeOf dotCopy pictureCopy withDots dotsCleared weight dotAt withDot acted longer shorter flat offsetAt strokePlaced lineDot maskBit stepped drawn stroke idle? judgedRanges screens aloneRanges second? padded lined texted joined onPart blanked scrolledUp scrolledDown put member passes inRanges? firstBad linesOf columnsOf placeOf textRows height base size lineAt cellAt keyRanges plainRanges arrayRanges insideRanges shapeRanges otherRanges inside? zeros? line? markOf marked? marks? sound? windowAt halves sides textAt under covered pictureAt picture painting copiedRows copied find rowOf modeRowOf afterMode afterEscape needed unfinished? gathered remaining kindOf decoded ended itemOf byteOf legal? badOf allowed fitting withSettings withCells withLayer placed emptied shownAt emptyAt cover stored onLines listed remarked lifted down toColumn runningOn runsOn onward right lateStep topped held centred nearest missed tracked trackedFar printed unmarkedFrom cleared control blankFrom running endOf erased marksUp marksDown endUnmarked shifted modeSet flagged displaying keyLine withKeys withKindPatterns obeyed applyItem readsOf happened applyAll copies countedAll itemBytes sized soundIn firstOf allFree reasons numberOf granted noneWaits countable keyable besideItems startOf takenBy takenIn readsBy readsIn eventsBy eventsIn shownAfter served answerOf printedBy dotsKept
 kept = refl
 
 pub stores : dotsSized ≡ true
@@ -63,21 +63,21 @@ unfolding dotsSized openedBy openingNumber sized firstOf reasons numberOf ruled 
 stores = refl
 
 pub packed : allPacked packRuns ≡ true
-unfolding copySizeOf dotCopy pictureCopy withDots dotsCleared weight dotAt withDot acted longer shorter flat offsetAt strokePlaced lineDot maskBit stepped drawn stroke idle? judgedRanges screens aloneRanges second? padded lined texted joined onPart blanked scrolledUp scrolledDown put member passes inRanges? firstBad linesOf columnsOf placeOf textRows height base size lineAt cellAt keyRanges plainRanges arrayRanges insideRanges shapeRanges otherRanges inside? zeros? line? markOf marked? marks? sound? windowAt halves sides textAt under covered pictureAt picture painting copiedRows copied find rowOf modeRowOf afterMode afterEscape needed unfinished? gathered remaining kindOf decoded ended itemOf byteOf legal? badOf allowed fitting withSettings withCells withLayer placed emptied shownAt unmark mark stored onLines listed remarked lifted down toColumn runningOn runsOn onward right awaited topped held centred nearest missed tracked trackedFar printed unmarkedFrom cleared control blankFrom running endOf erased marksUp marksDown endUnmarked shifted modeSet flagged displaying keyLine withKeys withKindPatterns obeyed applyItem readsOf happened applyAll copies countedAll itemBytes sized soundIn firstOf allFree reasons numberOf accepted noneWaits countable keyable besideItems startOf takenBy takenIn readsBy readsIn eventsBy eventsIn shownAfter served answerOf printedBy numberIn lengthIn kindIn bodyIn recordIn recordsAfter lacking uncut? all? bodiesOf known? packable knownIn shortIn readsEach recordFrom recordOf holds allHold recordsHold allPacked packRuns
+unfolding copySizeOf dotCopy pictureCopy withDots dotsCleared weight dotAt withDot acted longer shorter flat offsetAt strokePlaced lineDot maskBit stepped drawn stroke idle? judgedRanges screens aloneRanges second? padded lined texted joined onPart blanked scrolledUp scrolledDown put member passes inRanges? firstBad linesOf columnsOf placeOf textRows height base size lineAt cellAt keyRanges plainRanges arrayRanges insideRanges shapeRanges otherRanges inside? zeros? line? markOf marked? marks? sound? windowAt halves sides textAt under covered pictureAt picture painting copiedRows copied find rowOf modeRowOf afterMode afterEscape needed unfinished? gathered remaining kindOf decoded ended itemOf byteOf legal? badOf allowed fitting withSettings withCells withLayer placed emptied shownAt emptyAt cover stored onLines listed remarked lifted down toColumn runningOn runsOn onward right lateStep topped held centred nearest missed tracked trackedFar printed unmarkedFrom cleared control blankFrom running endOf erased marksUp marksDown endUnmarked shifted modeSet flagged displaying keyLine withKeys withKindPatterns obeyed applyItem readsOf happened applyAll copies countedAll itemBytes sized soundIn firstOf allFree reasons numberOf granted noneWaits countable keyable besideItems startOf takenBy takenIn readsBy readsIn eventsBy eventsIn shownAfter served answerOf printedBy numberIn lengthIn kindIn bodyIn recordIn recordsAfter lacking uncut? all? bodiesOf known? packable knownIn sendableIn readsEach recordFrom recordOf holds allHold recordsHold allPacked packRuns
 packed = refl
 
 pub pack-numbers : packNumbers ≡ true
-unfolding packNumbers sized firstOf reasons numberOf soundIn noneWaits sound? second? aloneRanges screens inRanges? passes member linesOf columnsOf placeOf textRows height keyRanges plainRanges arrayRanges insideRanges shapeRanges otherRanges inside? zeros? line? unfinished? needed markOf marked? marks? numberIn lengthIn kindIn bodyIn recordIn recordsAfter lacking uncut? all? known? packable knownIn shortIn
+unfolding packNumbers sized firstOf reasons numberOf soundIn noneWaits sound? second? aloneRanges screens inRanges? passes member linesOf columnsOf placeOf textRows height keyRanges plainRanges arrayRanges insideRanges shapeRanges otherRanges inside? zeros? line? unfinished? needed markOf marked? marks? numberIn lengthIn kindIn bodyIn recordIn recordsAfter lacking uncut? all? known? packable knownIn sendableIn
 pack-numbers = refl
 
 pub pack-claims : packClaims ≡ true
-unfolding copySizeOf dotCopy pictureCopy withDots dotsCleared weight dotAt withDot acted longer shorter flat offsetAt strokePlaced lineDot maskBit stepped drawn stroke idle? judgedRanges screens aloneRanges second? padded lined texted joined onPart blanked scrolledUp scrolledDown put member passes inRanges? firstBad linesOf columnsOf placeOf textRows height base size lineAt cellAt keyRanges plainRanges arrayRanges insideRanges shapeRanges otherRanges inside? zeros? line? markOf marked? marks? sound? windowAt halves sides textAt under covered pictureAt picture painting copiedRows copied find rowOf modeRowOf afterMode afterEscape needed unfinished? gathered remaining kindOf decoded ended itemOf byteOf legal? badOf allowed fitting withSettings withCells withLayer placed emptied shownAt unmark mark stored onLines listed remarked lifted down toColumn runningOn runsOn onward right awaited topped held centred nearest missed tracked trackedFar printed unmarkedFrom cleared control blankFrom running endOf erased marksUp marksDown endUnmarked shifted modeSet flagged displaying keyLine withKeys withKindPatterns obeyed applyItem readsOf happened applyAll copies countedAll itemBytes sized soundIn firstOf allFree reasons numberOf accepted noneWaits countable keyable besideItems startOf takenBy takenIn readsBy readsIn eventsBy eventsIn shownAfter served answerOf printedBy numberIn lengthIn kindIn bodyIn recordIn recordsAfter lacking uncut? all? bodiesOf known? packable knownIn shortIn readsEach claims claimedBy claimed packClaims
+unfolding copySizeOf dotCopy pictureCopy withDots dotsCleared weight dotAt withDot acted longer shorter flat offsetAt strokePlaced lineDot maskBit stepped drawn stroke idle? judgedRanges screens aloneRanges second? padded lined texted joined onPart blanked scrolledUp scrolledDown put member passes inRanges? firstBad linesOf columnsOf placeOf textRows height base size lineAt cellAt keyRanges plainRanges arrayRanges insideRanges shapeRanges otherRanges inside? zeros? line? markOf marked? marks? sound? windowAt halves sides textAt under covered pictureAt picture painting copiedRows copied find rowOf modeRowOf afterMode afterEscape needed unfinished? gathered remaining kindOf decoded ended itemOf byteOf legal? badOf allowed fitting withSettings withCells withLayer placed emptied shownAt emptyAt cover stored onLines listed remarked lifted down toColumn runningOn runsOn onward right lateStep topped held centred nearest missed tracked trackedFar printed unmarkedFrom cleared control blankFrom running endOf erased marksUp marksDown endUnmarked shifted modeSet flagged displaying keyLine withKeys withKindPatterns obeyed applyItem readsOf happened applyAll copies countedAll itemBytes sized soundIn firstOf allFree reasons numberOf granted noneWaits countable keyable besideItems startOf takenBy takenIn readsBy readsIn eventsBy eventsIn shownAfter served answerOf printedBy numberIn lengthIn kindIn bodyIn recordIn recordsAfter lacking uncut? all? bodiesOf known? packable knownIn sendableIn readsEach claims claimedBy claimed packClaims
 pack-claims = refl
 
-pub short : allLooks shortLooks ≡ true
-unfolding copySizeOf dotCopy pictureCopy withDots dotsCleared weight dotAt withDot acted longer shorter flat offsetAt strokePlaced lineDot maskBit stepped drawn stroke idle? judgedRanges screens aloneRanges second? padded lined texted joined onPart blanked scrolledUp scrolledDown put member passes inRanges? firstBad linesOf columnsOf placeOf textRows height base size lineAt cellAt keyRanges plainRanges arrayRanges insideRanges shapeRanges otherRanges inside? zeros? line? markOf marked? marks? sound? windowAt halves sides textAt under covered pictureAt picture painting copiedRows copied find rowOf modeRowOf afterMode afterEscape needed unfinished? gathered remaining kindOf decoded ended itemOf byteOf legal? badOf allowed fitting withSettings withCells withLayer placed emptied shownAt unmark mark stored onLines listed remarked lifted down toColumn runningOn runsOn onward right awaited topped held centred nearest missed tracked trackedFar printed unmarkedFrom cleared control blankFrom running endOf erased marksUp marksDown endUnmarked shifted modeSet flagged displaying keyLine withKeys withKindPatterns obeyed applyItem readsOf happened applyAll copies countedAll itemBytes sized soundIn firstOf allFree reasons numberOf accepted noneWaits countable keyable besideItems startOf takenBy takenIn readsBy readsIn eventsBy eventsIn shownAfter served answerOf printedBy calm? lowest? printLifts? lifts? movesTop? wide? printPlace placeBy wideIn placesIn painted? repainted sighted allSighted afterAll allLooks shortLooks
-short = refl
+pub short-looks : allLooks shortLooks ≡ true
+unfolding copySizeOf dotCopy pictureCopy withDots dotsCleared weight dotAt withDot acted longer shorter flat offsetAt strokePlaced lineDot maskBit stepped drawn stroke idle? judgedRanges screens aloneRanges second? padded lined texted joined onPart blanked scrolledUp scrolledDown put member passes inRanges? firstBad linesOf columnsOf placeOf textRows height base size lineAt cellAt keyRanges plainRanges arrayRanges insideRanges shapeRanges otherRanges inside? zeros? line? markOf marked? marks? sound? windowAt halves sides textAt under covered pictureAt picture painting copiedRows copied find rowOf modeRowOf afterMode afterEscape needed unfinished? gathered remaining kindOf decoded ended itemOf byteOf legal? badOf allowed fitting withSettings withCells withLayer placed emptied shownAt emptyAt cover stored onLines listed remarked lifted down toColumn runningOn runsOn onward right lateStep topped held centred nearest missed tracked trackedFar printed unmarkedFrom cleared control blankFrom running endOf erased marksUp marksDown endUnmarked shifted modeSet flagged displaying keyLine withKeys withKindPatterns obeyed applyItem readsOf happened applyAll copies countedAll itemBytes sized soundIn firstOf allFree reasons numberOf granted noneWaits countable keyable besideItems startOf takenBy takenIn readsBy readsIn eventsBy eventsIn shownAfter served answerOf printedBy calm? lowest? printLifts? lifts? movesTop? wide? printPlace placeBy wideIn placesIn painted? repainted sighted allSighted afterAll allLooks shortLooks
+short-looks = refl
 
 pub short-claims : shortClaims ≡ true
-unfolding copySizeOf dotCopy pictureCopy withDots dotsCleared weight dotAt withDot acted longer shorter flat offsetAt strokePlaced lineDot maskBit stepped drawn stroke idle? judgedRanges screens aloneRanges second? padded lined texted joined onPart blanked scrolledUp scrolledDown put member passes inRanges? firstBad linesOf columnsOf placeOf textRows height base size lineAt cellAt keyRanges plainRanges arrayRanges insideRanges shapeRanges otherRanges inside? zeros? line? markOf marked? marks? sound? windowAt halves sides textAt under covered pictureAt picture painting copiedRows copied find rowOf modeRowOf afterMode afterEscape needed unfinished? gathered remaining kindOf decoded ended itemOf byteOf legal? badOf allowed fitting withSettings withCells withLayer placed emptied shownAt unmark mark stored onLines listed remarked lifted down toColumn runningOn runsOn onward right awaited topped held centred nearest missed tracked trackedFar printed unmarkedFrom cleared control blankFrom running endOf erased marksUp marksDown endUnmarked shifted modeSet flagged displaying keyLine withKeys withKindPatterns obeyed applyItem readsOf happened applyAll copies countedAll itemBytes sized soundIn firstOf allFree reasons numberOf accepted noneWaits countable keyable besideItems startOf takenBy takenIn readsBy readsIn eventsBy eventsIn shownAfter served answerOf printedBy claims claimedBy claimed shortClaims
+unfolding copySizeOf dotCopy pictureCopy withDots dotsCleared weight dotAt withDot acted longer shorter flat offsetAt strokePlaced lineDot maskBit stepped drawn stroke idle? judgedRanges screens aloneRanges second? padded lined texted joined onPart blanked scrolledUp scrolledDown put member passes inRanges? firstBad linesOf columnsOf placeOf textRows height base size lineAt cellAt keyRanges plainRanges arrayRanges insideRanges shapeRanges otherRanges inside? zeros? line? markOf marked? marks? sound? windowAt halves sides textAt under covered pictureAt picture painting copiedRows copied find rowOf modeRowOf afterMode afterEscape needed unfinished? gathered remaining kindOf decoded ended itemOf byteOf legal? badOf allowed fitting withSettings withCells withLayer placed emptied shownAt emptyAt cover stored onLines listed remarked lifted down toColumn runningOn runsOn onward right lateStep topped held centred nearest missed tracked trackedFar printed unmarkedFrom cleared control blankFrom running endOf erased marksUp marksDown endUnmarked shifted modeSet flagged displaying keyLine withKeys withKindPatterns obeyed applyItem readsOf happened applyAll copies countedAll itemBytes sized soundIn firstOf allFree reasons numberOf granted noneWaits countable keyable besideItems startOf takenBy takenIn readsBy readsIn eventsBy eventsIn shownAfter served answerOf printedBy claims claimedBy claimed shortClaims
 short-claims = refl

@@ -5,7 +5,7 @@ use mathlib.Core.List.{List, [], _∷_, _++_}
 use lib.ListN.{getD, length, replicate, set}
 use lib.Dec.{eqb}
 use Rattle.model.specs.declared.Settings.{Settings}
-use Rattle.model.specs.State.{State, home, nowhere, putAt, topAt, waitAt, openedKeys, openedSettings, withDisplay, withFlags, withMarks, withMode, withMode3, withPlaces, withStored}
+use Rattle.model.specs.State.{State, home, nowhere, putAt, topAt, lateAt, openedKeys, openedSettings, withDisplay, withFlags, withMarks, withMode, withMode3, withPlaces, withStored}
 use Rattle.calls.specs.Calls.{Terminal, terminal, Asked, message, piece, closing, keyText, request, served, numberOf}
 use Rattle.calls.specs.Opening.{openedBy, openingNumber, unopened}
 use Rattle.examples.specs.Examples.{Example, example, withRoom, allAre, counts, firstRefusal, parameter, cursorAt, top, topOn, cursorOn, step, tracking, selected, lines, columns, cell, layer, shows, blank, blankCells, printedByte, refusedBy, waits, text, runOn, flags, displayed, dotByte, dotBytes, noDots}
@@ -119,14 +119,14 @@ curveRuns =
     ∷ unsound (withPlaces set3 (home ∷ putAt 2 1 home ∷ []))
     ∷ unsound (withPlaces set3 (home ∷ putAt 1 2 home ∷ []))
     ∷ unsound (withPlaces set3 (home ∷ topAt 2 home ∷ []))
-    ∷ unsound (withPlaces set3 (home ∷ waitAt home ∷ []))
+    ∷ unsound (withPlaces set3 (home ∷ lateAt home ∷ []))
     ∷ unsound (withMode (withStored (openedSettings 1) 3 openedKeys (replicate 248 0)) 3 8 8 80 80 32)
     -- P5: screen 2 has no line to mark, and screen 1's last is its eighth
     ∷ unsound (marked3 48)
     ∷ unsound (marked3 7)
     ∷ fromSettings (marked3 6) (turn (message []) (counts 0 0 0 0 ∷ runOn 1 (7 ∷ []) ∷ []) ∷ [])
     -- P9: screen 1's cursor may wait there; 208,3 clears both flags (and, P5, all marks) and keeps the rule
-    ∷ fromSettings (withPlaces (withMode3 (openedSettings 2)) (waitAt (putAt 1 80 home) ∷ home ∷ [])) (turn (message []) (counts 0 0 0 0 ∷ flags 1 0 2 ∷ []) ∷ [])
+    ∷ fromSettings (withPlaces (withMode3 (openedSettings 2)) (lateAt (putAt 1 80 home) ∷ home ∷ [])) (turn (message []) (counts 0 0 0 0 ∷ flags 1 0 2 ∷ []) ∷ [])
     ∷ fromSettings (openedSettings 2) (turn (message (overAndWaiting ++ (27 ∷ 209 ∷ 1 ∷ overAndWaiting))) (flags 1 1 2 ∷ runOn 1 (1 ∷ []) ∷ runOn 2 (1 ∷ []) ∷ [])
     ∷ turn (message (there [])) (flags 0 0 2 ∷ runOn 1 [] ∷ runOn 2 [] ∷ []) ∷ [])
     -- P2: a key call is served there and not seen, now or later; 208,3 keeps the texts

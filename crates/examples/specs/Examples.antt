@@ -137,8 +137,8 @@ abbrev pub refused11 : ℕ → List Fact
 refused11 n = counts n 0 1 0 ∷ firstRefusal 11 0 ∷ cursorAt 1 1 ∷ top 1 ∷ lines 24 24 ∷ columns 80 80 ∷ selected 1 ∷ blankCells ∷ blank ∷ []
 
 -- the table's rows marked P, in its order
-unfoldable pub marked : List Example
-marked =
+unfoldable pub provedRows : List Example
+provedRows =
     example [] (counts 0 0 0 0 ∷ firstRefusal 0 0 ∷ blank ∷ blankCells ∷ keySettings 85 1 1 32 16 0 ∷ displayed 1 0 1 32 ∷ [])
     ∷ example (65 ∷ []) (counts 1 0 0 0 ∷ shows 1 1 65 ∷ cell 1 1 1 65 ∷ cursorAt 1 2 ∷ [])
     ∷ example (replicate 10 10) (counts 10 0 0 0 ∷ cursorAt 11 1 ∷ top 4 ∷ [])
@@ -159,8 +159,8 @@ marked =
     ∷ []
 
 -- rows of the table that are not marked, and the example of the program "show"
-unfoldable pub unmarked : List Example
-unmarked =
+unfoldable pub otherRows : List Example
+otherRows =
     example (replicate 80 65) (counts 80 0 0 0 ∷ cursorAt 2 1 ∷ shows 1 1 65 ∷ shows 1 80 65 ∷ shows 2 1 32 ∷ [])
     -- 24 of 10: one lift, on a screen with A and B in lines 1 and 2
     ∷ example (replicate 24 10) (counts 24 0 0 0 ∷ cursorAt 24 1 ∷ top 17 ∷ [])

@@ -7,7 +7,7 @@ use lib.ListN.{getD, replicate}
 use lib.Dec.{eqb}
 use Rattle.model.specs.declared.Settings.{Settings}
 use Rattle.model.specs.State.{home, putAt, topAt, openedSettings, withFlags, withLine, withPlaces}
-use Rattle.calls.specs.Calls.{Terminal, terminal, Asked, message, keyText, quick, Request, request, numberOf, served}
+use Rattle.calls.specs.Calls.{Terminal, terminal, Asked, message, keyText, short, Request, request, numberOf, served}
 use Rattle.calls.specs.Lists.{claimed}
 
 -- what is seen on the glass: so many places are still 88; a row and a column have a byte
@@ -51,13 +51,13 @@ abbrev opened : List Asked → List Sight → Look
 opened xs ss = record { given = openedSettings 1; asked = xs; sights = ss }
 
 abbrev at : ℕ → ℕ → ℕ → ℕ → List ℕ → List Sight → Look
-at rule l c t m ss = record { given = withPlaces (openedSettings rule) (topAt t (putAt l c home) ∷ home ∷ []); asked = quick m ∷ []; sights = ss }
+at rule l c t m ss = record { given = withPlaces (openedSettings rule) (topAt t (putAt l c home) ∷ home ∷ []); asked = short m ∷ []; sights = ss }
 
 abbrev flagged : ℕ → ℕ → List ℕ → List Sight → Look
-flagged tracking secret m ss = record { given = withFlags (openedSettings 1) 0 tracking 1 secret 1; asked = quick m ∷ []; sights = ss }
+flagged tracking secret m ss = record { given = withFlags (openedSettings 1) 0 tracking 1 secret 1; asked = short m ∷ []; sights = ss }
 
-abbrev short : List ℕ → List Sight → Look
-short m ss = opened (quick m ∷ []) ss
+abbrev looked : List ℕ → List Sight → Look
+looked m ss = opened (short m ∷ []) ss
 
 -- all was painted; or row 8 and not these
 abbrev anew : List Sight
@@ -73,23 +73,23 @@ above = message (27 ∷ 149 ∷ 1 ∷ 27 ∷ 61 ∷ 40 ∷ 32 ∷ 27 ∷ 148 ∷
 unfoldable pub shortLooks : List Look
 shortLooks =
     -- 1: one byte is one place, and row 8
-    short (65 ∷ []) (stillStale 559 ∷ seen 1 1 65 ∷ seen 8 1 32 ∷ seen 8 80 32 ∷ [])
+    looked (65 ∷ []) (stillStale 559 ∷ seen 1 1 65 ∷ seen 8 1 32 ∷ seen 8 80 32 ∷ [])
     -- 2: a place printed twice
-    ∷ short (65 ∷ 8 ∷ 66 ∷ []) (stillStale 559 ∷ seen 1 1 66 ∷ [])
-    ∷ short (65 ∷ 13 ∷ 66 ∷ []) (seen 1 1 66 ∷ still)
+    ∷ looked (65 ∷ 8 ∷ 66 ∷ []) (stillStale 559 ∷ seen 1 1 66 ∷ [])
+    ∷ looked (65 ∷ 13 ∷ 66 ∷ []) (seen 1 1 66 ∷ still)
     -- codes 8 and 13 lift nothing, on the last line neither
     ∷ at 1 24 5 17 (13 ∷ 65 ∷ 8 ∷ 66 ∷ []) (seen 8 1 66 ∷ still)
     -- 3: seven lines down stay in the window; the eighth moves its top
-    ∷ short (replicate 7 10) (stillStale 560 ∷ [])
-    ∷ short (replicate 8 10) anew
+    ∷ looked (replicate 7 10) (stillStale 560 ∷ [])
+    ∷ looked (replicate 8 10) anew
     -- 4: a top that moves and moves back empties the layer: "moves no top" is of each item
     ∷ opened (above ∷ []) (seen 1 1 90 ∷ [])
-    ∷ opened (above ∷ quick (13 ∷ replicate 8 10) ∷ []) (seen 1 1 32 ∷ [])
+    ∷ opened (above ∷ short (13 ∷ replicate 8 10) ∷ []) (seen 1 1 32 ∷ [])
     -- 5: row 8 after a key call
-    ∷ opened (message (27 ∷ 211 ∷ 0 ∷ []) ∷ keyText 1 (replicate 8 75) ∷ quick [] ∷ []) (seen 8 1 75 ∷ seen 8 9 32 ∷ [])
+    ∷ opened (message (27 ∷ 211 ∷ 0 ∷ []) ∷ keyText 1 (replicate 8 75) ∷ short [] ∷ []) (seen 8 1 75 ∷ seen 8 9 32 ∷ [])
     -- 6: two short messages leave a stale glass stale, a message does not
-    ∷ opened (quick (65 ∷ []) ∷ quick (66 ∷ []) ∷ []) (seen 1 1 65 ∷ seen 1 2 66 ∷ seen 1 3 88 ∷ seen 7 80 88 ∷ seen 8 1 32 ∷ [])
-    ∷ opened (quick (65 ∷ []) ∷ quick (66 ∷ []) ∷ message [] ∷ []) (seen 1 1 65 ∷ seen 1 2 66 ∷ seen 1 3 32 ∷ seen 7 80 32 ∷ [])
+    ∷ opened (short (65 ∷ []) ∷ short (66 ∷ []) ∷ []) (seen 1 1 65 ∷ seen 1 2 66 ∷ seen 1 3 88 ∷ seen 7 80 88 ∷ seen 8 1 32 ∷ [])
+    ∷ opened (short (65 ∷ []) ∷ short (66 ∷ []) ∷ message [] ∷ []) (seen 1 1 65 ∷ seen 1 2 66 ∷ seen 1 3 32 ∷ seen 7 80 32 ∷ [])
     -- a lift from the last line, and from its last column; under rule 2 by the late step, and the place after that step
     ∷ at 1 24 1 17 (10 ∷ []) anew
     ∷ at 1 24 80 17 (65 ∷ []) anew
@@ -102,22 +102,22 @@ shortLooks =
     ∷ flagged 0 0 (replicate 8 10 ++ (65 ∷ [])) still
     ∷ flagged 1 1 (65 ∷ []) (seen 1 1 32 ∷ seen 1 2 88 ∷ still)
     -- 42 and code 12; what is not in the picture, a refusal and code 7; 61 with and without the window; 37
-    ∷ short (27 ∷ 42 ∷ []) anew
-    ∷ short (12 ∷ []) anew
-    ∷ short (27 ∷ 50 ∷ 27 ∷ 99 ∷ 7 ∷ 27 ∷ 80 ∷ []) (seen 1 1 88 ∷ still)
-    ∷ short (27 ∷ 61 ∷ 39 ∷ 111 ∷ []) (seen 1 1 88 ∷ still)
-    ∷ short (27 ∷ 61 ∷ 40 ∷ 32 ∷ []) anew
-    ∷ short (27 ∷ 37 ∷ 7 ∷ []) (seen 1 1 7 ∷ seen 1 2 88 ∷ still)
+    ∷ looked (27 ∷ 42 ∷ []) anew
+    ∷ looked (12 ∷ []) anew
+    ∷ looked (27 ∷ 50 ∷ 27 ∷ 99 ∷ 7 ∷ 27 ∷ 80 ∷ []) (seen 1 1 88 ∷ still)
+    ∷ looked (27 ∷ 61 ∷ 39 ∷ 111 ∷ []) (seen 1 1 88 ∷ still)
+    ∷ looked (27 ∷ 61 ∷ 40 ∷ 32 ∷ []) anew
+    ∷ looked (27 ∷ 37 ∷ 7 ∷ []) (seen 1 1 7 ∷ seen 1 2 88 ∷ still)
     ∷ []
 
 -- its numbers are the message's; what is claimed after it is what was claimed, and row 8
 unfoldable pub shortClaims : Bool
 shortClaims =
-    let number : Terminal → List ℕ → ℕ = λ t m. numberOf t (request (quick m) 0) in
+    let number : Terminal → List ℕ → ℕ = λ t m. numberOf t (request (short m) 0) in
     let small = terminal (openedSettings 1) (replicate 3839 32) (replicate 1280 0) (replicate 3840 0) (replicate 640 32) in
     let unsound = stale (withLine (openedSettings 1) (replicate 12 0) 0 1000000001) in
     let waiting = stale (withLine (openedSettings 1) (27 ∷ replicate 11 0) 1 1) in
-    let some : Request = request (quick (65 ∷ [])) 0 in
+    let some : Request = request (short (65 ∷ [])) 0 in
     let none : ℕ → Bool = λ p. false in
     eqb (number small (replicate 4097 65)) 1 && eqb (number unsound (replicate 4097 65)) 2 && eqb (number unsound []) 3 && eqb (number waiting []) 16 && eqb (number (stale (openedSettings 1)) []) 0
     && claimed (stale (openedSettings 1)) (some ∷ []) none 560 && not (claimed (stale (openedSettings 1)) (some ∷ []) none 559) && not (claimed waiting (some ∷ []) none 560)

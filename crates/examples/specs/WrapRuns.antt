@@ -6,7 +6,7 @@ use lib.ListN.{getD, replicate}
 use lib.Dec.{eqb}
 use Rattle.model.specs.declared.Place.{Place}
 use Rattle.model.specs.declared.Settings.{Settings}
-use Rattle.model.specs.State.{home, putAt, waitAt, openedSettings, withMode, withPlaces}
+use Rattle.model.specs.State.{home, putAt, lateAt, openedSettings, withMode, withPlaces}
 use Rattle.calls.specs.Calls.{Terminal, piece, closing}
 use Rattle.calls.specs.Opening.{openedBy, openingNumber, unopened}
 use Rattle.examples.specs.Examples.{Fact, counts, cursorAt, top, selected, columns, cell, blankCells, refusedBy, runOn, flags}
@@ -33,8 +33,8 @@ fromFlag rule column flag fs = fromSettings (withPlaces (openedSettings rule) (r
 abbrev narrow : Settings
 narrow = withMode (openedSettings 2) 2 10 10 20 59 35
 
-abbrev waitsIn : ℕ → Place
-waitsIn column = waitAt (putAt 1 column home)
+abbrev lateIn : ℕ → Place
+lateIn column = lateAt (putAt 1 column home)
 
 -- the plan's rows, and ours
 unfoldable pub lateWraps : List Run
@@ -63,8 +63,8 @@ lateWraps =
     ∷ fromFlag 2 80 1 (counts 0 0 0 0 ∷ flags 1 0 2 ∷ [])
     ∷ fromFlag 1 80 0 (counts 0 0 0 0 ∷ flags 0 0 1 ∷ [])
     -- each by its own screen's columns, here 20 and 59
-    ∷ fromSettings (withPlaces narrow (home ∷ waitsIn 20 ∷ [])) (told [] (refusedBy 3 ∷ []) ∷ [])
-    ∷ fromSettings (withPlaces narrow (waitsIn 20 ∷ waitsIn 59 ∷ [])) (told [] (counts 0 0 0 0 ∷ flags 1 1 2 ∷ []) ∷ [])
+    ∷ fromSettings (withPlaces narrow (home ∷ lateIn 20 ∷ [])) (told [] (refusedBy 3 ∷ []) ∷ [])
+    ∷ fromSettings (withPlaces narrow (lateIn 20 ∷ lateIn 59 ∷ [])) (told [] (counts 0 0 0 0 ∷ flags 1 1 2 ∷ []) ∷ [])
     -- 12, 42 and 61 clear it, 61 onto the last column too; 208 both screens', and it keeps the rule
     ∷ once (full ++ (12 ∷ [])) (blankCells ∷ cursorAt 1 1 ∷ flags 0 0 2 ∷ [])
     ∷ once (full ++ (27 ∷ 42 ∷ [])) (blankCells ∷ flags 0 0 2 ∷ [])
@@ -88,8 +88,8 @@ lateWraps =
 abbrev whole : Terminal
 whole = unopened (replicate 3840 7) (replicate 1280 7) (replicate 3840 7) (replicate 640 7)
 
-abbrev short : Terminal
-short = unopened (replicate 3839 7) (replicate 1280 7) (replicate 3840 7) (replicate 640 7)
+abbrev tooSmall : Terminal
+tooSmall = unopened (replicate 3839 7) (replicate 1280 7) (replicate 3840 7) (replicate 640 7)
 
 -- 9: an opening with a rule gives this number, this rule, and this first cell
 abbrev opens : ℕ → Terminal → ℕ → ℕ → ℕ → Bool
@@ -98,4 +98,4 @@ opens rule d number after first = eqb (openingNumber rule d) number && eqb (open
 -- 9: "another rule number is 23, after 1; a refused opening returns rule 1"
 unfoldable pub openings : Bool
 openings =
-    opens 3 whole 23 1 7 && (opens 3 short 1 1 7 && (opens 0 whole 23 1 7 && (opens 2 short 1 1 7 && (opens 1 whole 0 1 32 && opens 2 whole 0 2 32))))
+    opens 3 whole 23 1 7 && (opens 3 tooSmall 1 1 7 && (opens 0 whole 23 1 7 && (opens 2 tooSmall 1 1 7 && (opens 1 whole 0 1 32 && opens 2 whole 0 2 32))))

@@ -67,10 +67,10 @@ module _ (first : ℕ) (ms : List ℕ) (room : first + 48 ≤ length ms) where
       behind = λ i h. getD-after start count zeros keeps ms fit i (omega arith);
     }
 
-pub unmark-made : {first start : ℕ} {ms ms′ : List ℕ} (from to count : ℕ) → ms′ ≡ put start (replicate count 0) ms → first + 48 ≤ length ms → 1 ≤ from → from ≤ to → to ≤ 48 → start ≡ first + (from - 1) → count ≡ to - (from - 1)
+pub empty-at-made : {first start : ℕ} {ms ms′ : List ℕ} (from to count : ℕ) → ms′ ≡ put start (replicate count 0) ms → first + 48 ≤ length ms → 1 ≤ from → from ≤ to → to ≤ 48 → start ≡ first + (from - 1) → count ≡ to - (from - 1)
     → Remarks first (unmarkedFrom from to) ms ms′
 unfolding zeros
-unmark-made {first} {start} {ms} from to count e room low high most s n =
+empty-at-made {first} {start} {ms} from to count e room low high most s n =
     subst (Remarks first (unmarkedFrom from to) ms) (fill-put start count 0 ms (omega arith) ∙ sym e) (unmarked-part first ms room from to start count low high most s n)
 
 -- what 144 and 145 make of the mark of a line: outside the region, in it

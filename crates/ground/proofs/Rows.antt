@@ -11,9 +11,9 @@ use lib.Dec.{ltb}
 use lib.Seq.{length-sets, set-comm, set-getD, sets, sets-eq}
 use borrow.Author.Tests.{le-ltb, ltb-false, ltb-true}
 use Rattle.model.specs.Bytes.{onPart, put}
-use Rattle.model.specs.Rules.{unmark}
+use Rattle.model.specs.Rules.{emptyAt}
 use Rattle.model.proofs.Tests.{cond-at}
-use Rattle.ground.specs.Spots.{unmarked}
+use Rattle.ground.specs.Spots.{emptyFrom}
 
 -- at once as one by one
 pub put-sets : (a : ℕ) (ys xs : List ℕ) → a + length ys ≤ length xs → put a ys xs ≡ sets xs a ys
@@ -27,22 +27,22 @@ sets-behind (a ∷ vs) l i j b h =
     ap (λ (x : List ℕ). sets x (suc i) vs) (set-comm l j i b a (λ e. omega (arith, e, h))) ∙ sets-behind vs (set l i a) (suc i) j b (omega arith)
 
 -- a place from 640 on is none
-pub unmarked-none : (n p : ℕ) (l : List ℕ) → 640 ≤ p → unmarked p n l ≡ l
-unfolding unmarked unmark
-unmarked-none zero p l h = refl
-unmarked-none (suc n) p l h = rw (le-ltb p 640 h) (unmarked-none n (suc p) l (omega arith))
+pub empty-from-none : (n p : ℕ) (l : List ℕ) → 640 ≤ p → emptyFrom p n l ≡ l
+unfolding emptyFrom emptyAt
+empty-from-none zero p l h = refl
+empty-from-none (suc n) p l h = rw (le-ltb p 640 h) (empty-from-none n (suc p) l (omega arith))
 
 -- the places of the layer from p on, as far as there are
 reach : ℕ → ℕ → List ℕ
 reach n p = replicate (min n (640 - p)) 0
 
-unmarked-sets : (n p : ℕ) (l : List ℕ) → unmarked p n l ≡ sets (sets l p (reach n p)) (640 + p) (reach n p)
-unfolding unmarked unmark reach
-unmarked-sets zero p l = let z : min 0 (640 - p) ≡ 0 = omega arith in rw z
-unmarked-sets (suc n) p l = go (ltb p 640) refl (unmarked-sets n (suc p) (set (set l p 0) (640 + p) 0))
+empty-from-sets : (n p : ℕ) (l : List ℕ) → emptyFrom p n l ≡ sets (sets l p (reach n p)) (640 + p) (reach n p)
+unfolding emptyFrom emptyAt reach
+empty-from-sets zero p l = let z : min 0 (640 - p) ≡ 0 = omega arith in rw z
+empty-from-sets (suc n) p l = go (ltb p 640) refl (empty-from-sets n (suc p) (set (set l p 0) (640 + p) 0))
   where
-    go : (b : Bool) → ltb p 640 ≡ b → unmarked (suc p) n (set (set l p 0) (640 + p) 0) ≡ sets (sets (set (set l p 0) (640 + p) 0) (suc p) (reach n (suc p))) (640 + suc p) (reach n (suc p))
-        → unmarked (suc p) n (cond (ltb p 640) (set (set l p 0) (640 + p) 0) l) ≡ sets (sets l p (reach (suc n) p)) (640 + p) (reach (suc n) p)
+    go : (b : Bool) → ltb p 640 ≡ b → emptyFrom (suc p) n (set (set l p 0) (640 + p) 0) ≡ sets (sets (set (set l p 0) (640 + p) 0) (suc p) (reach n (suc p))) (640 + suc p) (reach n (suc p))
+        → emptyFrom (suc p) n (cond (ltb p 640) (set (set l p 0) (640 + p) 0) l) ≡ sets (sets l p (reach (suc n) p)) (640 + p) (reach (suc n) p)
     go true e i =
         let h : p < 640 = ltb-true p 640 e in
         let z : List ℕ = reach n (suc p) in
@@ -52,37 +52,37 @@ unmarked-sets (suc n) p l = go (ltb p 640) refl (unmarked-sets n (suc p) (set (s
     go false e i =
         let h : 640 ≤ p = ltb-false p 640 e in
         let z : min (suc n) (640 - p) ≡ 0 = omega (arith, h) in
-        rw (e, z) (unmarked-none n (suc p) l (omega (arith, h)))
+        rw (e, z) (empty-from-none n (suc p) l (omega (arith, h)))
 
 -- the marks and then the codes
-pub unmarked-put : {m : ℕ} (n p : ℕ) (l : List ℕ) → p < 640 → length l ≡ 1280 → m ≡ min n (640 - p) → put (640 + p) (replicate m 0) (put p (replicate m 0) l) ≡ unmarked p n l
+pub empty-from-put : {m : ℕ} (n p : ℕ) (l : List ℕ) → p < 640 → length l ≡ 1280 → m ≡ min n (640 - p) → put (640 + p) (replicate m 0) (put p (replicate m 0) l) ≡ emptyFrom p n l
 unfolding reach
-unmarked-put n p l h s e =
+empty-from-put n p l h s e =
     let k : length (reach n p) ≡ min n (640 - p) = length-replicate {A = ℕ} (min n (640 - p)) 0 in
     rw e (ap (put (640 + p) (reach n p)) (put-sets p (reach n p) l (omega arith))
-    ∙ put-sets (640 + p) (reach n p) (sets l p (reach n p)) (omega (arith, length-sets l p (reach n p))) ∙ sym (unmarked-sets n p l))
+    ∙ put-sets (640 + p) (reach n p) (sets l p (reach n p)) (omega (arith, length-sets l p (reach n p))) ∙ sym (empty-from-sets n p l))
 
 -- places of an empty layer
 zeros-set : (l : List ℕ) (k : ℕ) → l ≡ replicate 1280 0 → k < 1280 → set l k 0 ≡ l
 zeros-set l k e h = ap (set l k) (sym (ap (λ (x : List ℕ). getD x k 0) e ∙ getD-replicate 1280 k 0 0 h)) ∙ set-getD l k 0
 
-pub unmark-empty : (n : ℕ) (l : List ℕ) → l ≡ replicate 1280 0 → unmark n l ≡ l
-unfolding unmark
-unmark-empty n l e =
+pub empty-at-bare : (n : ℕ) (l : List ℕ) → l ≡ replicate 1280 0 → emptyAt n l ≡ l
+unfolding emptyAt
+empty-at-bare n l e =
     cond-at (λ (x : List ℕ). x ≡ l) (ltb n 640) _ _
     (λ t. let h : n < 640 = ltb-true n 640 t in ap (λ (x : List ℕ). set x (640 + n) 0) (zeros-set l n e (omega arith)) ∙ zeros-set l (640 + n) e (omega arith))
     (λ f. refl)
 
-pub unmarked-empty : (n p : ℕ) (l : List ℕ) → l ≡ replicate 1280 0 → unmarked p n l ≡ l
-unfolding unmarked
-unmarked-empty zero p l e = refl
-unmarked-empty (suc n) p l e = ap (unmarked (suc p) n) (unmark-empty p l e) ∙ unmarked-empty n (suc p) l e
+pub empty-from-bare : (n p : ℕ) (l : List ℕ) → l ≡ replicate 1280 0 → emptyFrom p n l ≡ l
+unfolding emptyFrom
+empty-from-bare zero p l e = refl
+empty-from-bare (suc n) p l e = ap (emptyFrom (suc p) n) (empty-at-bare p l e) ∙ empty-from-bare n (suc p) l e
 
 -- a place that is none is 640 as well
-pub unmark-none : (p : ℕ) (l : List ℕ) → unmark (min 640 p) l ≡ unmark p l
-unfolding unmark
-unmark-none p l = go (ltb p 640) refl
+pub empty-at-none : (p : ℕ) (l : List ℕ) → emptyAt (min 640 p) l ≡ emptyAt p l
+unfolding emptyAt
+empty-at-none p l = go (ltb p 640) refl
   where
-    go : (b : Bool) → ltb p 640 ≡ b → unmark (min 640 p) l ≡ unmark p l
-    go true e = let z : min 640 p ≡ p = omega (arith, ltb-true p 640 e) in ap (λ (x : ℕ). unmark x l) z
+    go : (b : Bool) → ltb p 640 ≡ b → emptyAt (min 640 p) l ≡ emptyAt p l
+    go true e = let z : min 640 p ≡ p = omega (arith, ltb-true p 640 e) in ap (λ (x : ℕ). emptyAt x l) z
     go false e = let z : min 640 p ≡ 640 = omega (arith, ltb-false p 640 e) in rw (z, e)

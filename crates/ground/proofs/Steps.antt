@@ -8,14 +8,14 @@ use Rattle.model.specs.declared.Place.{Place}
 use Rattle.model.specs.State.{State, putAt, state}
 use Rattle.model.specs.Screens.{cellAt, here, lineAt}
 use Rattle.model.specs.Sound.{Fits}
-use Rattle.model.specs.Rules.{emptied, placed, unmark, withCells, withLayer}
-use Rattle.model.proofs.Steps.{length-unmark}
+use Rattle.model.specs.Rules.{emptied, placed, emptyAt, withCells, withLayer}
+use Rattle.model.proofs.Steps.{length-empty-at}
 use Rattle.ground.specs.declared.Frame.{Frame}
 use Rattle.ground.specs.Frame.{LayerOf, Ready, Stands}
 use Rattle.ground.specs.Acts.{Acts, Reads}
 use Rattle.ground.specs.Here.{cellHere, cellIn}
 use Rattle.ground.proofs.Acting.{at-value, stays}
-use Rattle.ground.proofs.Rows.{unmark-empty}
+use Rattle.ground.proofs.Rows.{empty-at-bare}
 
 -- another place of the same frame
 pub moved : {f : Frame} {p r : Place} → Stands f p → Fits (f .rule) (f .lines) (f .columns) (f .height) r → Stands f r
@@ -36,8 +36,8 @@ cell-is st e k = rw (k, ← e .base-is, ← e .columns-are)
 empty-layer : {f : Frame} {l : List ℕ} → l ≡ replicate 1280 0 → LayerOf f l
 empty-layer k = record { size = ap length k ∙ length-replicate {A = ℕ} 1280 0; empty = λ b. k }
 
-pub unmarked-layer : {f : Frame} {l l′ : List ℕ} (n : ℕ) → LayerOf f l → l′ ≡ unmark n l → LayerOf f l′
-unmarked-layer {l = l} n h k = record { size = ap length k ∙ length-unmark n l ∙ h .size; empty = λ b. k ∙ unmark-empty n l (h .empty b) ∙ h .empty b }
+pub emptied-layer : {f : Frame} {l l′ : List ℕ} (n : ℕ) → LayerOf f l → l′ ≡ emptyAt n l → LayerOf f l′
+emptied-layer {l = l} n h k = record { size = ap length k ∙ length-empty-at n l ∙ h .size; empty = λ b. k ∙ empty-at-bare n l (h .empty b) ∙ h .empty b }
 
 -- the place, the layer and the cells, one at a time
 module _ {f : Frame} {p : Place} {c l : List ℕ} (h : Ready f p c l) where

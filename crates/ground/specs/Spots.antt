@@ -2,13 +2,13 @@
 use Prim.Native.Nat.{ℕ, zero, suc, _+_}
 use mathlib.Core.List.{List}
 use Rattle.model.specs.declared.Place.{Place}
-use Rattle.model.specs.Rules.{unmark}
+use Rattle.model.specs.Rules.{emptyAt}
 
 -- the cursor so many columns further, and all else as it was
 abbrev pub furtherBy : ℕ → Place → Place
 furtherBy n p = record { line = p .line; column = p .column + n; top = p .top; waiting = p .waiting }
 
 -- "emptying writes 0 in both": so many places in a row
-unfoldable pub unmarked : ℕ → ℕ → List ℕ → List ℕ
-unmarked p zero l = l
-unmarked p (suc n) l = unmarked (suc p) n (unmark p l)
+unfoldable pub emptyFrom : ℕ → ℕ → List ℕ → List ℕ
+emptyFrom p zero l = l
+emptyFrom p (suc n) l = emptyFrom (suc p) n (emptyAt p l)

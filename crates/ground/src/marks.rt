@@ -6,9 +6,9 @@ ghost use mathlib.Core.Path.{_≡_};
 ghost use Prim.Native.Nat.{_+_, _≤_};
 ghost use lib.ListN.{length, replicate};
 ghost use Rattle.model.specs.Bytes.{put};
-ghost use Rattle.model.specs.Rules.{unmark};
+ghost use Rattle.model.specs.Rules.{emptyAt};
 ghost use Rattle.ground.specs.Frame.{LayerOf};
-ghost use Rattle.ground.specs.Spots.{unmarked};
+ghost use Rattle.ground.specs.Spots.{emptyFrom};
 
 // "Empties the whole layer."
 pub fn empty(frame: Frame, layer: &mut [u8])
@@ -24,7 +24,7 @@ pub fn empty(frame: Frame, layer: &mut [u8])
 // "Emptying writes 0 in both": the mark and the code of a place, or nothing where it is 640 for none.
 pub fn empty_at(frame: Frame, shown: usize, layer: &mut [u8])
     requires { ⌜ LayerOf frame (now layer) ⌝ }
-    ensures { λ _. ⌜ now (layer .exit) ≡ unmark shown (now (layer .entry)) ⌝ }
+    ensures { λ _. ⌜ now (layer .exit) ≡ emptyAt shown (now (layer .entry)) ⌝ }
 {
     if frame.bare {
         return;
@@ -38,7 +38,7 @@ pub fn empty_at(frame: Frame, shown: usize, layer: &mut [u8])
 // The same of so many places in a row, as far as there are places.
 pub fn empty_from(frame: Frame, shown: usize, count: usize, layer: &mut [u8])
     requires { ⌜ LayerOf frame (now layer) ⌝ }
-    ensures { λ _. ⌜ now (layer .exit) ≡ unmarked shown count (now (layer .entry)) ⌝ }
+    ensures { λ _. ⌜ now (layer .exit) ≡ emptyFrom shown count (now (layer .entry)) ⌝ }
 {
     if frame.bare {
         return;

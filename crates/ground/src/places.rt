@@ -3,7 +3,7 @@ use model::Place;
 ghost use mathlib.Core.Path.{_≡_};
 ghost use Prim.Native.Nat.{_+_, _≤_};
 ghost use Rattle.ground.specs.Spots.{furtherBy};
-ghost use Rattle.model.specs.State.{home, putAt, topAt, waitAt};
+ghost use Rattle.model.specs.State.{home, putAt, topAt, lateAt};
 
 // The cursor elsewhere, or put where it stands: it no longer waits.
 pub fn put_at(place: Place, line: u8, column: u8) -> Place
@@ -43,8 +43,8 @@ pub fn top_at(place: Place, top: u8) -> Place
 }
 
 // P9: "sets the screen's waiting flag".
-pub fn wait_at(place: Place) -> Place
-    ensures { λ r. ⌜ r ≡ waitAt place ⌝ }
+pub fn late_at(place: Place) -> Place
+    ensures { λ r. ⌜ r ≡ lateAt place ⌝ }
 {
     Place {
         line: place.line,

@@ -85,7 +85,7 @@ fn check(limits: Limits, q: Sequence) -> Verdict
             of_two(2, within(8, lines, 48), within(1, columns, 78))
         }
         Sequence::Select(n) => of_one(1, within(0, n, 1) | (limits.mode == 3)),
-        Sequence::Mark { row, column, .. } => of_two(1, within(1, row, 8), within(1, column, 80)),
+        Sequence::Cover { row, column, .. } => of_two(1, within(1, row, 8), within(1, column, 80)),
         Sequence::Display(n) => of_one(1, within(0, n, 1) | (limits.mode == 3)),
         Sequence::CursorKind(n) => of_one(1, within(0, n, 3) | (limits.mode == 3)),
         Sequence::Pattern { code, .. } => of_one(1, within(224, code, 254)),

@@ -7,12 +7,12 @@ use lib.Dec.{eqb, ltb}
 use Rattle.model.specs.declared.Item.{Item}
 use Rattle.model.specs.declared.Item.the-variants.{Control, Printed, Refused, Sequence}
 use Rattle.model.specs.declared.Sequence.{Sequence as Seq}
-use Rattle.model.specs.declared.Sequence.the-variants.{Arrows1, Arrows2, Arrows3, CapsOff, CapsOn, Charset, Clear, Copy, CursorKind, CursorOff, CursorOn, Display, DrawDot, DrawLine, EraseLine, EraseRest, InsOff, InsOn, LinesDown, LinesUp, Mark, Mode0, Mode1, Mode2, Mode3, Nothing, NumOff, NumOn, Pattern, PrintCode, Put, Repeat, RepeatDelay, RepeatInterval, SecretOff, SecretOn, Select, Shift, Step, StringsOff, StringsOn, Tracking, WindowBottom, WindowCursor, WindowDown, WindowTop, WindowUp}
-use Rattle.model.specs.State.{State, putAt, topAt, waitAt}
+use Rattle.model.specs.declared.Sequence.the-variants.{Arrows1, Arrows2, Arrows3, CapsOff, CapsOn, Charset, Clear, Copy, CursorKind, CursorOff, CursorOn, Display, DrawDot, DrawLine, EraseLine, EraseRest, InsOff, InsOn, LinesDown, LinesUp, Cover, Mode0, Mode1, Mode2, Mode3, Nothing, NumOff, NumOn, Pattern, PrintCode, Put, Repeat, RepeatDelay, RepeatInterval, SecretOff, SecretOn, Select, Shift, Step, StringsOff, StringsOn, Tracking, WindowBottom, WindowCursor, WindowDown, WindowTop, WindowUp}
+use Rattle.model.specs.State.{State, putAt, topAt, lateAt}
 use Rattle.model.specs.Screens.{columnsHere, height, here, linesHere}
 use Rattle.model.specs.Sequences.{codeOf, idle?}
 use Rattle.model.specs.Reading.{byteOf}
-use Rattle.model.specs.Rules.{applyItem, awaited, blankFrom, centred, cleared, control, displaying, down, emptied, erased, flagged, held, keyLine, lifted, missed, modeSet, nearest, obeyed, onLines, onward, placed, printed, remarked, right, runsOn, shifted, stored, toColumn, topped, tracked, trackedFar, withCells, withDots, withKeys, withKindPatterns, withLayer, withSettings}
+use Rattle.model.specs.Rules.{applyItem, lateStep, blankFrom, centred, cleared, control, displaying, down, emptied, erased, flagged, held, keyLine, lifted, missed, modeSet, nearest, obeyed, onLines, onward, placed, printed, remarked, right, runsOn, shifted, stored, toColumn, topped, tracked, trackedFar, withCells, withDots, withKeys, withKindPatterns, withLayer, withSettings}
 use Rattle.model.specs.Items.{Event, applyAll, happened, itemRead, keySet, lineLeft, lined, texted}
 
 -- the rule of what stands
@@ -48,15 +48,15 @@ right-rule : (st : State) → ruleOf (right st) ≡ ruleOf st
 unfolding right toColumn placed
 right-rule st =
     cond-rule (ltb (here st .column) (columnsHere st)) (toColumn (here st .column + 1) st) _ (ruleOf st) refl
-    (cond-rule (eqb (ruleOf st) 2) (placed (waitAt (here st)) st) (onward st) (ruleOf st) refl (onward-rule st))
+    (cond-rule (eqb (ruleOf st) 2) (placed (lateAt (here st)) st) (onward st) (ruleOf st) refl (onward-rule st))
 
-awaited-rule : (st : State) → ruleOf (awaited st) ≡ ruleOf st
-unfolding awaited
-awaited-rule st = cond-rule (eqb (here st .waiting) 1) (onward st) st (ruleOf st) (onward-rule st) refl
+late-step-rule : (st : State) → ruleOf (lateStep st) ≡ ruleOf st
+unfolding lateStep
+late-step-rule st = cond-rule (eqb (here st .waiting) 1) (onward st) st (ruleOf st) (onward-rule st) refl
 
 printed-rule : (c : ℕ) (st : State) → ruleOf (printed c st) ≡ ruleOf st
 unfolding printed stored
-printed-rule c st = tracked-rule (right (stored c (awaited st))) ∙ right-rule (stored c (awaited st)) ∙ awaited-rule st
+printed-rule c st = tracked-rule (right (stored c (lateStep st))) ∙ right-rule (stored c (lateStep st)) ∙ late-step-rule st
 
 control-rule : (c : ℕ) (st : State) → ruleOf (control c st) ≡ ruleOf st
 unfolding control toColumn cleared withDots remarked onLines emptied withLayer withCells placed withSettings
@@ -100,7 +100,7 @@ obeyed-rule ms (Mode1 a) st = refl
 obeyed-rule ms (Mode2 a m p) st = refl
 obeyed-rule ms Mode3 st = refl
 obeyed-rule ms (Select n) st = refl
-obeyed-rule ms (Mark r c p) st = refl
+obeyed-rule ms (Cover r c p) st = refl
 obeyed-rule ms (Display n) st = cond-rule (eqb n (st .settings .display)) st _ (ruleOf st) refl refl
 obeyed-rule ms WindowTop st = topped-rule 1 st
 obeyed-rule ms WindowBottom st = topped-rule (linesHere st + 1 - height (st .settings)) st

@@ -10,7 +10,7 @@ use denote.Enum.Declared.{tagOf}
 use types.Run.{OneOf}
 use Rattle.model.specs.declared.Limits.{Limits}
 use Rattle.model.specs.declared.Sequence.{Sequence as Seq}
-use Rattle.model.specs.declared.Sequence.the-variants.{PrintCode, Clear, CursorOff, CursorOn, Put, Charset, Copy, EraseLine, EraseRest, SecretOn, SecretOff, LinesUp, LinesDown, Step, Tracking, WindowUp, WindowDown, InsOn, InsOff, CapsOn, CapsOff, NumOn, NumOff, StringsOff, StringsOn, DrawLine, DrawDot, Mode0, Mode1, Mode2, Mode3, Select, Mark, Display, WindowTop, WindowBottom, CursorKind, WindowCursor, Pattern, Repeat, RepeatDelay, RepeatInterval, Arrows1, Arrows2, Arrows3, Nothing, Shift}
+use Rattle.model.specs.declared.Sequence.the-variants.{PrintCode, Clear, CursorOff, CursorOn, Put, Charset, Copy, EraseLine, EraseRest, SecretOn, SecretOff, LinesUp, LinesDown, Step, Tracking, WindowUp, WindowDown, InsOn, InsOff, CapsOn, CapsOff, NumOn, NumOff, StringsOff, StringsOn, DrawLine, DrawDot, Mode0, Mode1, Mode2, Mode3, Select, Cover, Display, WindowTop, WindowBottom, CursorKind, WindowCursor, Pattern, Repeat, RepeatDelay, RepeatInterval, Arrows1, Arrows2, Arrows3, Nothing, Shift}
 use Rattle.model.specs.Checks.{InRanges, inRanges?}
 use Rattle.model.specs.Judging.{judgedRanges, legal?, ranges}
 use Rattle.model.specs.Sequences.{codeOf, idle?}
@@ -62,7 +62,7 @@ code-at (Mode1 a) = refl
 code-at (Mode2 a b c) = refl
 code-at Mode3 = refl
 code-at (Select a) = refl
-code-at (Mark a b c) = refl
+code-at (Cover a b c) = refl
 code-at (Display a) = refl
 code-at WindowTop = refl
 code-at WindowBottom = refl

@@ -10,14 +10,14 @@ use borrow.Author.Tests.{eqb-true, ne-eqb}
 use Rattle.model.specs.declared.Item.{Item}
 use Rattle.model.specs.declared.Item.the-variants.{Control, Printed, Refused, Sequence}
 use Rattle.model.specs.declared.Sequence.{Sequence as Seq}
-use Rattle.model.specs.declared.Sequence.the-variants.{Arrows1, Arrows2, Arrows3, CapsOff, CapsOn, Charset, Clear, Copy, CursorKind, CursorOff, CursorOn, Display, DrawDot, EraseLine, EraseRest, InsOff, InsOn, DrawLine, LinesDown, LinesUp, Mark, Mode0, Mode1, Mode2, Mode3, Nothing, NumOff, NumOn, Pattern, PrintCode, Put, Repeat, RepeatDelay, RepeatInterval, SecretOff, SecretOn, Select, Shift, Step, StringsOff, StringsOn, Tracking, WindowBottom, WindowCursor, WindowDown, WindowTop, WindowUp}
+use Rattle.model.specs.declared.Sequence.the-variants.{Arrows1, Arrows2, Arrows3, CapsOff, CapsOn, Charset, Clear, Copy, CursorKind, CursorOff, CursorOn, Display, DrawDot, EraseLine, EraseRest, InsOff, InsOn, DrawLine, LinesDown, LinesUp, Cover, Mode0, Mode1, Mode2, Mode3, Nothing, NumOff, NumOn, Pattern, PrintCode, Put, Repeat, RepeatDelay, RepeatInterval, SecretOff, SecretOn, Select, Shift, Step, StringsOff, StringsOn, Tracking, WindowBottom, WindowCursor, WindowDown, WindowTop, WindowUp}
 use Rattle.model.specs.State.{State, topAt}
 use Rattle.model.specs.Screens.{columnsHere, here, linesHere}
 use Rattle.model.specs.Sequences.{codeOf, drawing, idle?, idleThere}
 use Rattle.model.specs.Checks.{member}
 use Rattle.model.specs.OnScreen.{onScreen?, onScreenCodes}
 use Rattle.model.specs.Reading.{byteOf}
-use Rattle.model.specs.Rules.{applyItem, awaited, blankFrom, centred, cleared, control, dotsCleared, down, emptied, erased, flagged, keyLine, lifted, missed, nearest, obeyed, onLines, onward, placed, printed, remarked, right, runsOn, shifted, stored, toColumn, topped, tracked, trackedFar, withCells, withDots, withKeys, withKindPatterns, withLayer, withSettings}
+use Rattle.model.specs.Rules.{applyItem, lateStep, blankFrom, centred, cleared, control, dotsCleared, down, emptied, erased, flagged, keyLine, lifted, missed, nearest, obeyed, onLines, onward, placed, printed, remarked, right, runsOn, shifted, stored, toColumn, topped, tracked, trackedFar, withCells, withDots, withKeys, withKindPatterns, withLayer, withSettings}
 use Rattle.model.specs.Items.{Event, happened, itemRead, keySet, lineLeft, lined, texted}
 use Rattle.model.specs.Kept.{isMode, setsMode}
 use Rattle.model.proofs.Tests.{cond-at, cond₂, differ}
@@ -49,9 +49,9 @@ right-dots : (a : State) → Stays a (right a)
 unfolding right toColumn placed
 right-dots a = cond-at (Stays a) (ltb (here a .column) (columnsHere a)) _ _ (λ e. refl) (λ e. cond-at (Stays a) (eqb (a .settings .rule) 2) _ _ (λ f. refl) (λ f. onward-dots a))
 
-awaited-dots : (a : State) → Stays a (awaited a)
-unfolding awaited
-awaited-dots a = cond-at (Stays a) (eqb (here a .waiting) 1) (onward a) a (λ e. onward-dots a) (λ e. refl)
+late-step-dots : (a : State) → Stays a (lateStep a)
+unfolding lateStep
+late-step-dots a = cond-at (Stays a) (eqb (here a .waiting) 1) (onward a) a (λ e. onward-dots a) (λ e. refl)
 
 stored-dots : (c : ℕ) (a : State) → Stays a (stored c a)
 unfolding stored
@@ -59,7 +59,7 @@ stored-dots c a = refl
 
 pub printed-dots : (c : ℕ) (a : State) → Stays a (printed c a)
 unfolding printed
-printed-dots c a = tracked-dots _ ∙ right-dots _ ∙ stored-dots c (awaited a) ∙ awaited-dots a
+printed-dots c a = tracked-dots _ ∙ right-dots _ ∙ stored-dots c (lateStep a) ∙ late-step-dots a
 
 display-dots : (n : ℕ) (a : State) → Stays a (keyLine n a)
 unfolding keyLine emptied withLayer withSettings
@@ -120,7 +120,7 @@ module _ (a : State) where
   obeyed-dots ms (Mode2 x m p) n e = absurd (differ n)
   obeyed-dots ms Mode3 n e = absurd (differ n)
   obeyed-dots ms (Select x) n e = refl
-  obeyed-dots ms (Mark r c p) n e = refl
+  obeyed-dots ms (Cover r c p) n e = refl
   obeyed-dots ms (Display x) n e = display-dots x a
   obeyed-dots ms WindowTop n e = topped-dots _ a
   obeyed-dots ms WindowBottom n e = topped-dots _ a

@@ -34,7 +34,7 @@ pub record Spared (k : ℕ) (a b : State) : Type 0 where
   pub same-columns : columnsOf (b .settings) k ≡ columnsOf (a .settings) k
   pub same-line : placeOf (b .settings) k .line ≡ placeOf (a .settings) k .line
   pub same-column : placeOf (b .settings) k .column ≡ placeOf (a .settings) k .column
-  pub same-waiting : placeOf (b .settings) k .waiting ≡ placeOf (a .settings) k .waiting
+  pub same-late : placeOf (b .settings) k .waiting ≡ placeOf (a .settings) k .waiting
   pub same-cells : cellsOf b k ≡ cellsOf a k
   pub same-marks : marksOf (b .settings) k ≡ marksOf (a .settings) k
 

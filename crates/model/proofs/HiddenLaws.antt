@@ -12,11 +12,11 @@ use Rattle.model.specs.declared.Place.{Place}
 use Rattle.model.specs.declared.Keys.{Keys}
 use Rattle.model.specs.declared.Settings.{Settings}
 use Rattle.model.specs.declared.Sequence.{Sequence as Seq}
-use Rattle.model.specs.declared.Sequence.the-variants.{Arrows1, Arrows2, Arrows3, CapsOff, CapsOn, Charset, Clear, Copy, CursorKind, CursorOff, CursorOn, Display, DrawDot, DrawLine, EraseLine, EraseRest, InsOff, InsOn, LinesDown, LinesUp, Mark, Mode0, Mode1, Mode2, Mode3, Nothing, NumOff, NumOn, Pattern, PrintCode, Put, Repeat, RepeatDelay, RepeatInterval, SecretOff, SecretOn, Select, Shift, Step, StringsOff, StringsOn, Tracking, WindowBottom, WindowCursor, WindowDown, WindowTop, WindowUp}
+use Rattle.model.specs.declared.Sequence.the-variants.{Arrows1, Arrows2, Arrows3, CapsOff, CapsOn, Charset, Clear, Copy, CursorKind, CursorOff, CursorOn, Display, DrawDot, DrawLine, EraseLine, EraseRest, InsOff, InsOn, LinesDown, LinesUp, Cover, Mode0, Mode1, Mode2, Mode3, Nothing, NumOff, NumOn, Pattern, PrintCode, Put, Repeat, RepeatDelay, RepeatInterval, SecretOff, SecretOn, Select, Shift, Step, StringsOff, StringsOn, Tracking, WindowBottom, WindowCursor, WindowDown, WindowTop, WindowUp}
 use Rattle.model.specs.declared.Item.{Item}
 use Rattle.model.specs.declared.Item.the-variants.{Control, Printed, Refused, Sequence}
 use Rattle.model.specs.Bytes.{blanked, listFrom, onPart, put}
-use Rattle.model.specs.State.{State, home, keysWith, putAt, repeatWith, state, topAt, waitAt, withDisplay, withTexts}
+use Rattle.model.specs.State.{State, home, keysWith, putAt, repeatWith, state, topAt, lateAt, withDisplay, withTexts}
 use Rattle.model.specs.Screens.{columnsHere, columnsOf, height, here, linesHere, linesOf, placeOf, screens, textRows}
 use Rattle.model.specs.Marks.{endOf, markOf, marksDown, marksUp, runningOn, unmarkedFrom}
 use Rattle.model.specs.Checks.{inRanges?, range}
@@ -27,7 +27,7 @@ use Rattle.model.specs.Sequences.{codeOf, idle?}
 use Rattle.model.specs.Dot.{twoBytes, withDot}
 use Rattle.model.specs.Strokes.{lined as stroke}
 use Rattle.model.specs.Judging.{limitsOf}
-use Rattle.model.specs.Rules.{applyItem, awaited, blankFrom, centred, cleared, control, displaying, dotsCleared, down, emptied, erased, flagged, held, heldPlace, keyLine, lifted, marksHere, missed, modeSet, nearest, obeyed, onLines, onward, placed, point, printed, remarked, right, runsOn, shifted, stored, toColumn, topped, tracked, trackedFar, withArrows, withCells, withDots, withKeys, withKindPatterns, withLayer, withLed, withSettings}
+use Rattle.model.specs.Rules.{applyItem, lateStep, blankFrom, centred, cleared, control, displaying, dotsCleared, down, emptied, erased, flagged, held, heldPlace, keyLine, lifted, marksHere, missed, modeSet, nearest, obeyed, onLines, onward, placed, point, printed, remarked, right, runsOn, shifted, stored, toColumn, topped, tracked, trackedFar, withArrows, withCells, withDots, withKeys, withKindPatterns, withLayer, withLed, withSettings}
 use Rattle.model.specs.Items.{lined, texted}
 use Rattle.model.specs.Hidden.{Hidden, common, reveals, shared}
 use Rattle.model.proofs.Tests.{cond₂, differ, elim-at}
@@ -95,11 +95,11 @@ hidden-right : {a b : State} → Hidden a b → Hidden (right a) (right b)
 unfolding right columnsOf placeOf
 hidden-right h =
     cond₂ Hidden _ _ _ _ _ _ (same-of (λ (x : State). ltb (here x .column) (columnsHere x)) h) (λ e. hidden-column _ _ (same-of (λ (x : State). here x .column + 1) h) h)
-    (λ e. cond₂ Hidden _ _ _ _ _ _ (same-of (λ (x : State). eqb (x .settings .rule) 2) h) (λ f. hidden-placed _ _ h (same-of (λ (x : State). waitAt (here x)) h)) (λ f. hidden-onward h))
+    (λ e. cond₂ Hidden _ _ _ _ _ _ (same-of (λ (x : State). eqb (x .settings .rule) 2) h) (λ f. hidden-placed _ _ h (same-of (λ (x : State). lateAt (here x)) h)) (λ f. hidden-onward h))
 
-pub hidden-awaited : {a b : State} → Hidden a b → Hidden (awaited a) (awaited b)
-unfolding awaited placeOf
-hidden-awaited h = cond₂ Hidden _ _ _ _ _ _ (same-of (λ (x : State). eqb (here x .waiting) 1) h) (λ e. hidden-onward h) (λ e. h)
+pub hidden-late-step : {a b : State} → Hidden a b → Hidden (lateStep a) (lateStep b)
+unfolding lateStep placeOf
+hidden-late-step h = cond₂ Hidden _ _ _ _ _ _ (same-of (λ (x : State). eqb (here x .waiting) 1) h) (λ e. hidden-onward h) (λ e. h)
 
 hidden-topped : {a b : State} (t u : ℕ) → t ≡ u → Hidden a b → Hidden (topped t a) (topped u b)
 unfolding topped placeOf
@@ -121,7 +121,7 @@ hidden-trackedFar h = cond₂ Hidden _ _ _ _ _ _ (same-of (λ (x : State). eqb (
 -- printing, whatever the two bytes
 pub hidden-printed : {a b : State} (c d : ℕ) → Hidden a b → Hidden (printed c a) (printed d b)
 unfolding printed
-hidden-printed c d h = hidden-tracked (hidden-right (hidden-stored c d (hidden-awaited h)))
+hidden-printed c d h = hidden-tracked (hidden-right (hidden-stored c d (hidden-late-step h)))
 
 hidden-cleared : {a b : State} → Hidden a b → Hidden (cleared a) (cleared b)
 unfolding cleared dotsCleared linesOf
@@ -232,7 +232,7 @@ hidden-obeyed m (Mode1 x) v h = record { same = same-of (λ (st : State). bare (
 hidden-obeyed m (Mode2 x y z) v h = record { same = same-of (λ (st : State). bare (obeyed m (Mode2 x y z) st)) h; on = omega (arith, h .on) }
 hidden-obeyed m Mode3 v h = record { same = same-of (λ (st : State). bare (obeyed m Mode3 st)) h; on = omega (arith, h .on) }
 hidden-obeyed m (Select n) v h = hidden-emptied (hidden-flagged h refl (same-tracking h) (same-step h) (same-secret h) (same-cursor h) (h .on))
-hidden-obeyed m (Mark l c p) v h = record { same = h .same; on = h .on }
+hidden-obeyed m (Cover l c p) v h = record { same = h .same; on = h .on }
 hidden-obeyed m (Display n) v h = hidden-keyLine n h
 hidden-obeyed m WindowTop v h = hidden-topped 1 1 refl h
 hidden-obeyed m WindowBottom v h = hidden-topped _ _ (same-of (λ (st : State). linesHere st + 1 - height (st .settings)) h) h

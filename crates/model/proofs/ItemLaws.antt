@@ -10,7 +10,7 @@ use borrow.Author.Tests.{eq-eqb}
 use Rattle.model.specs.declared.Item.{Item}
 use Rattle.model.specs.declared.Item.the-variants.{Control, Printed, Refused, Sequence}
 use Rattle.model.specs.declared.Sequence.{Sequence as Seq}
-use Rattle.model.specs.declared.Sequence.the-variants.{Arrows1, Arrows2, Arrows3, CapsOff, CapsOn, Charset, Clear, Copy, CursorKind, CursorOff, CursorOn, Display, DrawDot, EraseLine, EraseRest, InsOff, InsOn, DrawLine, LinesDown, LinesUp, Mark, Mode0, Mode1, Mode2, Mode3, Nothing, NumOff, NumOn, Pattern, PrintCode, Put, Repeat, RepeatDelay, RepeatInterval, SecretOff, SecretOn, Select, Shift, Step, StringsOff, StringsOn, Tracking, WindowBottom, WindowCursor, WindowDown, WindowTop, WindowUp}
+use Rattle.model.specs.declared.Sequence.the-variants.{Arrows1, Arrows2, Arrows3, CapsOff, CapsOn, Charset, Clear, Copy, CursorKind, CursorOff, CursorOn, Display, DrawDot, EraseLine, EraseRest, InsOff, InsOn, DrawLine, LinesDown, LinesUp, Cover, Mode0, Mode1, Mode2, Mode3, Nothing, NumOff, NumOn, Pattern, PrintCode, Put, Repeat, RepeatDelay, RepeatInterval, SecretOff, SecretOn, Select, Shift, Step, StringsOff, StringsOn, Tracking, WindowBottom, WindowCursor, WindowDown, WindowTop, WindowUp}
 use Rattle.model.specs.declared.Settings.{Settings}
 use Rattle.model.specs.Bytes.{listFrom, put}
 use Rattle.model.specs.State.{State, putAt, withDisplay, withMode, withMode3, withStored}
@@ -144,8 +144,8 @@ obeyed-display n a g e d = cond-at (λ (b : State). Obeyed a b false true) (eqb 
     })
   where
     all : (k : ℕ) → k < 2 → Spared k a (emptied (withSettings (displaying n (a .settings)) a))
-    all zero l = record { same-base = refl; same-lines = refl; same-columns = refl; same-line = refl; same-column = refl; same-waiting = refl; same-cells = refl; same-marks = refl }
-    all (suc zero) l = record { same-base = refl; same-lines = refl; same-columns = refl; same-line = refl; same-column = refl; same-waiting = refl; same-cells = refl; same-marks = refl }
+    all zero l = record { same-base = refl; same-lines = refl; same-columns = refl; same-line = refl; same-column = refl; same-late = refl; same-cells = refl; same-marks = refl }
+    all (suc zero) l = record { same-base = refl; same-lines = refl; same-columns = refl; same-line = refl; same-column = refl; same-late = refl; same-cells = refl; same-marks = refl }
     all (suc (suc k)) l = absurd (omega arith)
 
 -- one of three flags set
@@ -240,7 +240,7 @@ obeyed-all ms Mode3 a g e d = anew (good-modeSet _ (sound-mode3 (a .settings) (g
 obeyed-all ms (Select n) a g e d =
     let z = kept-flags a g n (a .settings .tracking) (a .settings .step) (a .settings .secret) (a .settings .cursor) (omega (arith, both-there (a .settings) (awake (a .settings .mode) 209 refl d))) (g .sound .plain .0) (g .sound .step-low) (g .sound .step-high) (g .sound .plain .1 .0) (g .sound .plain .1 .1 .0) in
     quiet (kept-emptied _ (z .0) .good) (λ k l o. same-trans (z .1 k) (same-emptied k _))
-obeyed-all ms (Mark r c p) a g e d = of-kept (kept-layer a g _ (length-mark _ p (a .layer) ∙ g .layer-are))
+obeyed-all ms (Cover r c p) a g e d = of-kept (kept-layer a g _ (length-mark _ p (a .layer) ∙ g .layer-are))
 obeyed-all ms (Display n) a g e d = obeyed-display n a g (e .0) (awake (a .settings .mode) 211 refl d)
 obeyed-all ms WindowTop a g e d = of-kept (kept-top a g 1 (omega arith) (omega (arith, height-fits a g)))
 obeyed-all ms WindowBottom a g e d = of-kept (kept-top a g _ (omega (arith, height-fits a g)) (omega (arith, height-fits a g)))

@@ -156,10 +156,10 @@ pub same-trans : {k : ℕ} {a b c : State} → SameScreen k a b → SameScreen k
 same-trans p q = record { same-base = cc; same-lines = cc; same-columns = cc; same-height = q .same-height ∙ p .same-height; same-place = cc; same-cells = q .same-cells ∙ p .same-cells; same-marks = q .same-marks ∙ p .same-marks }
 
 pub spared-refl : (k : ℕ) (a : State) → Spared k a a
-spared-refl k a = record { same-base = refl; same-lines = refl; same-columns = refl; same-line = refl; same-column = refl; same-waiting = refl; same-cells = refl; same-marks = refl }
+spared-refl k a = record { same-base = refl; same-lines = refl; same-columns = refl; same-line = refl; same-column = refl; same-late = refl; same-cells = refl; same-marks = refl }
 
 pub spared-trans : {k : ℕ} {a b c : State} → Spared k a b → Spared k b c → Spared k a c
-spared-trans p q = record { same-base = cc; same-lines = cc; same-columns = cc; same-line = q .same-line ∙ p .same-line; same-column = q .same-column ∙ p .same-column; same-waiting = q .same-waiting ∙ p .same-waiting; same-cells = q .same-cells ∙ p .same-cells; same-marks = q .same-marks ∙ p .same-marks }
+spared-trans p q = record { same-base = cc; same-lines = cc; same-columns = cc; same-line = q .same-line ∙ p .same-line; same-column = q .same-column ∙ p .same-column; same-late = q .same-late ∙ p .same-late; same-cells = q .same-cells ∙ p .same-cells; same-marks = q .same-marks ∙ p .same-marks }
 
 -- a screen that is the same is the same but for its window
 pub spared : {k : ℕ} {a b : State} → SameScreen k a b → Spared k a b
@@ -169,7 +169,7 @@ spared s = record {
   same-columns = s .same-columns;
   same-line = ap (λ (p : Place). p .line) (s .same-place);
   same-column = ap (λ (p : Place). p .column) (s .same-place);
-  same-waiting = ap (λ (p : Place). p .waiting) (s .same-place);
+  same-late = ap (λ (p : Place). p .waiting) (s .same-place);
   same-cells = s .same-cells;
   same-marks = s .same-marks;
 }

@@ -8,46 +8,46 @@ use lib.Dec.{eqb, ltb}
 use borrow.Author.Tests.{eqb-true, ltb-false, ltb-true, ne-eqb}
 use Rattle.model.specs.declared.Place.{Place}
 use Rattle.model.specs.declared.Sequence.the-variants.{Put, Select}
-use Rattle.model.specs.State.{State, home, nowhere, putAt, topAt, waitAt, withPlaces}
+use Rattle.model.specs.State.{State, home, nowhere, putAt, topAt, lateAt, withPlaces}
 use Rattle.model.specs.Checks.{InRanges}
 use Rattle.model.specs.Screens.{columnsHere, here, linesHere, placeOf}
-use Rattle.model.specs.Sound.{Good, mostWait}
+use Rattle.model.specs.Sound.{Good, mostLate}
 use Rattle.model.specs.Judging.{limitsOf, ranges}
-use Rattle.model.specs.Rules.{awaited, centred, cleared, control, down, emptied, flagged, lifted, missed, nearest, obeyed, onLines, onward, placed, printed, remarked, right, stored, toColumn, topped, tracked, trackedFar, withCells, withLayer, withSettings, withDots}
+use Rattle.model.specs.Rules.{lateStep, centred, cleared, control, down, emptied, flagged, lifted, missed, nearest, obeyed, onLines, onward, placed, printed, remarked, right, stored, toColumn, topped, tracked, trackedFar, withCells, withLayer, withSettings, withDots}
 use Rattle.model.proofs.Tests.{and-left, and-right, cond-at, differ}
 use Rattle.model.proofs.Keep.{Kept, place-same}
 use Rattle.model.proofs.ItemLaws.{kept-put}
 use Rattle.model.proofs.Steps.{columns-some, fits, kept-blanked-screen, kept-down, kept-lifted, kept-toColumn}
 
 -- "the flag is sound only in the last column under rule 2"
-pub wait-late : (rule columns column x : ℕ) → x ≤ mostWait rule columns column → 1 ≤ x → (rule ≡ 2) × (column ≡ columns)
-wait-late rule columns column x =
+pub late-where : (rule columns column x : ℕ) → x ≤ mostLate rule columns column → 1 ≤ x → (rule ≡ 2) × (column ≡ columns)
+late-where rule columns column x =
     cond-at (λ (y : ℕ). x ≤ y → 1 ≤ x → (rule ≡ 2) × (column ≡ columns)) (eqb rule 2 && eqb column columns) 1 0
     (λ e p q. (eqb-true rule 2 (and-left (eqb rule 2) (eqb column columns) e), eqb-true column columns (and-right (eqb rule 2) (eqb column columns) e)))
     (λ e p q. absurd (omega arith))
 
 module _ (a : State) (g : Good a) where
-  pub waits-late : 1 ≤ here a .waiting → (a .settings .rule ≡ 2) × (here a .column ≡ columnsHere a)
-  waits-late h = wait-late (a .settings .rule) (columnsHere a) (here a .column) (here a .waiting) (fits a g .waits) h
+  pub late-rule : 1 ≤ here a .waiting → (a .settings .rule ≡ 2) × (here a .column ≡ columnsHere a)
+  late-rule h = late-where (a .settings .rule) (columnsHere a) (here a .column) (here a .waiting) (fits a g .waits) h
 
-  waits-no : ((a .settings .rule ≡ 2) × (here a .column ≡ columnsHere a) → ⊥) → here a .waiting ≡ 0
-  waits-no h = go (ltb 0 (here a .waiting)) refl
+  late-no : ((a .settings .rule ≡ 2) × (here a .column ≡ columnsHere a) → ⊥) → here a .waiting ≡ 0
+  late-no h = go (ltb 0 (here a .waiting)) refl
     where
       go : (b : Bool) → ltb 0 (here a .waiting) ≡ b → here a .waiting ≡ 0
-      go true e = absurd (h (waits-late (ltb-true 0 (here a .waiting) e)))
+      go true e = absurd (h (late-rule (ltb-true 0 (here a .waiting) e)))
       go false e = omega (arith, ltb-false 0 (here a .waiting) e)
 
   -- no cursor waits left of the last column (for a line's bytes printed at once), nor under rule 1
-  pub waits-not : here a .column < columnsHere a → here a .waiting ≡ 0
-  waits-not h = waits-no (λ z. omega arith)
+  pub late-not : here a .column < columnsHere a → here a .waiting ≡ 0
+  late-not h = late-no (λ z. omega arith)
 
-  pub waits-never : a .settings .rule ≡ 1 → here a .waiting ≡ 0
-  waits-never h = waits-no (λ z. omega arith)
+  pub late-never : a .settings .rule ≡ 1 → here a .waiting ≡ 0
+  late-never h = late-no (λ z. omega arith)
 
 -- nothing is awaited where no cursor waits
-pub awaited-not : (a : State) → here a .waiting ≡ 0 → awaited a ≡ a
-unfolding awaited
-awaited-not a h = ap (λ (b : Bool). cond b (onward a) a) (ne-eqb (here a .waiting) 1 (λ e. omega arith))
+pub late-step-not : (a : State) → here a .waiting ≡ 0 → lateStep a ≡ a
+unfolding lateStep
+late-step-not a h = ap (λ (b : Bool). cond b (onward a) a) (ne-eqb (here a .waiting) 1 (λ e. omega arith))
 
 -- the cursor put where it stands
 placed-same : (x : State) (p : Place) → here x ≡ p → placed p x ≡ x
@@ -69,8 +69,8 @@ down-early a h =
 pub printed-early : (a : State) → Good a → a .settings .rule ≡ 1 → (c : ℕ) → printed c a ≡ tracked (early (stored c a))
 unfolding printed right stored
 printed-early a g h c =
-    ap (λ (x : State). tracked (right (stored c x))) (awaited-not a (waits-never a g h))
-    ∙ ap (λ (b : Bool). let x = stored c a in tracked (cond (ltb (here x .column) (columnsHere x)) (toColumn (here x .column + 1) x) (cond b (placed (waitAt (here x)) x) (onward x))))
+    ap (λ (x : State). tracked (right (stored c x))) (late-step-not a (late-never a g h))
+    ∙ ap (λ (b : Bool). let x = stored c a in tracked (cond (ltb (here x .column) (columnsHere x)) (toColumn (here x .column + 1) x) (cond b (placed (lateAt (here x)) x) (onward x))))
     (ne-eqb (a .settings .rule) 2 (λ e. omega arith))
 
 -- what puts the cursor anew clears the flag; a window that moves keeps it

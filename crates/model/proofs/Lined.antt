@@ -8,15 +8,15 @@ use lib.Dec.{eqb, ltb}
 use Rattle.model.specs.declared.Item.{Item}
 use Rattle.model.specs.declared.Item.the-variants.{Control, Printed, Refused, Sequence}
 use Rattle.model.specs.declared.Sequence.{Sequence as Seq}
-use Rattle.model.specs.declared.Sequence.the-variants.{Arrows1, Arrows2, Arrows3, CapsOff, CapsOn, Charset, Clear, Copy, CursorKind, CursorOff, CursorOn, Display, DrawDot, DrawLine, EraseLine, EraseRest, InsOff, InsOn, LinesDown, LinesUp, Mark, Mode0, Mode1, Mode2, Mode3, Nothing, NumOff, NumOn, Pattern, PrintCode, Put, Repeat, RepeatDelay, RepeatInterval, SecretOff, SecretOn, Select, Shift, Step, StringsOff, StringsOn, Tracking, WindowBottom, WindowCursor, WindowDown, WindowTop, WindowUp}
-use Rattle.model.specs.State.{State, putAt, topAt, waitAt}
+use Rattle.model.specs.declared.Sequence.the-variants.{Arrows1, Arrows2, Arrows3, CapsOff, CapsOn, Charset, Clear, Copy, CursorKind, CursorOff, CursorOn, Display, DrawDot, DrawLine, EraseLine, EraseRest, InsOff, InsOn, LinesDown, LinesUp, Cover, Mode0, Mode1, Mode2, Mode3, Nothing, NumOff, NumOn, Pattern, PrintCode, Put, Repeat, RepeatDelay, RepeatInterval, SecretOff, SecretOn, Select, Shift, Step, StringsOff, StringsOn, Tracking, WindowBottom, WindowCursor, WindowDown, WindowTop, WindowUp}
+use Rattle.model.specs.State.{State, putAt, topAt, lateAt}
 use Rattle.model.specs.Screens.{base, cellAt, columnsHere, columnsOf, height, here, lineAt, linesHere, linesOf, placeOf, textRows}
 use Rattle.model.specs.Marks.{markOf}
 use Rattle.model.specs.Picture.{copied, covered, halves, picture, pictureAt, sides, textAt, under, windowAt, dotCopy, pictureCopy}
 use Rattle.model.specs.Sequences.{codeOf, idle?}
 use Rattle.model.specs.Reading.{Read, byteOf}
 use Rattle.model.specs.Judging.{limitsOf}
-use Rattle.model.specs.Rules.{applyItem, awaited, blankFrom, centred, cleared, control, displaying, down, emptied, erased, flagged, held, keyLine, lifted, missed, modeSet, nearest, obeyed, onLines, onward, placed, printed, remarked, right, runsOn, shifted, shownAt, stored, toColumn, topped, tracked, trackedFar, withCells, withKeys, withKindPatterns, withLayer, withSettings, dotsCleared, withDots}
+use Rattle.model.specs.Rules.{applyItem, lateStep, blankFrom, centred, cleared, control, displaying, down, emptied, erased, flagged, held, keyLine, lifted, missed, modeSet, nearest, obeyed, onLines, onward, placed, printed, remarked, right, runsOn, shifted, shownAt, stored, toColumn, topped, tracked, trackedFar, withCells, withKeys, withKindPatterns, withLayer, withSettings, dotsCleared, withDots}
 use Rattle.model.specs.Items.{applyAll, copies, copyOf, eventsOf, happened, lined, obeyedBy, read, readsOf}
 
 module _ (w : List ℕ) (n : ℕ) where
@@ -59,13 +59,13 @@ module _ (w : List ℕ) (n : ℕ) where
       let b : Bool = ltb (here st .column) (columnsHere st) in
       let to : State = toColumn (here st .column + 1) st in
       let late : Bool = eqb (st .settings .rule) 2 in
-      let wait : State = placed (waitAt (here st)) st in
+      let wait : State = placed (lateAt (here st)) st in
       ap (λ (x : State). cond b (lined w n to) (cond late (lined w n wait) x)) (onward-lined st)
       ∙ ap (λ (x : State). cond b (lined w n to) x) (cond-lined late wait (onward st)) ∙ cond-lined b to (cond late wait (onward st))
 
-  awaited-lined : (st : State) → awaited (lined w n st) ≡ lined w n (awaited st)
-  unfolding awaited lined withSettings placeOf
-  awaited-lined st = ap (λ (x : State). cond (eqb (here st .waiting) 1) x (lined w n st)) (onward-lined st) ∙ cond-lined (eqb (here st .waiting) 1) (onward st) st
+  late-step-lined : (st : State) → lateStep (lined w n st) ≡ lined w n (lateStep st)
+  unfolding lateStep lined withSettings placeOf
+  late-step-lined st = ap (λ (x : State). cond (eqb (here st .waiting) 1) x (lined w n st)) (onward-lined st) ∙ cond-lined (eqb (here st .waiting) 1) (onward st) st
 
   stored-lined : (c : ℕ) (st : State) → stored c (lined w n st) ≡ lined w n (stored c st)
   unfolding stored shownAt lined withSettings placeOf textRows cellAt lineAt base columnsOf
@@ -74,8 +74,8 @@ module _ (w : List ℕ) (n : ℕ) where
   printed-lined : (c : ℕ) (st : State) → printed c (lined w n st) ≡ lined w n (printed c st)
   unfolding printed
   printed-lined c st =
-      let x : State = awaited st in
-      ap (λ (y : State). tracked (right (stored c y))) (awaited-lined st) ∙ ap (λ (y : State). tracked (right y)) (stored-lined c x)
+      let x : State = lateStep st in
+      ap (λ (y : State). tracked (right (stored c y))) (late-step-lined st) ∙ ap (λ (y : State). tracked (right y)) (stored-lined c x)
       ∙ ap tracked (right-lined (stored c x)) ∙ tracked-lined (right (stored c x))
 
   control-lined : (c : ℕ) (st : State) → control c (lined w n st) ≡ lined w n (control c st)
@@ -130,7 +130,7 @@ module _ (w : List ℕ) (n : ℕ) where
   obeyed-lined ms (Mode2 a m p) st = refl
   obeyed-lined ms Mode3 st = refl
   obeyed-lined ms (Select n) st = refl
-  obeyed-lined ms (Mark r c p) st = refl
+  obeyed-lined ms (Cover r c p) st = refl
   obeyed-lined ms (Display m) st = keyLine-lined m st
   obeyed-lined ms WindowTop st = topped-lined 1 st
   obeyed-lined ms WindowBottom st = topped-lined (linesHere st + 1 - height (st .settings)) st

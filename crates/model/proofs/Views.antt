@@ -13,7 +13,7 @@ use Rattle.model.specs.State.{State}
 use Rattle.model.specs.Screens.{base, cellAt, columnsHere, columnsOf, here, lineAt, linesHere, placeOf, size, textRows}
 use Rattle.model.specs.Sound.{Good, Shaped, mode0, mode1, mode2, mode3}
 use Rattle.model.specs.Picture.{covered, halves, picture, pictureAt, sides, textAt, under, windowAt}
-use Rattle.model.specs.Rules.{shownAt, stored, unmark}
+use Rattle.model.specs.Rules.{shownAt, stored, emptyAt}
 use Rattle.model.proofs.Tests.{cond-at, differ}
 use Rattle.model.proofs.Places.{Shows, all, alone, left-half, left-side, picture-shows, right-half, right-side}
 use Rattle.model.proofs.ShownPlace.{shown-only, shown-there}
@@ -161,8 +161,8 @@ module _ (a : State) (g : Good a) (c : ℕ) where
           elim-both (leb k (s .columns1)) (λ l. other-cell _ (left-side m u (leb-true _ _ l) refl))
           (λ l. elim-both (eqb k (s .columns1 + 1)) (λ e. refl) (λ e. other-cell _ (right-side m u (omega (arith, leb-false k (s .columns1) l, eqb-false k (s .columns1 + 1) e)) refl))))))
 
-      other-mark : (getD (unmark spot (a .layer)) p 0 ≡ getD (a .layer) p 0) × (getD (unmark spot (a .layer)) (640 + p) 0 ≡ getD (a .layer) (640 + p) 0)
-      unfolding unmark
+      other-mark : (getD (emptyAt spot (a .layer)) p 0 ≡ getD (a .layer) p 0) × (getD (emptyAt spot (a .layer)) (640 + p) 0 ≡ getD (a .layer) (640 + p) 0)
+      unfolding emptyAt
       other-mark = cond-at (λ (l : List ℕ). (getD l p 0 ≡ getD (a .layer) p 0) × (getD l (640 + p) 0 ≡ getD (a .layer) (640 + p) 0)) (ltb spot 640) _ (a .layer)
           (λ e. let u : spot < 640 = ltb-true spot 640 e in
           let l : List ℕ = set (a .layer) spot 0 in (
@@ -175,8 +175,8 @@ module _ (a : State) (g : Good a) (c : ℕ) where
       pub other-picture : picture (stored c a) p ≡ picture a p
       unfolding picture pictureAt covered under stored
       other-picture =
-          let m : getD (unmark spot (a .layer)) (80 * (r - 1) + (k - 1)) 0 ≡ getD (a .layer) (80 * (r - 1) + (k - 1)) 0 = rw at-spot (other-mark .0) in
-          let w : getD (unmark spot (a .layer)) (640 + (80 * (r - 1) + (k - 1))) 0 ≡ getD (a .layer) (640 + (80 * (r - 1) + (k - 1))) 0 = rw at-spot (other-mark .1) in
+          let m : getD (emptyAt spot (a .layer)) (80 * (r - 1) + (k - 1)) 0 ≡ getD (a .layer) (80 * (r - 1) + (k - 1)) 0 = rw at-spot (other-mark .0) in
+          let w : getD (emptyAt spot (a .layer)) (640 + (80 * (r - 1) + (k - 1))) 0 ≡ getD (a .layer) (640 + (80 * (r - 1) + (k - 1))) 0 = rw at-spot (other-mark .1) in
           let u : under (stored c a) r k ≡ under a r k = elim-both (leb r (textRows s)) (λ l. other-text (leb-true _ _ l)) (λ l. refl) in
           λ i. elim (eqb (s .secret) 1) as (λ b. ℕ) [ true ↦ 32 | false ↦ elim (eqb (m i) 0) as (λ b. ℕ) [ true ↦ u i | false ↦ w i ] ]
 
@@ -193,8 +193,8 @@ module _ (a : State) (g : Good a) (c : ℕ) where
       picture-shows (stored c a) (spot / 80 + 1) (spot % 80 + 1) own (shown-there s (g .sound) (here a .line) (here a .column) (fits a g .column-low) (fits a g .column-high) h)
       ∙ getD-set-same (a .cells) own c 0 own-inside
 
-  own-mark : spot < 640 → getD (unmark spot (a .layer)) spot 0 ≡ 0
-  unfolding unmark
+  own-mark : spot < 640 → getD (emptyAt spot (a .layer)) spot 0 ≡ 0
+  unfolding emptyAt
   own-mark h =
       ap (λ (b : Bool). getD (cond b (set (set (a .layer) spot 0) (640 + spot) 0) (a .layer)) spot 0) (lt-ltb spot 640 h)
       ∙ getD-set-other (set (a .layer) spot 0) (640 + spot) spot 0 0 (λ (z : spot ≡ 640 + spot). omega (arith, z))
@@ -202,12 +202,12 @@ module _ (a : State) (g : Good a) (c : ℕ) where
 
   pub own-picture : spot < 640 → picture (stored c a) spot ≡ cond (eqb (s .secret) 1) 32 c
   unfolding picture pictureAt covered stored
-  own-picture h = by-tests (eqb (s .secret) 1) (eqb (getD (unmark spot (a .layer)) (80 * ((spot / 80 + 1) - 1) + ((spot % 80 + 1) - 1)) 0) 0) _ bare (own-under h)
+  own-picture h = by-tests (eqb (s .secret) 1) (eqb (getD (emptyAt spot (a .layer)) (80 * ((spot / 80 + 1) - 1) + ((spot % 80 + 1) - 1)) 0) 0) _ bare (own-under h)
     where
-      bare : eqb (getD (unmark spot (a .layer)) (80 * ((spot / 80 + 1) - 1) + ((spot % 80 + 1) - 1)) 0) 0 ≡ true
+      bare : eqb (getD (emptyAt spot (a .layer)) (80 * ((spot / 80 + 1) - 1) + ((spot % 80 + 1) - 1)) 0) 0 ≡ true
       bare =
           let at : 80 * ((spot / 80 + 1) - 1) + ((spot % 80 + 1) - 1) ≡ spot = omega arith in
-          ap (λ (n : ℕ). eqb (getD (unmark spot (a .layer)) n 0) 0) at ∙ eq-eqb (getD (unmark spot (a .layer)) spot 0) 0 (own-mark h)
+          ap (λ (n : ℕ). eqb (getD (emptyAt spot (a .layer)) n 0) 0) at ∙ eq-eqb (getD (emptyAt spot (a .layer)) spot 0) 0 (own-mark h)
 
       by-tests : (b d : Bool) {x : ℕ} (y : ℕ) → d ≡ true → x ≡ c → _≡_ {A = ℕ} (elim b [ true ↦ 32 | false ↦ elim d [ true ↦ x | false ↦ y ] ]) (cond b 32 c)
       by-tests true d y e f = refl

@@ -13,7 +13,7 @@ use Rattle.model.specs.Screens.{here}
 use Rattle.model.specs.Picture.{picture}
 use Rattle.model.specs.Reading.{uncut}
 use Rattle.model.specs.Judging.{limitsOf}
-use Rattle.model.specs.Rules.{withCells, withLayer, mark, hiding, modeSet}
+use Rattle.model.specs.Rules.{withCells, withLayer, cover, hiding, modeSet}
 use Rattle.model.specs.Items.{read, obeyedBy}
 
 -- the item that some bytes are, where this stands, with this printer room
@@ -34,7 +34,7 @@ lineStarts st = getD (st .cells) 0 0 ∷ getD (st .cells) 80 0 ∷ getD (st .cel
 
 -- secret on, the first place of the layer marked with a Z
 abbrev pub secretly : State
-secretly = withLayer (mark 0 90 (replicate 1280 0)) (hiding 1 (opened 1))
+secretly = withLayer (cover 0 90 (replicate 1280 0)) (hiding 1 (opened 1))
 
 -- what 27,208,3 leaves at the opening
 abbrev pub drawable : State

@@ -17,8 +17,8 @@ use Rattle.model.specs.Marks.{markOf, Marked, marked?}
 use Rattle.model.specs.Screens.{linesOf, columnsOf, placeOf, screens, height}
 
 -- P9: "the flag is sound only in the last column under rule 2": its greatest value
-abbrev pub mostWait : ℕ → ℕ → ℕ → ℕ
-mostWait rule columns column = cond (eqb rule 2 && eqb column columns) 1 0
+abbrev pub mostLate : ℕ → ℕ → ℕ → ℕ
+mostLate rule columns column = cond (eqb rule 2 && eqb column columns) 1 0
 
 -- "cursor line 1 to lines, cursor column 1 to columns, top 1 to lines−H+1"; P9: the waiting flag
 pub record Fits (rule lines columns height : ℕ) (p : Place) : Type 0 where
@@ -28,7 +28,7 @@ pub record Fits (rule lines columns height : ℕ) (p : Place) : Type 0 where
   pub column-high : p .column ≤ columns
   pub top-low : 1 ≤ p .top
   pub top-high : p .top + height ≤ lines + 1
-  pub waits : p .waiting ≤ mostWait rule columns (p .column)
+  pub waits : p .waiting ≤ mostLate rule columns (p .column)
 
 -- "each of its own screen"
 abbrev pub Inside : Settings → ℕ → Type 0
@@ -96,7 +96,7 @@ pub record Good (st : State) : Type 0 where
 
 -- the same as a test: a cursor and a window in lines of columns, H tall, and the flag
 unfoldable pub insideRanges : ℕ → ℕ → ℕ → ℕ → Place → List Check
-insideRanges rule lines columns height p = range 1 (p .line) lines ∷ range 1 (p .column) columns ∷ range 1 (p .top) (lines + 1 - height) ∷ range 0 (p .waiting) (mostWait rule columns (p .column)) ∷ []
+insideRanges rule lines columns height p = range 1 (p .line) lines ∷ range 1 (p .column) columns ∷ range 1 (p .top) (lines + 1 - height) ∷ range 0 (p .waiting) (mostLate rule columns (p .column)) ∷ []
 
 -- the table of modes
 unfoldable pub shapeRanges : ℕ → ℕ → ℕ → ℕ → ℕ → List Check

@@ -7,7 +7,7 @@ use lib.Dec.{eqb}
 use Rattle.model.specs.declared.Settings.{Settings}
 use Rattle.model.specs.Line.{line?}
 use Rattle.model.specs.Sound.{sound?}
-use Rattle.calls.specs.Calls.{Terminal, firstOf, message, noneWaits, reason, reasons, short, sized, soundIn, terminal}
+use Rattle.calls.specs.Calls.{Terminal, firstOf, message, noneWaits, reason, reasons, sendable, sized, soundIn, terminal}
 use Rattle.model.proofs.Tests.{and-left, and-right}
 
 -- the number by its four tests
@@ -18,7 +18,7 @@ numberBy true true false d = 3
 numberBy true false c d = 2
 numberBy false b c d = 1
 
-pub numbered : (t : Terminal) (m : List ℕ) (a b c d : Bool) → sized t ≡ a → short m ≡ b → soundIn t ≡ c → noneWaits (t .state .settings) ≡ d → firstOf (reasons t (message m)) ≡ numberBy a b c d
+pub numbered : (t : Terminal) (m : List ℕ) (a b c d : Bool) → sized t ≡ a → sendable m ≡ b → soundIn t ≡ c → noneWaits (t .state .settings) ≡ d → firstOf (reasons t (message m)) ≡ numberBy a b c d
 unfolding firstOf reasons
 numbered t m a b c d p q r w = (λ i. firstOf (reason 1 (p i) ∷ reason 2 (q i) ∷ reason 3 (r i) ∷ reason 16 (w i) ∷ [])) ∙ same a b c d
   where
@@ -34,7 +34,7 @@ module _ (s : Settings) (m cells layer dots shown : List ℕ) where
   given = terminal s cells layer dots shown
 
   -- stores of their sizes and a message that is not too long: 3 for settings that are not sound
-  module _ (p : sized given ≡ true) (q : short m ≡ true) where
+  module _ (p : sized given ≡ true) (q : sendable m ≡ true) where
     pub not-sound : sound? s ≡ false → 3 ≡ firstOf (reasons given (message m))
     unfolding soundIn
     not-sound e = sym (numbered given m true true false _ p q e refl)

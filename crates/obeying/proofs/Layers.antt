@@ -11,7 +11,7 @@ use types.Run.{OneOf, miss}
 use Rattle.model.specs.declared.Item.{Item}
 use Rattle.model.specs.declared.Item.the-variants.{Control, Printed, Refused, Sequence}
 use Rattle.model.specs.declared.Sequence.{Sequence as Seq}
-use Rattle.model.specs.declared.Sequence.the-variants.{PrintCode, Clear, CursorOff, CursorOn, Put, Charset, Copy, EraseLine, EraseRest, SecretOn, SecretOff, LinesUp, LinesDown, Step, Tracking, WindowUp, WindowDown, InsOn, InsOff, CapsOn, CapsOff, NumOn, NumOff, StringsOff, StringsOn, DrawLine, DrawDot, Mode0, Mode1, Mode2, Mode3, Select, Mark, Display, WindowTop, WindowBottom, CursorKind, WindowCursor, Pattern, Repeat, RepeatDelay, RepeatInterval, Arrows1, Arrows2, Arrows3, Nothing, Shift}
+use Rattle.model.specs.declared.Sequence.the-variants.{PrintCode, Clear, CursorOff, CursorOn, Put, Charset, Copy, EraseLine, EraseRest, SecretOn, SecretOff, LinesUp, LinesDown, Step, Tracking, WindowUp, WindowDown, InsOn, InsOff, CapsOn, CapsOff, NumOn, NumOff, StringsOff, StringsOn, DrawLine, DrawDot, Mode0, Mode1, Mode2, Mode3, Select, Cover, Display, WindowTop, WindowBottom, CursorKind, WindowCursor, Pattern, Repeat, RepeatDelay, RepeatInterval, Arrows1, Arrows2, Arrows3, Nothing, Shift}
 use Rattle.model.specs.Checks.{member}
 use Rattle.model.specs.Sequences.{codeOf, drawing, idle?, idleThere}
 use Rattle.model.specs.State.{State}
@@ -90,7 +90,7 @@ left (Mode1 a) bare m st z y = refl
 left (Mode2 a b c) bare m st z y = refl
 left Mode3 bare m st z y = refl
 left (Select a) bare m st z y = refl
-left (Mark a b c) bare m st z y = absurd (differ (sym z))
+left (Cover a b c) bare m st z y = absurd (differ (sym z))
 left (Display a) bare m st z y = cond-at (λ (r : State). r .layer ≡ empty) (eqb a (st .settings .display)) st _ (λ e. y z .0 refl) (λ e. refl)
 left WindowTop bare m st z y = y z .1 refl
 left WindowBottom bare m st z y = y z .1 refl

@@ -29,7 +29,7 @@ printed? (Refused n p) = false
 -- an item of the message m, at an offset, of so many bytes: its parameters are in their ranges, and a printed byte prints
 pub record Offered (m : List ℕ) (at size : ℕ) (i : Item) (l : Limits) : Type 0 where
   pub inside : at + size ≤ length m
-  pub short : length m ≤ 4096
+  pub sendable : length m ≤ 4096
   pub legal : legalItem? i l ≡ true
   pub prints : printed? i ≡ true → prints? m at ≡ true
 

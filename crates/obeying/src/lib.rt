@@ -122,7 +122,7 @@ fn bare_then(mode: u8, q: Sequence, bare: bool) -> bool
     ensures { λ r. ⌜ r ≡ bareThen mode (Item.Sequence q) bare ⌝ }
 {
     match q {
-        Sequence::Mark {
+        Sequence::Cover {
             row: _,
             column: _,
             code: _,

@@ -10,14 +10,14 @@ use borrow.Author.Tests.{leb-true}
 use Rattle.model.specs.Records.{uncut?}
 use Rattle.model.specs.declared.Answer.{Answer}
 use Rattle.model.specs.Items.{blankAnswer}
-use Rattle.calls.specs.Calls.{Promised, Reason, Terminal, firstOf, knownIn, noneWaits, numberOf, pack, packCalled, packable, reason, reasons, request, shortIn, sized, soundIn}
+use Rattle.calls.specs.Calls.{Promised, Reason, Terminal, firstOf, knownIn, noneWaits, numberOf, pack, packCalled, packable, reason, reasons, request, sendableIn, sized, soundIn}
 use Rattle.calls.proofs.CallLaws.{refused-number}
 use Rattle.calls.proofs.Promises.{promised-none}
 use Rattle.packs.specs.Bytes.{ofBytes}
 
 -- what its bytes are refused by
 module _ (p : List ℕ) where
-  pub bytes-numbered : {a b c d : Bool} → packable p ≡ a → uncut? p ≡ b → knownIn p ≡ c → shortIn p ≡ d → firstOf (ofBytes p) ≡ cond a (cond b (cond c (cond d 0 2) 21) 20) 19
+  pub bytes-numbered : {a b c d : Bool} → packable p ≡ a → uncut? p ≡ b → knownIn p ≡ c → sendableIn p ≡ d → firstOf (ofBytes p) ≡ cond a (cond b (cond c (cond d 0 2) 21) 20) 19
   unfolding firstOf
   bytes-numbered {a} {b} {c} {d} e f g h = (λ i. firstOf (reason 19 (e i) ∷ reason 20 (f i) ∷ reason 21 (g i) ∷ reason 2 (h i) ∷ [])) ∙ go a b c d
     where
@@ -33,8 +33,8 @@ pub pack-numbered : (t : Terminal) (p : List ℕ) {a b c : Bool} {n : ℕ} → s
     → firstOf (reasons t (pack p)) ≡ cond a (cond (eqb n 0) (cond b (cond c 0 16) 3) n) 1
 unfolding reasons firstOf
 pack-numbered t p {a} {b} {c} {n} e f g h =
-    (λ i. firstOf (reason 1 (e i) ∷ reason 19 (packable p) ∷ reason 20 (uncut? p) ∷ reason 21 (knownIn p) ∷ reason 2 (shortIn p) ∷ reason 3 (g i) ∷ reason 16 (h i) ∷ []))
-    ∙ go a (packable p) (uncut? p) (knownIn p) (shortIn p) b c ∙ (λ i. cond a (cond (eqb (f i) 0) (cond b (cond c 0 16) 3) (f i)) 1)
+    (λ i. firstOf (reason 1 (e i) ∷ reason 19 (packable p) ∷ reason 20 (uncut? p) ∷ reason 21 (knownIn p) ∷ reason 2 (sendableIn p) ∷ reason 3 (g i) ∷ reason 16 (h i) ∷ []))
+    ∙ go a (packable p) (uncut? p) (knownIn p) (sendableIn p) b c ∙ (λ i. cond a (cond (eqb (f i) 0) (cond b (cond c 0 16) 3) (f i)) 1)
   where
     go : (a l u k s b c : Bool) → let m = firstOf (reason 19 l ∷ reason 20 u ∷ reason 21 k ∷ reason 2 s ∷ []) in
         firstOf (reason 1 a ∷ reason 19 l ∷ reason 20 u ∷ reason 21 k ∷ reason 2 s ∷ reason 3 b ∷ reason 16 c ∷ []) ≡ cond a (cond (eqb m 0) (cond b (cond c 0 16) 3) m) 1
@@ -53,7 +53,7 @@ unfolding reasons firstOf packable
 whole-pack t p e = go (sized t) (packable p) (uncut? p) refl refl refl
   where
     rest : List Reason
-    rest = reason 21 (knownIn p) ∷ reason 2 (shortIn p) ∷ reason 3 (soundIn t) ∷ reason 16 (noneWaits (t .state .settings)) ∷ []
+    rest = reason 21 (knownIn p) ∷ reason 2 (sendableIn p) ∷ reason 3 (soundIn t) ∷ reason 16 (noneWaits (t .state .settings)) ∷ []
 
     told : {a l u : Bool} → sized t ≡ a → packable p ≡ l → uncut? p ≡ u → firstOf (reason 1 a ∷ reason 19 l ∷ reason 20 u ∷ rest) ≡ 0
     told f g h = (λ i. firstOf (reason 1 (sym f i) ∷ reason 19 (sym g i) ∷ reason 20 (sym h i) ∷ rest)) ∙ e

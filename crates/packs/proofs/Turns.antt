@@ -15,12 +15,12 @@ use Rattle.model.specs.State.{state}
 use Rattle.model.specs.Records.{lengthIn}
 use Rattle.calls.specs.Packs.{bodiesOf}
 use Rattle.model.specs.Items.{blankAnswer}
-use Rattle.calls.specs.Calls.{Promised, Request, Terminal, accepted, called, firstOf, message, numberOf, pack, packCalled, reasons, request, terminal}
+use Rattle.calls.specs.Calls.{Promised, Request, Terminal, granted, called, firstOf, message, numberOf, pack, packCalled, reasons, request, terminal}
 use Rattle.model.specs.Answers.{together}
 use Rattle.model.proofs.ByteLaws.{length-written}
-use Rattle.calls.proofs.CallLaws.{accepted-number, number-accepted}
+use Rattle.calls.proofs.CallLaws.{granted-number, number-granted}
 use Rattle.calls.proofs.Bounds.{bounded}
-use Rattle.calls.proofs.PackRequests.{AllShort, Quiet, alsoShort, pack-quiet, quiet-accepted}
+use Rattle.calls.proofs.PackRequests.{AllSendable, Quiet, alsoSendable, pack-quiet, quiet-granted}
 use Rattle.calls.proofs.PackLoop.{Going, begins, bodies-within, ends, goes-on, recordThen}
 use Rattle.records.proofs.Laws.{bodies-at, bodies-over}
 use Rattle.stream_parts.specs.Parts.{Addable, bothOf}
@@ -56,7 +56,7 @@ module _ (s : Settings) (p cells layer dots shown buffer : List ℕ) where
   unfolding numberOf
   begin e f =
       let q : Request = request (pack p) (length buffer) in
-      let ok : accepted given q ≡ true = accepted-number given q e in
+      let ok : granted given q ≡ true = granted-number given q e in
       record {
         whole = record { inside = omega arith; uncut = whole-pack given p e .1 };
         few = whole-pack given p e .0;
@@ -90,11 +90,11 @@ module _ (s : Settings) (p cells layer dots shown buffer : List ℕ) where
         let z : size ≡ (at + 4 + size) - (at + 4) = omega arith in
         subst (λ (ms : List (List ℕ)). Going given p buffer ms (k + 1) stood a n printer) (bodies-at p at size e some ∙ ap (λ (j : ℕ). take j (drop (at + 4) p) ∷ rest) z) (h .going)
 
-    first-short : {m : List ℕ} {ms : List (List ℕ)} → AllShort (m ∷ ms) → length m ≤ 4096
-    first-short (alsoShort l ls) = l
+    first-sendable : {m : List ℕ} {ms : List (List ℕ)} → AllSendable (m ∷ ms) → length m ≤ 4096
+    first-sendable (alsoSendable l ls) = l
 
     pub servable : Servable s′ body cells′ layer′ dots′ shown′
-    servable = let q = next .quiet in record { good = q .good; short = first-short (next .shorts); shown-are = q .shown-is }
+    servable = let q = next .quiet in record { good = q .good; sendable = first-sendable (next .sendables); shown-are = q .shown-is }
 
     -- its number is within the pack's bytes
     pub numbers : k + 1 ≤ 60000
@@ -112,7 +112,7 @@ module _ (s : Settings) (p cells layer dots shown buffer : List ℕ) where
       unfolding numberOf
       made =
           let q : Request = request (message body) (length part) in
-          let z : numberOf stood q ≡ 0 = number-accepted stood q (quiet-accepted (next .quiet) body (first-short (next .shorts)) (length part)) in
+          let z : numberOf stood q ≡ 0 = number-granted stood q (quiet-granted (next .quiet) body (first-sendable (next .sendables)) (length part)) in
           served s′ body cells′ layer′ dots′ shown′ part r cells″ layer″ dots″ shown″ part′ z w
 
       after : Going given p buffer rest (k + 1 + 1) (terminal (r .settings) cells″ layer″ dots″ shown″) (together a (r .answer)) (recordThen a (r .answer) (k + 1) n) (take (a .printed) printer ++ part′)
@@ -126,7 +126,7 @@ module _ (s : Settings) (p cells layer dots shown buffer : List ℕ) where
             accepted = omega (arith, after .few, after .taken-is, most, h .few);
             refused = omega (arith, after .few, after .taken-is, most, h .few);
             printed = omega (arith, after .fits, l);
-            offset = omega (arith, bounded body stood part (r .answer) (terminal (r .settings) cells″ layer″ dots″ shown″) part′ made .near, first-short (next .shorts));
+            offset = omega (arith, bounded body stood part (r .answer) (terminal (r .settings) cells″ layer″ dots″ shown″) part′ made .near, first-sendable (next .sendables));
           }
 
       pub again : {a′ : Answer} {n′ : ℕ} → a′ ≡ bothOf a (r .answer) 0 → n′ ≡ recordThen a (r .answer) (k + 1) n

@@ -9,8 +9,8 @@ use lib.ListN.{drop, length, length-drop}
 use lib.Dec.{eqb, leb}
 use Rattle.model.specs.Records.{Record, all?, kindIn, lengthIn, recordIn, recordsOf, uncut?}
 use Rattle.calls.specs.Packs.{known?}
-use Rattle.calls.specs.Calls.{knownIn, short, shortIn}
-use Rattle.records.proofs.Laws.{all-at, all-over, known-at, short-at, uncut-fits, uncut-past}
+use Rattle.calls.specs.Calls.{knownIn, sendable, sendableIn}
+use Rattle.records.proofs.Laws.{all-at, all-over, known-at, sendable-at, uncut-fits, uncut-past}
 
 -- a place in the pack, where a record begins or the pack ends
 pub record Whole (p : List ℕ) (at : ℕ) : Type 0 where
@@ -36,9 +36,9 @@ module _ (p : List ℕ) (at n : ℕ) (h : Whole p at) (some : at < length p) (si
       → knownIn p ≡ ((b && eqb k 1) && all? known? (recordsOf (drop (at + (n + 4)) p)))
   known-on b k e f = f ∙ sym (tested known? b (eqb k 1) (ap (λ (j : ℕ). eqb j 1) e ∙ sym (known-at p at n size)))
 
-  pub short-on : (b : Bool) → shortIn p ≡ (b && all? (λ (r : Record). short (r .body)) (recordsOf (drop at p)))
-      → shortIn p ≡ ((b && leb n 4096) && all? (λ (r : Record). short (r .body)) (recordsOf (drop (at + (n + 4)) p)))
-  short-on b f = f ∙ sym (tested (λ (r : Record). short (r .body)) b (leb n 4096) (sym (short-at p at n size some fits)))
+  pub sendable-on : (b : Bool) → sendableIn p ≡ (b && all? (λ (r : Record). sendable (r .body)) (recordsOf (drop at p)))
+      → sendableIn p ≡ ((b && leb n 4096) && all? (λ (r : Record). sendable (r .body)) (recordsOf (drop (at + (n + 4)) p)))
+  sendable-on b f = f ∙ sym (tested (λ (r : Record). sendable (r .body)) b (leb n 4096) (sym (sendable-at p at n size some fits)))
 
 -- at the end nothing is left to be tested
 pub over : (p : List ℕ) (at : ℕ) (test : Record → Bool) (b : Bool) → length p ≤ at → (b && all? test (recordsOf (drop at p))) ≡ b

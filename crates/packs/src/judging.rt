@@ -21,18 +21,18 @@ fn bytes_number(pack: &[u8]) -> u8
         return 20;
     }
     let mut known = true;
-    let mut short = true;
+    let mut few = true;
     let mut at = 0;
     while at < pack.len() {
         let size = length_at(pack, at) as usize;
         known = known & (kind_at(pack, at) == 1);
-        short = short & (size <= MESSAGE);
+        few = few & (size <= MESSAGE);
         at += size + 4;
     }
     if !known {
         return 21;
     }
-    if short { 0 } else { 2 }
+    if few { 0 } else { 2 }
 }
 
 // "then 2 and 3, with 16 from P1 after 3"

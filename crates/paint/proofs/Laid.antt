@@ -7,7 +7,7 @@ use lib.ListN.{getD, getD-replicate, length, replicate}
 use Rattle.model.specs.Bytes.{listFrom, put}
 use Rattle.model.proofs.ByteLaws.{getD-listFrom, length-listFrom, same-listFrom}
 use Rattle.store.proofs.Laws.{put-inside, put-over}
-use Rattle.paint.specs.Shown.{laid, marked}
+use Rattle.paint.specs.Shown.{laid, coveredBy}
 use Rattle.views.specs.Painted.{painted}
 
 -- the layer laid over places that are painted
@@ -27,7 +27,7 @@ module _ (a n : ℕ) (f : ℕ → ℕ) (layer xs : List ℕ) (fits : a + n ≤ l
   painted-over {l} e e′ =
       let g : ℕ → ℕ = laid layer (λ p. getD l p 0) in
       let same : listFrom g a n ≡ listFrom (laid layer f) a n =
-      same-listFrom g (laid layer f) a n (λ p b h. ap (marked (getD layer p 0) (getD layer (640 + p) 0)) (there e p b h)) in
+      same-listFrom g (laid layer f) a n (λ p b h. ap (coveredBy (getD layer p 0) (getD layer (640 + p) 0)) (there e p b h)) in
       let size : length (listFrom f a n) ≤ length (listFrom (laid layer f) a n) = omega (arith, length-listFrom f a n, length-listFrom (laid layer f) a n) in
       e′ ∙ rw (same, e) (put-over a (listFrom f a n) xs (omega (arith, length-listFrom f a n)) (listFrom (laid layer f) a n) size)
 
@@ -36,4 +36,4 @@ pub painted-bare : (a n m : ℕ) (f : ℕ → ℕ) (layer xs : List ℕ) → lay
 unfolding painted laid
 painted-bare a n m f layer xs e h =
     ap (λ (ys : List ℕ). put a ys xs) (same-listFrom f (laid layer f) a n
-    (λ p b k. ap (λ (mark : ℕ). marked mark (getD layer (640 + p) 0) (f p)) (sym (ap (λ (l : List ℕ). getD l p 0) e ∙ getD-replicate m p 0 0 (omega arith)))))
+    (λ p b k. ap (λ (mark : ℕ). coveredBy mark (getD layer (640 + p) 0) (f p)) (sym (ap (λ (l : List ℕ). getD l p 0) e ∙ getD-replicate m p 0 0 (omega arith)))))

@@ -21,9 +21,9 @@ abbrev pub below : State → ℕ → ℕ
 below st p = under st (p / 80 + 1) (p % 80 + 1)
 
 -- "0 empty, other values set"
-abbrev pub marked : ℕ → ℕ → ℕ → ℕ
-marked mark code x = cond (eqb mark 0) x code
+abbrev pub coveredBy : ℕ → ℕ → ℕ → ℕ
+coveredBy mark code x = cond (eqb mark 0) x code
 
 -- "first 640 marks, then 640 codes": f, with the layer over it
 unfoldable pub laid : List ℕ → (ℕ → ℕ) → ℕ → ℕ
-laid layer f p = marked (getD layer p 0) (getD layer (640 + p) 0) (f p)
+laid layer f p = coveredBy (getD layer p 0) (getD layer (640 + p) 0) (f p)

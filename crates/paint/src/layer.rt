@@ -1,7 +1,7 @@
 // The layer over what is painted: at all places, and in row 8 alone.
 ghost use mathlib.Core.Path.{_≡_};
 ghost use lib.ListN.{getD, length};
-ghost use Rattle.paint.specs.Shown.{laid, marked};
+ghost use Rattle.paint.specs.Shown.{laid, coveredBy};
 ghost use Rattle.views.specs.Painted.{painted};
 use views::rows::PLACES;
 use views::rows::ROW_8;
@@ -31,7 +31,7 @@ pub(crate) fn lay_last(layer: &[u8], shown: &mut [u8])
 }
 
 fn over(mark: u8, code: u8, under: u8) -> u8
-    ensures { λ r. ⌜ r ≡ marked mark code under ⌝ }
+    ensures { λ r. ⌜ r ≡ coveredBy mark code under ⌝ }
 {
     if mark == 0 { under } else { code }
 }

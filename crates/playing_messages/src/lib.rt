@@ -37,7 +37,7 @@ pub fn play_short(
     dots: &mut [u8],
     printer: &mut [u8],
 ) -> Played
-    ensures { λ r. ⌜ Plays (Asked.quick (now (message .entry))) (terminal (played .settings) (now (cells .entry)) (now (layer .entry)) (now (dots .entry)) (now (shown .entry))) (now (printer .entry)) played r (terminal (r .settings) (now (cells .exit)) (now (layer .exit)) (now (dots .exit)) (now (shown .exit))) (now (printer .exit)) ⌝ }
+    ensures { λ r. ⌜ Plays (Asked.short (now (message .entry))) (terminal (played .settings) (now (cells .entry)) (now (layer .entry)) (now (dots .entry)) (now (shown .entry))) (now (printer .entry)) played r (terminal (r .settings) (now (cells .exit)) (now (layer .exit)) (now (dots .exit)) (now (shown .exit))) (now (printer .exit)) ⌝ }
 {
     let before = played.settings;
     let outcome = short::message_short(before, message, cells, layer, shown, dots, printer);

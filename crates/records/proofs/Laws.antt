@@ -11,7 +11,7 @@ use lib.Seq.{drop-drop, getD-drop}
 use lib.Dec.{eqb, leb, ltb}
 use borrow.Author.Tests.{eqb-false, eqb-true, ltb-false, ltb-true, ne-eqb}
 use Rattle.model.proofs.Tests.{differ}
-use Rattle.calls.specs.Calls.{short}
+use Rattle.calls.specs.Calls.{sendable}
 use Rattle.calls.specs.Packs.{bodiesOf, known?}
 use Rattle.model.specs.Records.{Record, all?, bodyIn, kindIn, lacking, lengthIn, numberIn, recordIn, recordsAfter, recordsOf, uncut?}
 
@@ -74,8 +74,8 @@ uncut-next (b ∷ bs) h fits =
 
 pub uncut-not : (bs : List ℕ) → 1 ≤ length bs → length bs < lengthIn bs + 4 → uncut? bs ≡ false
 unfolding uncut? lacking
-uncut-not [] h short = absurd (omega arith)
-uncut-not (b ∷ bs) h short =
+uncut-not [] h few = absurd (omega arith)
+uncut-not (b ∷ bs) h few =
     let n : ℕ = lacking (lengthIn (b ∷ bs) + 3) bs in
     let z : 1 ≤ n = lacking-rest (lengthIn (b ∷ bs) + 3) bs (omega arith) in
     ne-eqb n 0 (λ (e : n ≡ 0). omega arith)
@@ -102,11 +102,11 @@ module _ (bs : List ℕ) (at : ℕ) (inside : at ≤ length bs) where
       rw (← e) at (uncut-next (drop at bs) (omega (arith, size-at)) (omega (arith, size-at)) ∙ ap uncut? (drop-drop (lengthIn (drop at bs) + 4) at bs))
 
   pub uncut-short : {n : ℕ} → n ≡ lengthIn (drop at bs) → at < length bs → length bs - at < n + 4 → uncut? (drop at bs) ≡ false
-  uncut-short e some short = uncut-not (drop at bs) (omega (arith, size-at)) (omega (arith, size-at))
+  uncut-short e some few = uncut-not (drop at bs) (omega (arith, size-at)) (omega (arith, size-at))
 
   pub uncut-end : length bs < at + 4 → eqb at (length bs) ≡ uncut? (drop at bs)
   unfolding uncut? lacking
-  uncut-end short = go (eqb at (length bs)) refl
+  uncut-end few = go (eqb at (length bs)) refl
     where
       go : (b : Bool) → eqb at (length bs) ≡ b → b ≡ uncut? (drop at bs)
       go true e = let h : length bs ≤ at = omega (arith, eqb-true at (length bs) e) in rw (drop-of-length-le bs {i = at} h)
@@ -129,9 +129,9 @@ module _ (bs : List ℕ) (at n : ℕ) (size : n ≡ lengthIn (drop at bs)) where
   unfolding known? recordIn
   known-at = refl
 
-  pub short-at : at < length bs → at + (n + 4) ≤ length bs → short (recordIn (drop at bs) .body) ≡ leb n 4096
+  pub sendable-at : at < length bs → at + (n + 4) ≤ length bs → sendable (recordIn (drop at bs) .body) ≡ leb n 4096
   unfolding recordIn
-  short-at some fits =
+  sendable-at some fits =
       let h : lengthIn (drop at bs) + 4 ≤ length (drop at bs) = omega (arith, length-drop at bs) in
       ap (λ (k : ℕ). leb k 4096) (body-length (drop at bs) h ∙ sym size)
 

@@ -13,22 +13,22 @@ use Rattle.model.specs.declared.Place.{Place}
 use Rattle.model.specs.Bytes.{put}
 use Rattle.model.specs.State.{State, state}
 use Rattle.model.specs.Screens.{placeOf}
-use Rattle.model.specs.Rules.{awaited, printed, right, stored, tracked}
-use Rattle.model.proofs.LateWrap.{awaited-not}
+use Rattle.model.specs.Rules.{lateStep, printed, right, stored, tracked}
+use Rattle.model.proofs.LateWrap.{late-step-not}
 use Rattle.model.proofs.Tests.{and-left, and-right}
 use Rattle.ground.specs.declared.Frame.{Frame}
 use Rattle.runs.specs.declared.Run.{Run}
 use Rattle.ground.specs.Frame.{Ready}
 use Rattle.ground.specs.Acts.{Acts, ActsAbove, ActsWith, Reads, withHere}
 use Rattle.ground.specs.Here.{cellIn, lost}
-use Rattle.ground.specs.Spots.{furtherBy, unmarked}
+use Rattle.ground.specs.Spots.{furtherBy, emptyFrom}
 use Rattle.runs.specs.Run.{Fitting, Part, Printing, Ran, WholeRun, allPrint?, laidAll, printedAll, prints?}
 use Rattle.cursor.specs.Uncovers.{Uncovers}
 use Rattle.ground.proofs.Acting.{placed-there}
 use Rattle.ground.proofs.Carried.{likewise-with, still-with, then-above-with, then-with, unmarked-acts}
 use Rattle.ground.proofs.Cells.{cell-room}
 use Rattle.runs.proofs.Chunks.{laid-acts, laid-one}
-use Rattle.cursor.proofs.Moves.{waits-not}
+use Rattle.cursor.proofs.Moves.{late-not}
 use Rattle.ground.proofs.Rows.{put-sets}
 use Rattle.cursor.proofs.ShownLaws.{Spot, spot-of}
 
@@ -100,18 +100,18 @@ module _ (m : List ℕ) (at : ℕ) where
       go false e = sym e
 
 -- P9: a step that waited may be made before the bytes are laid down, if none waits behind it
-awaited-first : (bs : List ℕ) (st : State) → 1 ≤ length bs → awaited (awaited st) ≡ awaited st → laidAll bs st ≡ laidAll bs (awaited st)
+late-step-first : (bs : List ℕ) (st : State) → 1 ≤ length bs → lateStep (lateStep st) ≡ lateStep st → laidAll bs st ≡ laidAll bs (lateStep st)
 unfolding laidAll printed
-awaited-first [] st h e = absurd (omega (arith, h))
-awaited-first (b ∷ []) st h e = ap (stored b) (sym e)
-awaited-first (b ∷ d ∷ bs) st h e = ap (λ (x : State). laidAll (d ∷ bs) (tracked (right (stored b x)))) (sym e)
+late-step-first [] st h e = absurd (omega (arith, h))
+late-step-first (b ∷ []) st h e = ap (stored b) (sym e)
+late-step-first (b ∷ d ∷ bs) st h e = ap (λ (x : State). laidAll (d ∷ bs) (tracked (right (stored b x)))) (sym e)
 
 -- the rest of the last one's rule
 printed-laid : (bs : List ℕ) (st : State) → 1 ≤ length bs → printedAll bs st ≡ tracked (right (laidAll bs st))
 unfolding printedAll laidAll printed
 printed-laid [] st h = absurd (omega (arith, h))
 printed-laid (b ∷ []) st h = refl
-printed-laid (b ∷ d ∷ bs) st h = printed-laid (d ∷ bs) (tracked (right (stored b (awaited st)))) (omega arith)
+printed-laid (b ∷ d ∷ bs) st h = printed-laid (d ∷ bs) (tracked (right (stored b (lateStep st)))) (omega arith)
 
 -- the bytes from an offset up to `at` were printed
 pub record Along (m : List ℕ) (f : Frame) (from : ℕ) (p : Place) (c l k : List ℕ) (at : ℕ) (q : Place) (c′ l′ k′ : List ℕ) : Type 0 where
@@ -137,19 +137,19 @@ module _ {m : List ℕ} {f : Frame} {p : Place} {c l k : List ℕ} where
   along-all {at} h e a = record { run = subst (WholeRun m at) (sym e) h; acts = a .acts }
 
 -- bytes laid down behind the step that waited
-module _ {f : Frame} {p q : Place} {c l k c₀ l₀ k₀ : List ℕ} (w : ActsWith awaited f p q c l k c₀ l₀ k₀) where
+module _ {f : Frame} {p q : Place} {c l k c₀ l₀ k₀ : List ℕ} (w : ActsWith lateStep f p q c l k c₀ l₀ k₀) where
   laid-behind : (bs : List ℕ) {n : ℕ} {s : Place} {c₁ l₁ : List ℕ} → 1 ≤ length bs → q .column + length bs ≤ f .columns + 1 → (2 ≤ length bs → Reads lost f q false) → Spot f q n
-      → s ≡ furtherBy (length bs - 1) q → c₁ ≡ sets c₀ (cellIn f q) bs → l₁ ≡ unmarked n (length bs) l₀ → ActsWith (laidAll bs) f p s c l k c₁ l₁ k₀
+      → s ≡ furtherBy (length bs - 1) q → c₁ ≡ sets c₀ (cellIn f q) bs → l₁ ≡ emptyFrom n (length bs) l₀ → ActsWith (laidAll bs) f p s c l k c₁ l₁ k₀
   unfolding laidAll placeOf
   laid-behind [] h g seen i a b d = absurd (omega (arith, h))
   laid-behind (x ∷ []) h g seen i a b d = likewise-with (λ s ds u v o. refl) (then-with w (unmarked-acts (w .marks-are) (laid-one x (w .ready) i a b d)))
   laid-behind (x ∷ y ∷ ys) h g seen i a b d =
-      let still = waits-not (w .ready .stands) (omega arith) in
+      let still = late-not (w .ready .stands) (omega arith) in
       let e : length (x ∷ y ∷ ys) - 1 ≡ length (y ∷ ys) = omega arith in
       likewise-with (λ s ds u v o.
       let st : State = state (withHere s q k₀) c₀ l₀ ds in
-      let t : awaited (state s c l ds) ≡ st = w .does s ds u v o in
-      awaited-first (x ∷ y ∷ ys) (state s c l ds) h (ap awaited t ∙ awaited-not st (ap (λ (z : Place). z .waiting) (placed-there q u) ∙ still) ∙ sym t))
+      let t : lateStep (state s c l ds) ≡ st = w .does s ds u v o in
+      late-step-first (x ∷ y ∷ ys) (state s c l ds) h (ap lateStep t ∙ late-step-not st (ap (λ (z : Place). z .waiting) (placed-there q u) ∙ still) ∙ sym t))
       (then-with w (unmarked-acts (w .marks-are) (laid-acts x (y ∷ ys) (w .ready) still (omega arith) (λ o. seen (omega arith)) i (rw e at a) b d)))
 
   -- those of a message that the line has room for

@@ -7,7 +7,7 @@ use lib.ListN.{length, getD, take, drop}
 use lib.Dec.{leb}
 use Rattle.model.specs.declared.Place.{Place}
 use Rattle.model.specs.State.{State}
-use Rattle.model.specs.Rules.{awaited, printed, stored}
+use Rattle.model.specs.Rules.{lateStep, printed, stored}
 use Rattle.ground.specs.declared.Frame.{Frame}
 use Rattle.runs.specs.declared.Run.{Run}
 use Rattle.ground.specs.Acts.{ActsWith, Reads}
@@ -52,7 +52,7 @@ pub record Part (m : List ℕ) (at to : ℕ) (f : Frame) (p : Place) (r : Run) (
 -- all of these bytes but the last are printed, and the last is only stored
 unfoldable pub laidAll : List ℕ → State → State
 laidAll [] st = st
-laidAll (b ∷ []) st = stored b (awaited st)
+laidAll (b ∷ []) st = stored b (lateStep st)
 laidAll (b ∷ d ∷ bs) st = laidAll (d ∷ bs) (printed b st)
 
 -- of n bytes the first r, at least one, have room in the cursor's line; more than one only while the window shows it

@@ -124,7 +124,7 @@ fn print_line(
     requires { ⌜ (at < end) × (end ≤ length (now message)) ⌝ }
     ensures { λ r. ⌜ Part (now (message .entry)) at end frame place r (now (cells .entry)) (now (layer .entry)) (now (marks .entry)) (now (cells .exit)) (now (layer .exit)) (now (marks .exit)) ⌝ }
 {
-    let first = cursor::awaited(frame, place, cells, layer, marks);
+    let first = cursor::late_step(frame, place, cells, layer, marks);
     let count = fitting(frame, first, end - at);
     let from = lines::cell(frame, first);
     store::copy_in(cells, from, message, at, count);

@@ -76,7 +76,7 @@ pub fn print(
     requires { ⌜ length (now marks) ≡ 96 ⌝ }
     ensures { λ r. ⌜ ActsWith (printed code) frame place r (now (cells .entry)) (now (layer .entry)) (now (marks .entry)) (now (cells .exit)) (now (layer .exit)) (now (marks .exit)) ⌝ }
 {
-    let first = cursor::awaited(frame, place, cells, layer, marks);
+    let first = cursor::late_step(frame, place, cells, layer, marks);
     print_here(frame, first, code, cells, layer, marks)
 }
 

@@ -18,27 +18,27 @@ use Rattle.model.specs.Rules.{withSettings}
 use Rattle.model.specs.Items.{blankAnswer, countedAll, eventsOf, texted}
 use Rattle.calls.specs.Repaint.{painted?, repainted, shownBehind}
 use Rattle.model.specs.Hidden.{Hidden}
-use Rattle.calls.specs.Calls.{Asked, Call, Promised, Reason, Request, Terminal, accepted, allFree, answerOf, besideItems, closing, countable, eventsBy, eventsIn, firstOf, keyText, knownIn, message, noneWaits, numberOf, pack, packable, paints?, piece, printedBy, quick, quick?, readsBy, readsIn, reason, reasons, recordOf, request, requestOf, served, short, shortIn, sized, soundIn, takenBy}
+use Rattle.calls.specs.Calls.{Asked, Call, Promised, Reason, Request, Terminal, granted, allFree, answerOf, besideItems, closing, countable, eventsBy, eventsIn, firstOf, keyText, knownIn, message, noneWaits, numberOf, pack, packable, paints?, piece, printedBy, short, short?, readsBy, readsIn, reason, reasons, recordOf, request, requestOf, served, sendable, sendableIn, sized, soundIn, takenBy}
 use Rattle.model.specs.Keyable.{keyable}
 use Rattle.calls.specs.Lists.{Made, Nth, eventsOver, first, later, next, requests}
-use Rattle.secrecy.specs.Secrecy.{Alike, AlikeCalls, AlikeStart, SameKind, SameSeen, Secrecy, closings, handed, inBoth, keyTexts, messages, packs, pair, pieces, printedAt, printedInPack, quicks, readAsPrinted, revealed}
+use Rattle.secrecy.specs.Secrecy.{Alike, AlikeCalls, AlikeStart, SameKind, SameSeen, Secrecy, closings, handed, inBoth, keyTexts, messages, packs, pair, pieces, printedAt, printedInPack, shorts, readAsPrinted, revealed}
 use Rattle.calls.proofs.SecretRules.{blind}
 use Rattle.model.proofs.Events.{good-all}
-use Rattle.calls.proofs.CallLaws.{accepted-answer, accepted-leaves, accepted-pack, accepted-prints, accepted-quick, accepted-sized, accepted-sound, after, left-is, legal-in, refused-answer, refused-leaves, refused-prints, refused-record, sizes, state-served}
+use Rattle.calls.proofs.CallLaws.{granted-answer, granted-leaves, granted-pack, granted-prints, granted-short, granted-sized, granted-sound, after, left-is, legal-in, refused-answer, refused-leaves, refused-prints, refused-record, sizes, state-served}
 use Rattle.calls.proofs.LineAfter.{leaves, leaves-texted}
 use Rattle.calls.proofs.Printing.{part-is}
 use Rattle.secrecy.proofs.Items.{along-copies, along-counts, along-end, along-places, along-wide, revealed-append}
 use Rattle.secrecy.proofs.Pairs.{Paired, hidden-of, paired}
 
 -- a refused call reads nothing as printed
-none-read : (t : Terminal) (a : Asked) (r i : ℕ) → accepted t (request a r) ≡ false → readAsPrinted t a r i ≡ false
+none-read : (t : Terminal) (a : Asked) (r i : ℕ) → granted t (request a r) ≡ false → readAsPrinted t a r i ≡ false
 unfolding readAsPrinted readsIn printedAt
 none-read t (message m) r i e = ap (λ (b : Bool). printedAt (cond b (readsBy t (request (message m) r)) []) i) e
 none-read t (piece m) r i e = ap (λ (b : Bool). printedAt (cond b (readsBy t (request (piece m) r)) []) (t .state .settings .count + i)) e
 none-read t closing r i e = refl
 none-read t (keyText k x) r i e = refl
 none-read t (pack p) r i e = ap (λ (b : Bool). cond b (printedInPack (bodiesOf p) (t .state) r i) false) e
-none-read t (quick m) r i e = ap (λ (b : Bool). printedAt (cond b (readsBy t (request (quick m) r)) []) i) e
+none-read t (short m) r i e = ap (λ (b : Bool). printedAt (cond b (readsBy t (request (short m) r)) []) i) e
 
 -- by which number calls with the same bytes are refused: sizes, settings and lengths alone
 same-reasons : {t₁ t₂ : Terminal} {a₁ a₂ : Asked} → AlikeStart t₁ t₂ → SameKind a₁ a₂ → handed a₁ ≡ handed a₂ → reasons t₁ a₁ ≡ reasons t₂ a₂
@@ -52,33 +52,33 @@ same-reasons {t₁} {t₂} h k e = go k e
     s = blind (t₁ .state) (t₂ .state) (hidden-of h) .sound
 
     go : {a₁ a₂ : Asked} → SameKind a₁ a₂ → handed a₁ ≡ handed a₂ → reasons t₁ a₁ ≡ reasons t₂ a₂
-    go messages e = λ i. reason 1 (z i) ∷ reason 2 (short (e i)) ∷ reason 3 (s i) ∷ reason 16 (noneWaits (h .settings i)) ∷ []
-    go pieces e = λ i. reason 1 (z i) ∷ reason 2 (short (e i)) ∷ reason 3 (s i) ∷ reason 15 (countable (h .settings i) (e i)) ∷ []
+    go messages e = λ i. reason 1 (z i) ∷ reason 2 (sendable (e i)) ∷ reason 3 (s i) ∷ reason 16 (noneWaits (h .settings i)) ∷ []
+    go pieces e = λ i. reason 1 (z i) ∷ reason 2 (sendable (e i)) ∷ reason 3 (s i) ∷ reason 15 (countable (h .settings i) (e i)) ∷ []
     go closings e = λ i. reason 1 (z i) ∷ reason 3 (s i) ∷ []
     go (keyTexts {k} l) e = λ i. reason 3 (s i) ∷ reason 17 (leb 1 k && (leb k 10 && eqb (l i) 8)) ∷ []
-    go packs e = λ i. reason 1 (z i) ∷ reason 19 (packable (e i)) ∷ reason 20 (uncut? (e i)) ∷ reason 21 (knownIn (e i)) ∷ reason 2 (shortIn (e i)) ∷ reason 3 (s i) ∷ reason 16 (noneWaits (h .settings i)) ∷ []
-    go quicks e = λ i. reason 1 (z i) ∷ reason 2 (short (e i)) ∷ reason 3 (s i) ∷ reason 16 (noneWaits (h .settings i)) ∷ []
+    go packs e = λ i. reason 1 (z i) ∷ reason 19 (packable (e i)) ∷ reason 20 (uncut? (e i)) ∷ reason 21 (knownIn (e i)) ∷ reason 2 (sendableIn (e i)) ∷ reason 3 (s i) ∷ reason 16 (noneWaits (h .settings i)) ∷ []
+    go shorts e = λ i. reason 1 (z i) ∷ reason 2 (sendable (e i)) ∷ reason 3 (s i) ∷ reason 16 (noneWaits (h .settings i)) ∷ []
 
 -- an accepted call leaves its stores as long as they were
 module _ (t : Terminal) (r : ℕ) where
-  kept-good : (a : Asked) → accepted t (request a r) ≡ true → sized t ≡ true
+  kept-good : (a : Asked) → granted t (request a r) ≡ true → sized t ≡ true
       → let u = served t (request a r) in (length (u .state .cells) ≡ length (t .state .cells)) × (length (u .state .layer) ≡ length (t .state .layer))
   kept-good a e z =
       let q : Request = request a r in
-      let g : Good (t .state) = sizes t z (accepted-sound t q e) .0 in
+      let g : Good (t .state) = sizes t z (granted-sound t q e) .0 in
       let n : Good (served t q .state) = subst Good (sym (state-served t q)) (good-all (eventsIn t q) (t .state) g (legal-in t q)) in
       (n .cells-are ∙ sym (g .cells-are), n .layer-are ∙ sym (g .layer-are))
 
-  kept-sizes : (a : Asked) → accepted t (request a r) ≡ true → let u = served t (request a r) in (length (u .state .cells) ≡ length (t .state .cells)) × (length (u .state .layer) ≡ length (t .state .layer))
+  kept-sizes : (a : Asked) → granted t (request a r) ≡ true → let u = served t (request a r) in (length (u .state .cells) ≡ length (t .state .cells)) × (length (u .state .layer) ≡ length (t .state .layer))
   unfolding texted withSettings
-  kept-sizes (message m) e = kept-good (message m) e (accepted-sized t (request (message m) r) e refl)
-  kept-sizes (piece m) e = kept-good (piece m) e (accepted-sized t (request (piece m) r) e refl)
-  kept-sizes closing e = kept-good closing e (accepted-sized t (request closing r) e refl)
+  kept-sizes (message m) e = kept-good (message m) e (granted-sized t (request (message m) r) e refl)
+  kept-sizes (piece m) e = kept-good (piece m) e (granted-sized t (request (piece m) r) e refl)
+  kept-sizes closing e = kept-good closing e (granted-sized t (request closing r) e refl)
   kept-sizes (keyText k x) e =
       let z = leaves-texted t k x r e in
       (ap (λ (u : Terminal). length (u .state .cells)) z, ap (λ (u : Terminal). length (u .state .layer)) z)
-  kept-sizes (pack p) e = kept-good (pack p) e (accepted-pack t p r e .0)
-  kept-sizes (quick m) e = kept-good (quick m) e (accepted-quick t m r e .0)
+  kept-sizes (pack p) e = kept-good (pack p) e (granted-pack t p r e .0)
+  kept-sizes (short m) e = kept-good (short m) e (granted-short t m r e .0)
 
 -- places that are painted from equal pictures
 same-painting : (a b : State) → picture a ≡ picture b → painting a ≡ painting b
@@ -91,11 +91,11 @@ same-repainted a b e f g h = ap (λ (f : ℕ → ℕ). listFrom f 0 640) (λ i p
 
 -- what an accepted call leaves shown
 abbrev glass : Terminal → Request → State → List ℕ
-glass t q st = cond (paints? (q .asked)) (painting st) (cond (quick? (q .asked)) (shownBehind (readsBy t q) (t .state) st (t .shown)) (t .shown))
+glass t q st = cond (paints? (q .asked)) (painting st) (cond (short? (q .asked)) (shownBehind (readsBy t q) (t .state) st (t .shown)) (t .shown))
 
-shown-by : (t : Terminal) (q : Request) → accepted t q ≡ true → served t q .shown ≡ glass t q (served t q .state)
+shown-by : (t : Terminal) (q : Request) → granted t q ≡ true → served t q .shown ≡ glass t q (served t q .state)
 unfolding after
-shown-by t q e = subst (λ (x : Terminal). x .shown ≡ glass t q (x .state)) (sym (accepted-leaves t q e)) refl
+shown-by t q e = subst (λ (x : Terminal). x .shown ≡ glass t q (x .state)) (sym (granted-leaves t q e)) refl
 
 -- what two calls give
 record Given (t₁ t₂ : Terminal) (q₁ q₂ : Request) : Type 0 where
@@ -113,22 +113,22 @@ module _ (t₁ t₂ : Terminal) (a₁ a₂ : Asked) (r₁ r₂ : ℕ) (h : Alike
   q₂ = request a₂ r₂
 
   -- where one is refused the bytes are the same
-  bytes-same : (accepted t₁ q₁ && accepted t₂ q₂) ≡ false → handed a₁ ≡ handed a₂
-  bytes-same n = ext-getD 0 (handed a₁) (handed a₂) long (λ i l. b i (neither i (accepted t₁ q₁) refl (accepted t₂ q₂) refl n))
+  bytes-same : (granted t₁ q₁ && granted t₂ q₂) ≡ false → handed a₁ ≡ handed a₂
+  bytes-same n = ext-getD 0 (handed a₁) (handed a₂) long (λ i l. b i (neither i (granted t₁ q₁) refl (granted t₂ q₂) refl n))
     where
       and-false : (x y : Bool) → y ≡ false → (x && y) ≡ false
       and-false true y e = e
       and-false false y e = refl
 
-      neither : (i : ℕ) (x : Bool) → accepted t₁ q₁ ≡ x → (y : Bool) → accepted t₂ q₂ ≡ y → (x && y) ≡ false → (readAsPrinted t₁ a₁ r₁ i && readAsPrinted t₂ a₂ r₂ i) ≡ false
+      neither : (i : ℕ) (x : Bool) → granted t₁ q₁ ≡ x → (y : Bool) → granted t₂ q₂ ≡ y → (x && y) ≡ false → (readAsPrinted t₁ a₁ r₁ i && readAsPrinted t₂ a₂ r₂ i) ≡ false
       neither i true e y f n = and-false (readAsPrinted t₁ a₁ r₁ i) (readAsPrinted t₂ a₂ r₂ i) (none-read t₂ a₂ r₂ i (f ∙ n))
       neither i false e y f n = ap (λ (x : Bool). x && readAsPrinted t₂ a₂ r₂ i) (none-read t₁ a₁ r₁ i e)
 
-  same-when : (accepted t₁ q₁ && accepted t₂ q₂) ≡ false → reasons t₁ a₁ ≡ reasons t₂ a₂
+  same-when : (granted t₁ q₁ && granted t₂ q₂) ≡ false → reasons t₁ a₁ ≡ reasons t₂ a₂
   same-when n = same-reasons h k (bytes-same n)
 
   -- a refused one changes nothing
-  when-refused : reasons t₁ a₁ ≡ reasons t₂ a₂ → accepted t₁ q₁ ≡ false → accepted t₂ q₂ ≡ false → Given t₁ t₂ q₁ q₂
+  when-refused : reasons t₁ a₁ ≡ reasons t₂ a₂ → granted t₁ q₁ ≡ false → granted t₂ q₂ ≡ false → Given t₁ t₂ q₁ q₂
   unfolding numberOf
   when-refused n e f = record {
     after-both = subst (λ (x : Terminal). AlikeStart x (served t₂ q₂)) (sym (refused-leaves t₁ q₁ e)) (subst (AlikeStart t₁) (sym (refused-leaves t₂ q₂ f)) h);
@@ -138,7 +138,7 @@ module _ (t₁ t₂ : Terminal) (a₁ a₂ : Asked) (r₁ r₂ : ℕ) (h : Alike
   }
 
   -- two that are accepted
-  module _ (v : revealed (eventsIn t₁ q₁) ≡ false) (e : accepted t₁ q₁ ≡ true) (f : accepted t₂ q₂ ≡ true) where
+  module _ (v : revealed (eventsIn t₁ q₁) ≡ false) (e : granted t₁ q₁ ≡ true) (f : granted t₂ q₂ ≡ true) where
     quiet : revealed (eventsOf (readsBy t₁ q₁)) ≡ false
     unfolding eventsIn eventsBy
     quiet = revealed-append (eventsOf (readsBy t₁ q₁)) (besideItems (t₁ .state .settings) a₁) (ap (λ (b : Bool). revealed (cond b (eventsBy t₁ q₁) [])) (sym e) ∙ v) .0
@@ -159,8 +159,8 @@ module _ (t₁ t₂ : Terminal) (a₁ a₂ : Asked) (r₁ r₂ : ℕ) (h : Alike
         let places = along-places (readsBy t₁ q₁) (readsBy t₂ q₂) (t₁ .state) (t₂ .state) (both .reads) in
         shown-by t₁ q₁ e ∙ (λ i. cond (both .paint i) (same-painting x y p i) (cond (both .short i) (same-repainted x y p wide places (h .shown) i) (h .shown i))) ∙ sym (shown-by t₂ q₂ f)
 
-    when-accepted : Given t₁ t₂ q₁ q₂
-    when-accepted = record {
+    when-granted : Given t₁ t₂ q₁ q₂
+    when-granted = record {
       after-both = record {
         settings = λ i. hidden .same i .settings;
         dots = λ i. hidden .same i .dots;
@@ -169,23 +169,23 @@ module _ (t₁ t₂ : Terminal) (a₁ a₂ : Asked) (r₁ r₂ : ℕ) (h : Alike
         layer = kept-sizes t₁ r₁ a₁ e .1 ∙ h .layer ∙ sym (kept-sizes t₂ r₂ a₂ f .1);
         secret = hidden .on;
       };
-      answer = accepted-answer t₁ q₁ e ∙ along-counts (readsBy t₁ q₁) (readsBy t₂ q₂) (t₁ .state) (t₂ .state) (blankAnswer 0 (takenBy a₁)) (both .reads)
-          ∙ ap (λ (n : ℕ). countedAll (readsBy t₂ q₂) (blankAnswer 0 n)) (both .taken) ∙ sym (accepted-answer t₂ q₂ f);
+      answer = granted-answer t₁ q₁ e ∙ along-counts (readsBy t₁ q₁) (readsBy t₂ q₂) (t₁ .state) (t₂ .state) (blankAnswer 0 (takenBy a₁)) (both .reads)
+          ∙ ap (λ (n : ℕ). countedAll (readsBy t₂ q₂) (blankAnswer 0 n)) (both .taken) ∙ sym (granted-answer t₂ q₂ f);
       in-record = both .records;
-      printed = accepted-prints t₁ q₁ e ∙ along-copies (readsBy t₁ q₁) (readsBy t₂ q₂) (t₁ .state) (t₂ .state) (both .reads) ∙ sym (accepted-prints t₂ q₂ f);
+      printed = granted-prints t₁ q₁ e ∙ along-copies (readsBy t₁ q₁) (readsBy t₂ q₂) (t₁ .state) (t₂ .state) (both .reads) ∙ sym (granted-prints t₂ q₂ f);
     }
 
   given-both : revealed (eventsIn t₁ q₁) ≡ false → Given t₁ t₂ q₁ q₂
-  unfolding accepted
-  given-both v = go (accepted t₁ q₁) refl (accepted t₂ q₂) refl
+  unfolding granted
+  given-both v = go (granted t₁ q₁) refl (granted t₂ q₂) refl
     where
-      go : (x : Bool) → accepted t₁ q₁ ≡ x → (y : Bool) → accepted t₂ q₂ ≡ y → Given t₁ t₂ q₁ q₂
-      go true e true f = when-accepted v e f
+      go : (x : Bool) → granted t₁ q₁ ≡ x → (y : Bool) → granted t₂ q₂ ≡ y → Given t₁ t₂ q₁ q₂
+      go true e true f = when-granted v e f
       go true e false f =
           let n = same-when (λ i. e i && f i) in
           when-refused n (ap allFree n ∙ f) f
       go false e y f =
-          let n = same-when (ap (λ (x : Bool). x && accepted t₂ q₂) e) in
+          let n = same-when (ap (λ (x : Bool). x && granted t₂ q₂) e) in
           when-refused n e (ap allFree (sym n) ∙ e)
 
 -- one call that keeps its promise

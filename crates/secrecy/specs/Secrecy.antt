@@ -16,7 +16,7 @@ use Rattle.model.specs.Reading.{Read}
 use Rattle.calls.specs.Packs.{bodiesOf, itemsIn}
 use Rattle.model.specs.Items.{Event, itemRead, lineLeft, keySet, eventsOf, applyAll, blankAnswer, countedAll}
 use Rattle.model.specs.Hidden.{shared, reveals}
-use Rattle.calls.specs.Calls.{Terminal, Asked, message, piece, closing, keyText, pack, quick, request, accepted, readsIn, Call, partOf}
+use Rattle.calls.specs.Calls.{Terminal, Asked, message, piece, closing, keyText, pack, short, request, granted, readsIn, Call, partOf}
 use Rattle.calls.specs.Lists.{Made, Nth, requests, eventsOver}
 
 -- "bytes read as printed": of an item that begins at an offset, whether byte o is its printed character's value. Document 01: "A printed character is a
@@ -47,8 +47,8 @@ readAsPrinted t (message m) room i = printedAt (readsIn t (request (message m) r
 readAsPrinted t (piece m) room i = printedAt (readsIn t (request (piece m) room)) (t .state .settings .count + i)
 readAsPrinted t closing room i = false
 readAsPrinted t (keyText k x) room i = false
-readAsPrinted t (pack p) room i = cond (accepted t (request (pack p) room)) (printedInPack (bodiesOf p) (t .state) room i) false
-readAsPrinted t (quick m) room i = printedAt (readsIn t (request (quick m) room)) i
+readAsPrinted t (pack p) room i = cond (granted t (request (pack p) room)) (printedInPack (bodiesOf p) (t .state) room i) false
+readAsPrinted t (short m) room i = printedAt (readsIn t (request (short m) room)) i
 
 -- "in both"
 unfoldable pub inBoth : Call → Call → ℕ → Bool
@@ -61,7 +61,7 @@ handed (piece m) = m
 handed closing = []
 handed (keyText k x) = []
 handed (pack p) = p
-handed (quick m) = m
+handed (short m) = m
 
 -- "the same calls"; "key calls but for a text's codes": of the same key, with as many of them
 pub data SameKind : Asked → Asked → Type 0 where
@@ -70,7 +70,7 @@ pub data SameKind : Asked → Asked → Type 0 where
   closings : SameKind closing closing
   keyTexts : {k : ℕ} {x₁ x₂ : List ℕ} → length x₁ ≡ length x₂ → SameKind (keyText k x₁) (keyText k x₂)
   packs : {p₁ p₂ : List ℕ} → SameKind (pack p₁) (pack p₂)
-  quicks : {m₁ m₂ : List ℕ} → SameKind (quick m₁) (quick m₂)
+  shorts : {m₁ m₂ : List ℕ} → SameKind (short m₁) (short m₂)
 
 -- "printer room of the same sizes", "equal but for the values of bytes read as printed in both"
 pub record Alike (c₁ c₂ : Call) : Type 0 where

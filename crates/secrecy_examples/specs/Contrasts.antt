@@ -7,7 +7,7 @@ use lib.ListN.{length, replicate}
 use Rattle.model.specs.declared.Settings.{Settings}
 use Rattle.model.specs.Bytes.{written}
 use Rattle.model.specs.State.{openedSettings, withDisplay, withFlags, withMode3, withTexts}
-use Rattle.calls.specs.Calls.{Terminal, terminal, Asked, message, piece, closing, keyText, pack, quick, Call, request, served, answerOf, recordOf, printedBy}
+use Rattle.calls.specs.Calls.{Terminal, terminal, Asked, message, piece, closing, keyText, pack, short, Call, request, served, answerOf, recordOf, printedBy}
 use Rattle.calls.specs.Opening.{openedTerminal}
 use Rattle.examples.specs.Examples.{counts, firstRefusal, cell, shows, printedByte, refusedBy, text, waits}
 use Rattle.examples.specs.Runs.{Turn, turn, roomy, turnsHold}
@@ -36,7 +36,7 @@ filled c = terminal (secretSettings 1 c) (replicate 3840 c) (replicate 1280 c) (
 -- refused message 27, 125, which is not read. Only cells and texts tell
 abbrev pub typed : ℕ → ℕ → List Turn
 typed x c =
-    turn (quick (c ∷ [])) (counts 1 0 0 0 ∷ shows 1 1 32 ∷ shows 1 2 88 ∷ shows 8 80 32 ∷ cell 1 1 1 c ∷ [])
+    turn (short (c ∷ [])) (counts 1 0 0 0 ∷ shows 1 1 32 ∷ shows 1 2 88 ∷ shows 8 80 32 ∷ cell 1 1 1 c ∷ [])
     ∷ turn (keyText 1 (replicate 8 c)) (counts 0 0 0 0 ∷ shows 1 2 88 ∷ text 1 (replicate 8 c) ∷ [])
     ∷ turn (message (27 ∷ 211 ∷ 0 ∷ [])) (counts 3 1 0 0 ∷ shows 1 2 32 ∷ shows 8 1 32 ∷ shows 8 80 32 ∷ [])
     ∷ turn (pack (1 ∷ 0 ∷ 1 ∷ 0 ∷ c ∷ 2 ∷ 0 ∷ 1 ∷ 0 ∷ 27 ∷ 80 ∷ [])) (counts 3 1 0 656 ∷ printedByte 0 32 ∷ printedByte 1 32 ∷ printedByte 574 32 ∷ cell 1 1 2 c ∷ [])

@@ -118,7 +118,7 @@ module _ (m cells₀ layer₀ dots₀ printer₀ : List ℕ) (s₀ : Settings) w
     pub going : Going m (state s₀ cells₀ layer₀ dots₀) printer₀ at (state (withHere s p marks) cells layer dots) c printer
     pub framed : Framed s f
     pub ready : Ready f p cells layer
-    pub short : length m ≤ 4096
+    pub sendable : length m ≤ 4096
 
   pub begin : {f : Frame} {p : Place} {b : Bool} → {shown₀ : List ℕ} → Servable s₀ m cells₀ layer₀ dots₀ shown₀ → (FrameOf s₀ f) × (f .bare ≡ b) → (b ≡ true → layer₀ ≡ replicate (length layer₀) 0) → p ≡ placeOf s₀ (s₀ .selected)
       → {c : Counts} → c ≡ noCounts → Loop cells₀ layer₀ dots₀ printer₀ s₀ p (s₀ .marks) f c 0
@@ -132,7 +132,7 @@ module _ (m cells₀ layer₀ dots₀ printer₀ : List ℕ) (s₀ : Settings) w
       cells-are = v .good .cells-are;
       layer-are = record { size = v .good .layer-are; empty = λ t. k (sym (f .1) ∙ t) ∙ ap (λ (n : ℕ). replicate n 0) (v .good .layer-are) };
     };
-    short = v .short;
+    sendable = v .sendable;
   }
 
   module _ {cells layer dots printer : List ℕ} {s : Settings} {p : Place} {marks : List ℕ} {f : Frame} {c : Counts} {at : ℕ} (g : Loop cells layer dots printer s p marks f c at) where
@@ -169,7 +169,7 @@ module _ (m cells₀ layer₀ dots₀ printer₀ : List ℕ) (s₀ : Settings) w
       roomy-here = subst (λ (k : ℕ). c .printed + printerBytes k (r .item) ≤ length printer) in-mode roomy
 
       pub countable : length printer < 2 ^ 64 → Countable c (f .mode) (r .item) at
-      countable h = record { few = omega (arith, g .going .few, g .short, more); near = omega (arith, g .short, more); roomy = omega (arith, roomy) }
+      countable h = record { few = omega (arith, g .going .few, g .sendable, more); near = omega (arith, g .sendable, more); roomy = omega (arith, roomy) }
 
       -- an item obeyed, by whatever it came about
       obeyed : {cells′ layer′ dots′ printer′ : List ℕ} {s′ : Settings} {p′ : Place} {marks′ : List ℕ} {f′ : Frame} → Framed s′ f′ → Ready f′ p′ cells′ layer′ → state (withHere s′ p′ marks′) cells′ layer′ dots′ ≡ rule st
@@ -179,7 +179,7 @@ module _ (m cells₀ layer₀ dots₀ printer₀ : List ℕ) (s₀ : Settings) w
             (turn m (state s₀ cells₀ layer₀ dots₀) printer₀ at st c printer (g .going) more (r .item) is-item (r .length) _ _ (w .length-is) (w .inside) legal (w .some) (omega (arith, roomy-here, g .going .same-size)) e q);
         framed = h;
         ready = d;
-        short = g .short;
+        sendable = g .sendable;
       }
 
       -- one that prints nothing
@@ -189,7 +189,7 @@ module _ (m cells₀ layer₀ dots₀ printer₀ : List ℕ) (s₀ : Settings) w
       pub offered : Offered m at (r .length) (r .item) (limitsIn f)
       offered = record {
         inside = w .inside;
-        short = g .short;
+        sendable = g .sendable;
         legal = w .legal;
         prints = λ h. begins m at more (limitsIn f) (length printer - c .printed) (subst (λ (i : Item). printed? i ≡ true) (w .item-is) h);
       }
@@ -225,7 +225,7 @@ module _ (m cells₀ layer₀ dots₀ printer₀ : List ℕ) (s₀ : Settings) w
               going = subst (λ (x : Counts). Going m (state s₀ cells₀ layer₀ dots₀) printer₀ (v .at) (state (withHere s (v .place) marks₁) cells₁ layer₁ dots₁) x printer) (sym (k ∙ printed-counts (f .mode) (r .item) at c h)) g₃;
               framed = framed-bared b (g .framed);
               ready = ready-bared b (u .acts .ready) (λ x. u .acts .ready .layer-are .empty (sym (t ∙ printed-bare (f .mode) (r .item) (f .bare) h) ∙ x));
-              short = g .short;
+              sendable = g .sendable;
             }
 
         -- another item of the selected screen

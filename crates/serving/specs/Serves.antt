@@ -15,7 +15,7 @@ use Rattle.model.specs.Items.{applyAll, blankAnswer, copies, countedAll, events
 -- what serving asks: that what stands is good, a message that is not too long, and a shown screen of its size
 pub record Servable (s : Settings) (m cells layer dots shown : List ℕ) : Type 0 where
   pub good : Good (state s cells layer dots)
-  pub short : length m ≤ 4096
+  pub sendable : length m ≤ 4096
   pub shown-are : length shown ≡ 640
 
 -- the items of a message, read from what stands, with a printer buffer

@@ -38,7 +38,7 @@ pub fn obey(
         Sequence::DrawLine { .. } => drawing::stroke(settings, q, dots),
         Sequence::DrawDot { p1, p2, p3, p4 } => drawing::dot(settings, p1, p2, p3, p4, dots),
         Sequence::Select(n) => layer::select(settings, n, layer),
-        Sequence::Mark { row, column, code } => layer::mark(settings, row, column, code, layer),
+        Sequence::Cover { row, column, code } => layer::cover(settings, row, column, code, layer),
         Sequence::Display(n) => modes::display::display(settings, n, layer),
         _ => values::set(settings, q),
     }

@@ -14,11 +14,11 @@ use Rattle.model.specs.State.{State, state, withPlaces}
 use Rattle.model.specs.Screens.{placeOf}
 use Rattle.model.specs.Picture.{picture}
 use Rattle.model.specs.Items.{blankAnswer}
-use Rattle.calls.specs.Calls.{Call, Promised, Terminal, firstOf, message, numberOf, quick, quickCalled, reasons, request, terminal}
-use Rattle.calls.proofs.CallLaws.{accepted-number, refused-number}
+use Rattle.calls.specs.Calls.{Call, Promised, Terminal, firstOf, message, numberOf, short, shortCalled, reasons, request, terminal}
+use Rattle.calls.proofs.CallLaws.{granted-number, refused-number}
 use Rattle.calls.proofs.Loop.{answers, ends, prints, rest}
 use Rattle.calls.proofs.Message.{promised-short, promised-short-refused}
-use Rattle.calls.proofs.ShortCall.{quick-in}
+use Rattle.calls.proofs.ShortCall.{short-in}
 use Rattle.model.proofs.Tests.{differ}
 use Rattle.paint.specs.Shown.{Visible}
 use Rattle.views.specs.Painted.{painted}
@@ -34,10 +34,10 @@ use Rattle.short_serving.specs.ServesShort.{ServesShort}
 use Rattle.short_serving.proofs.Watching.{Watch, watch-ends, watch-first, watch-run}
 
 -- of a call that is promised the rest follows
-and-places : {m : List ℕ} {given : Terminal} {buffer : List ℕ} {answer : Answer} {left : Terminal} {printer : List ℕ} → Promised (quickCalled m given buffer answer left printer) → ShortPromised m given buffer answer left printer
+and-places : {m : List ℕ} {given : Terminal} {buffer : List ℕ} {answer : Answer} {left : Terminal} {printer : List ℕ} → Promised (shortCalled m given buffer answer left printer) → ShortPromised m given buffer answer left printer
 and-places {m} {given} {buffer} {answer} {left} {printer} p =
-    let c : Call = quickCalled m given buffer answer left printer in
-    (p, λ e. quick-in c p e m refl)
+    let c : Call = shortCalled m given buffer answer left printer in
+    (p, λ e. short-in c p e m refl)
 
 module _ (s : Settings) (m cells layer dots shown buffer : List ℕ) where
   abbrev given : Terminal
@@ -47,12 +47,12 @@ module _ (s : Settings) (m cells layer dots shown buffer : List ℕ) where
       → ShortPromised m given buffer (r .answer) (terminal (r .settings) cells′ layer′ dots′ shown′) printer′
   unfolding ends answers prints rest numberOf reasons
   short-served r cells′ layer′ dots′ shown′ printer′ e w =
-      and-places (promised-short m given buffer (r .answer) (terminal (r .settings) cells′ layer′ dots′ shown′) printer′ (accepted-number given (request (quick m) (length buffer)) e) (w .state-is) (w .shown-is) (w .answer-is) (w .printer-is))
+      and-places (promised-short m given buffer (r .answer) (terminal (r .settings) cells′ layer′ dots′ shown′) printer′ (granted-number given (request (short m) (length buffer)) e) (w .state-is) (w .shown-is) (w .answer-is) (w .printer-is))
 
   pub short-refused : (n : ℕ) (a : Answer) → n ≡ firstOf (reasons given (message m)) → (n ≡ 0 → ⊥) → a ≡ blankAnswer n 0 → ShortPromised m given buffer a given buffer
   unfolding numberOf reasons
   short-refused n a e z w =
-      and-places (promised-short-refused m given buffer a given buffer (refused-number given (request (quick m) (length buffer)) (λ k. z (e ∙ k))) refl (w ∙ ap (λ (k : ℕ). blankAnswer k 0) e) refl)
+      and-places (promised-short-refused m given buffer a given buffer (refused-number given (request (short m) (length buffer)) (λ k. z (e ∙ k))) refl (w ∙ ap (λ (k : ℕ). blankAnswer k 0) e) refl)
 
   -- a message within the line: before it, and behind it
   module _ (v : Servable s m cells layer dots shown) {f : Frame} {p : Place} (framed : (FrameOf s f) × (f .bare ≡ false)) (there : p ≡ placeOf s (s .selected)) where

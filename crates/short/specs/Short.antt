@@ -6,7 +6,7 @@ use mathlib.Core.List.{List}
 use lib.ListN.{length}
 use Rattle.model.specs.declared.Answer.{Answer}
 use Rattle.model.specs.declared.Place.{Place}
-use Rattle.calls.specs.Calls.{Promised, Terminal, quickCalled}
+use Rattle.calls.specs.Calls.{Promised, Terminal, shortCalled}
 use Rattle.calls.specs.Claims.{Quick}
 use Rattle.ground.specs.declared.Frame.{Frame}
 use Rattle.ground.specs.Acts.{Reads}
@@ -15,7 +15,7 @@ use Rattle.runs.specs.Run.{prints?}
 
 -- what the call promises: what every call does, and of its places what the paper asks (Claims `Quick`)
 abbrev pub ShortPromised : List ℕ → Terminal → List ℕ → Answer → Terminal → List ℕ → Type 0
-ShortPromised m given buffer answer left printer = let c = quickCalled m given buffer answer left printer in (Promised c) × (answer .number ≡ 0 → Quick c m)
+ShortPromised m given buffer answer left printer = let c = shortCalled m given buffer answer left printer in (Promised c) × (answer .number ≡ 0 → Quick c m)
 
 -- a message is printed bytes that stay in the cursor's line short of its last column, at least one, under a window that shows it
 pub record InLine (m : List ℕ) (f : Frame) (p : Place) : Type 0 where

@@ -4,12 +4,12 @@ use Prim.Native.Nat.{ℕ}
 use mathlib.Core.Bool.{_&&_, false}
 use lib.Dec.{eqb, ltb}
 use Rattle.model.specs.declared.Sequence.{Sequence as Seq}
-use Rattle.model.specs.declared.Sequence.the-variants.{Arrows1, Arrows2, Arrows3, CapsOff, CapsOn, Charset, Clear, Copy, CursorKind, CursorOff, CursorOn, Display, DrawDot, DrawLine, EraseLine, EraseRest, InsOff, InsOn, LinesDown, LinesUp, Mark, Mode0, Mode1, Mode2, Mode3, Nothing, NumOff, NumOn, Pattern, PrintCode, Put, Repeat, RepeatDelay, RepeatInterval, SecretOff, SecretOn, Select, Shift, Step, StringsOff, StringsOn, Tracking, WindowBottom, WindowCursor, WindowDown, WindowTop, WindowUp}
+use Rattle.model.specs.declared.Sequence.the-variants.{Arrows1, Arrows2, Arrows3, CapsOff, CapsOn, Charset, Clear, Copy, CursorKind, CursorOff, CursorOn, Display, DrawDot, DrawLine, EraseLine, EraseRest, InsOff, InsOn, LinesDown, LinesUp, Cover, Mode0, Mode1, Mode2, Mode3, Nothing, NumOff, NumOn, Pattern, PrintCode, Put, Repeat, RepeatDelay, RepeatInterval, SecretOff, SecretOn, Select, Shift, Step, StringsOff, StringsOn, Tracking, WindowBottom, WindowCursor, WindowDown, WindowTop, WindowUp}
 use Rattle.model.specs.State.{State}
 use Rattle.model.specs.Checks.{member}
 use Rattle.model.specs.Screens.{columnsHere, here, linesHere, placeOf}
 use Rattle.model.specs.Sequences.{codeOf}
-use Rattle.model.specs.Rules.{awaited, down, emptied, flagged, lifted, missed, obeyed, onLines, onward, placed, printed, remarked, right, runsOn, stored, toColumn, topped, tracked, withCells, withDots, withKeys, withKindPatterns, withLayer, withSettings}
+use Rattle.model.specs.Rules.{lateStep, down, emptied, flagged, lifted, missed, obeyed, onLines, onward, placed, printed, remarked, right, runsOn, stored, toColumn, topped, tracked, withCells, withDots, withKeys, withKindPatterns, withLayer, withSettings}
 use Rattle.model.specs.OnScreen.{onScreen?}
 use Rattle.calls.specs.Repaint.{wideCodes}
 use Rattle.model.proofs.Tests.{cond-at, differ}
@@ -34,9 +34,9 @@ onward-hides : (a : State) → Hides a (onward a)
 unfolding onward runsOn remarked withSettings toColumn placed
 onward-hides a = down-hides (toColumn 1 a)
 
-awaited-hides : (a : State) → Hides a (awaited a)
-unfolding awaited
-awaited-hides a = cond-at (Hides a) (eqb (here a .waiting) 1) _ _ (λ e. onward-hides a) (λ e. refl)
+late-step-hides : (a : State) → Hides a (lateStep a)
+unfolding lateStep
+late-step-hides a = cond-at (Hides a) (eqb (here a .waiting) 1) _ _ (λ e. onward-hides a) (λ e. refl)
 
 right-hides : (a : State) → Hides a (right a)
 unfolding right toColumn placed
@@ -44,7 +44,7 @@ right-hides a = cond-at (Hides a) (ltb (here a .column) (columnsHere a)) _ _ (λ
 
 pub printed-hides : (c : ℕ) (a : State) → Hides a (printed c a)
 unfolding printed stored
-printed-hides c a = tracked-hides (right (stored c (awaited a))) ∙ right-hides (stored c (awaited a)) ∙ awaited-hides a
+printed-hides c a = tracked-hides (right (stored c (lateStep a))) ∙ right-hides (stored c (lateStep a)) ∙ late-step-hides a
 
 -- a sequence that is not wide and not of the selected screen: the window stays
 pub calm-top : (ms : ℕ → ℕ) (q : Seq) (a : State) → member (codeOf q) wideCodes ≡ false → onScreen? q ≡ false → here (obeyed ms q a) .top ≡ here a .top
@@ -91,7 +91,7 @@ calm-top ms (Mode1 x) a w o = absurd (differ w)
 calm-top ms (Mode2 x m y) a w o = absurd (differ w)
 calm-top ms Mode3 a w o = absurd (differ w)
 calm-top ms (Select n) a w o = absurd (differ w)
-calm-top ms (Mark r c m) a w o = absurd (differ w)
+calm-top ms (Cover r c m) a w o = absurd (differ w)
 calm-top ms (Display m) a w o = absurd (differ w)
 calm-top ms WindowTop a w o = absurd (differ w)
 calm-top ms WindowBottom a w o = absurd (differ w)

@@ -61,7 +61,7 @@ fn changes(q: Sequence) -> bool
         } => true,
         Sequence::Mode3 => true,
         Sequence::Select(_) => true,
-        Sequence::Mark {
+        Sequence::Cover {
             row: _,
             column: _,
             code: _,

@@ -11,9 +11,9 @@ use borrow.Author.Tests.{eq-eqb, lt-ltb}
 use Rattle.model.specs.declared.Place.{Place}
 use Rattle.model.specs.State.{State, putAt, state}
 use Rattle.model.specs.Screens.{columnsHere, here, placeOf}
-use Rattle.model.specs.Rules.{awaited, printed, right, stored, tracked}
+use Rattle.model.specs.Rules.{lateStep, printed, right, stored, tracked}
 use Rattle.calls.specs.Repaint.{lowest?, printLifts?, printPlace}
-use Rattle.model.proofs.LateWrap.{awaited-not}
+use Rattle.model.proofs.LateWrap.{late-step-not}
 use Rattle.ground.specs.declared.Frame.{Frame}
 use Rattle.ground.specs.Frame.{Framed, Ready}
 use Rattle.ground.specs.Acts.{Acts, ActsWith, Reads, withHere, withPlace}
@@ -22,7 +22,7 @@ use Rattle.runs.specs.Run.{WholeRun, printedAll}
 use Rattle.ground.proofs.Acting.{framed-placed, placed-there}
 use Rattle.ground.proofs.Carried.{framed-here, likewise-with, then-with, unmarked-acts}
 use Rattle.runs.proofs.Chunks.{printed-spot}
-use Rattle.cursor.proofs.Moves.{waits-not}
+use Rattle.cursor.proofs.Moves.{late-not}
 use Rattle.runs.proofs.Runs.{Along, along-all, along-none, along-part, bytes-more}
 use Rattle.cursor.proofs.ShownLaws.{Spot, spot-next, spot-of}
 use Rattle.cursor.proofs.Windows.{lost-next}
@@ -55,7 +55,7 @@ unfolding printLifts?
 line-lifts {p = p} st e h w k =
     let wait : here st .waiting ≡ 0 = ap (λ (q : Place). q .waiting) h ∙ w in
     let short : ltb (here st .column) (columnsHere st) ≡ true = lt-ltb (here st .column) (columnsHere st) (omega (arith, ap (λ (q : Place). q .column) h, e .columns-are, k)) in
-    ap (λ (a : State). (eqb (here st .waiting) 1 && lowest? st) || (not (ltb (here a .column) (columnsHere a)) && (not (eqb (a .settings .rule) 2) && lowest? a))) (awaited-not st wait)
+    ap (λ (a : State). (eqb (here st .waiting) 1 && lowest? st) || (not (ltb (here a .column) (columnsHere a)) && (not (eqb (a .settings .rule) 2) && lowest? a))) (late-step-not st wait)
     ∙ (λ i. (eqb (wait i) 1 && lowest? st) || (not (short i) && (not (eqb (st .settings .rule) 2) && lowest? st)))
 
 module _ {f : Frame} {secret : ℕ} where
@@ -103,7 +103,7 @@ module _ {f : Frame} {secret : ℕ} where
       still st b lifts top more = λ m. (lifts m || not (eq-eqb (here (printed b st) .top) (here st .top) top m)) || more m
 
       at-cursor : (st : State) → here st .waiting ≡ 0 → min 640 (printPlace st) ≡ min 640 (shownHere st)
-      at-cursor st w = ap (λ (a : State). min 640 (shownHere a)) (awaited-not st w)
+      at-cursor st w = ap (λ (a : State). min 640 (shownHere a)) (late-step-not st w)
 
   -- so a part of a message painted from the place that shows the cursor's cell
   pub painted-line : {p : Place} {c l x x′ : List ℕ} {n : ℕ} (m : List ℕ) (at count : ℕ) → Ready f p c l → 1 ≤ count → at + count ≤ length m → p .column + count ≤ f .columns → Reads lost f p false
@@ -111,10 +111,10 @@ module _ {f : Frame} {secret : ℕ} where
   painted-line {p} {c} {l} {x} m at count h some inside room j i z e k =
       let bs : List ℕ = take count (drop at m) in
       let size : length bs ≡ count = simp (length-take, length-drop) (omega arith) in
-      subst (Sees bs f p secret false c l k x) (sym e) (sees-line bs k h (waits-not (h .stands) (omega arith)) (omega arith) j (spot-of i) z)
+      subst (Sees bs f p secret false c l k x) (sym e) (sees-line bs k h (late-not (h .stands) (omega arith)) (omega arith) j (spot-of i) z)
 
   -- one by itself: the step that waited, then the character where the cursor stands
-  pub sees-one : {p q r : Place} {b n : ℕ} {late last : Bool} {c l k x c₁ l₁ k₁ c₂ l₂ k₂ x′ : List ℕ} → ActsWith awaited f p q c l k c₁ l₁ k₁
+  pub sees-one : {p q r : Place} {b n : ℕ} {late last : Bool} {c l k x c₁ l₁ k₁ c₂ l₂ k₂ x′ : List ℕ} → ActsWith lateStep f p q c l k c₁ l₁ k₁
       → ActsWith (λ (st : State). tracked (right (stored b st))) f q r c₁ l₁ k₁ c₂ l₂ k₂ → length x ≡ 640 → late ≡ (eqb (p .waiting) 1 && not (ltb (p .line) (f .lines)))
       → last ≡ (not (ltb (q .column) (f .columns)) && (not (eqb (f .rule) 2) && not (ltb (q .line) (f .lines)))) → Reads shownHere f q n → x′ ≡ set x n (veiled secret b)
       → Sees (b ∷ []) f p secret ((late || last) || not (eqb (r .top) (p .top))) c l k x x′
@@ -123,7 +123,7 @@ module _ {f : Frame} {secret : ℕ} where
     wide-is = λ s ds e o u.
         let st : State = state s c l ds in
         let here₁ : State = state (withHere s q k₁) c₁ l₁ ds in
-        let step : awaited st ≡ here₁ = a .does s ds e o u in
+        let step : lateStep st ≡ here₁ = a .does s ds e o u in
         let done : printed b st ≡ state (withHere s r k₂) _ _ ds = then-with a d .does s ds e o u in
         let one : late ≡ (eqb (here st .waiting) 1 && lowest? st) = e₁ ∙ (λ m. eqb (sym o m .waiting) 1 && not (ltb (sym o m .line) (e .lines-are m))) in
         let f₁ = framed-here q k₁ e in
@@ -136,7 +136,7 @@ module _ {f : Frame} {secret : ℕ} where
         ∙ sym (or-none _);
     seen-is = λ s ds e o u.
         let here₁ : State = state (withHere s q k₁) c₁ l₁ ds in
-        let step : awaited (state s c l ds) ≡ here₁ = a .does s ds e o u in
+        let step : lateStep (state s c l ds) ≡ here₁ = a .does s ds e o u in
         y ∙ ap (λ (n : ℕ). set x n (veiled secret b)) (sym (ap shownHere step ∙ i here₁ (framed-here q k₁ e) (placed-there q e)));
     size = ap length y ∙ length-set x _ (veiled secret b) ∙ z;
   }

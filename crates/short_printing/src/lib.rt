@@ -114,7 +114,7 @@ pub fn print_code(
     ensures { λ r. ⌜ (ActsWith (printed code) frame place (r .place) (now (cells .entry)) (now (layer .entry)) (now (marks .entry)) (now (cells .exit)) (now (layer .exit)) (now (marks .exit))) × (Sees (code ∷ []) frame place secret (r .wide) (now (cells .entry)) (now (layer .entry)) (now (marks .entry)) (now (shown .entry)) (now (shown .exit))) ⌝ }
 {
     let late = (place.waiting == 1) & lowest(frame, place);
-    let first = cursor::awaited(frame, place, cells, layer, marks);
+    let first = cursor::late_step(frame, place, cells, layer, marks);
     let last = !(first.column < frame.columns) & ((frame.rule != 2) & lowest(frame, first));
     paint_code(secret, cursor::shown(frame, first), code, shown);
     let next = screen::print_here(frame, first, code, cells, layer, marks);

@@ -180,7 +180,7 @@ module _ (m cells₀ layer₀ dots₀ printer₀ shown₀ : List ℕ) (s₀ : Se
             going = subst (λ (st : State). Going m first printer₀ (at + n) st c printer) done (run m first printer₀ n at stand c printer (g .loop .going) inside print);
             framed = g .loop .framed;
             ready = a .ready;
-            short = g .loop .short;
+            sendable = g .loop .sendable;
           };
           still = subst (λ (st : State). Still m first (length printer₀) shown₀ (at + n) st (room c) wide x) done
               (subst (λ (b : Bool). Still m first (length printer₀) shown₀ (at + n) (printedAll bs stand) (room c) b x) (or-none wide) (run-on n inside print o));

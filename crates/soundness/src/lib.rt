@@ -9,7 +9,7 @@ ghost use Rattle.model.specs.declared.Settings.{Settings};
 ghost use Rattle.model.specs.Checks.{inRanges?, range};
 ghost use Rattle.model.specs.Screens.{height, screens};
 ghost use Rattle.model.specs.Marks.{marked?, mostMark};
-ghost use Rattle.model.specs.Sound.{aloneRanges, arrayRanges, inside?, insideRanges, keyRanges, marks?, mostWait, otherRanges, plainRanges, second?, shapeRanges, sound?};
+ghost use Rattle.model.specs.Sound.{aloneRanges, arrayRanges, inside?, insideRanges, keyRanges, marks?, mostLate, otherRanges, plainRanges, second?, shapeRanges, sound?};
 use model::Keys;
 use model::Place;
 use model::Settings;
@@ -77,8 +77,8 @@ fn curve(mode: u8, lines1: u8, lines2: u8, columns1: u8, columns2: u8) -> bool
 }
 
 // P9, the greatest flag of a cursor in a column: "the flag is sound only in the last column under rule 2"
-fn most_wait(rule: u8, columns: u8, column: u8) -> u8
-    ensures { λ r. ⌜ r ≡ mostWait rule columns column ⌝ }
+fn most_late(rule: u8, columns: u8, column: u8) -> u8
+    ensures { λ r. ⌜ r ≡ mostLate rule columns column ⌝ }
 {
     if (rule == 2) & (column == columns) {
         1
@@ -92,7 +92,7 @@ fn inside(rule: u8, lines: u8, columns: u8, less: u8, p: Place) -> bool
     ensures { λ r. ⌜ r ≡ inRanges? (insideRanges rule lines columns (less + 1) p) ⌝ }
 {
     let top = minus(lines, less);
-    let most = most_wait(rule, columns, p.column);
+    let most = most_late(rule, columns, p.column);
     (1 <= p.line)
         & (p.line <= lines)
         & (1 <= p.column)

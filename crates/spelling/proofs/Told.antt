@@ -8,7 +8,7 @@ use lib.ListN.{drop, getD, length}
 use lib.Dec.{eqb}
 use Rattle.model.specs.declared.Limits.{Limits}
 use Rattle.model.specs.declared.Sequence.{Sequence as Seq}
-use Rattle.model.specs.declared.Sequence.the-variants.{PrintCode, Clear, CursorOff, CursorOn, Put, Charset, Copy, EraseLine, EraseRest, SecretOn, SecretOff, LinesUp, LinesDown, Step, Tracking, WindowUp, WindowDown, InsOn, InsOff, CapsOn, CapsOff, NumOn, NumOff, StringsOff, StringsOn, DrawLine, DrawDot, Mode0, Mode1, Mode2, Mode3, Select, Mark, Display, WindowTop, WindowBottom, CursorKind, WindowCursor, Pattern, Repeat, RepeatDelay, RepeatInterval, Arrows1, Arrows2, Arrows3, Nothing, Shift}
+use Rattle.model.specs.declared.Sequence.the-variants.{PrintCode, Clear, CursorOff, CursorOn, Put, Charset, Copy, EraseLine, EraseRest, SecretOn, SecretOff, LinesUp, LinesDown, Step, Tracking, WindowUp, WindowDown, InsOn, InsOff, CapsOn, CapsOff, NumOn, NumOff, StringsOff, StringsOn, DrawLine, DrawDot, Mode0, Mode1, Mode2, Mode3, Select, Cover, Display, WindowTop, WindowBottom, CursorKind, WindowCursor, Pattern, Repeat, RepeatDelay, RepeatInterval, Arrows1, Arrows2, Arrows3, Nothing, Shift}
 use Rattle.model.specs.declared.Item.the-variants.{Sequence}
 use Rattle.model.specs.Sequences.{codeOf, find, modeRowOf, rowOf}
 use Rattle.model.specs.Reading.{afterEscape, afterMode, decoded, kindOf, needed}
@@ -57,7 +57,7 @@ told (Mode1 p1) rows rest o s = (λ e. refl, refl, refl, refl, refl, refl)
 told (Mode2 p1 p2 p3) rows rest o s = (λ e. refl, refl, refl, refl, refl, refl)
 told Mode3 rows rest o s = (λ e. refl, refl, refl, refl, refl, refl)
 told (Select p1) rows rest o s = (λ e. refl, refl, refl, refl, refl, refl)
-told (Mark p1 p2 p3) rows rest o s = (λ e. refl, refl, refl, refl, refl, refl)
+told (Cover p1 p2 p3) rows rest o s = (λ e. refl, refl, refl, refl, refl, refl)
 told (Display p1) rows rest o s = (λ e. refl, refl, refl, refl, refl, refl)
 told WindowTop rows rest o s = (λ e. refl, refl, refl, refl, refl, refl)
 told WindowBottom rows rest o s = (λ e. refl, refl, refl, refl, refl, refl)

@@ -6,7 +6,7 @@ use mathlib.Core.Bool.{cond}
 use mathlib.Core.List.{List, [], _∷_}
 use lib.Dec.{eqb}
 use Rattle.model.specs.declared.Sequence.{Sequence as Seq}
-use Rattle.model.specs.declared.Sequence.the-variants.{PrintCode, Clear, CursorOff, CursorOn, Put, Charset, Copy, EraseLine, EraseRest, SecretOn, SecretOff, LinesUp, LinesDown, Step, Tracking, WindowUp, WindowDown, InsOn, InsOff, CapsOn, CapsOff, NumOn, NumOff, StringsOff, StringsOn, DrawLine, DrawDot, Mode0, Mode1, Mode2, Mode3, Select, Mark, Display, WindowTop, WindowBottom, CursorKind, WindowCursor, Pattern, Repeat, RepeatDelay, RepeatInterval, Arrows1, Arrows2, Arrows3, Nothing, Shift}
+use Rattle.model.specs.declared.Sequence.the-variants.{PrintCode, Clear, CursorOff, CursorOn, Put, Charset, Copy, EraseLine, EraseRest, SecretOn, SecretOff, LinesUp, LinesDown, Step, Tracking, WindowUp, WindowDown, InsOn, InsOff, CapsOn, CapsOff, NumOn, NumOff, StringsOff, StringsOn, DrawLine, DrawDot, Mode0, Mode1, Mode2, Mode3, Select, Cover, Display, WindowTop, WindowBottom, CursorKind, WindowCursor, Pattern, Repeat, RepeatDelay, RepeatInterval, Arrows1, Arrows2, Arrows3, Nothing, Shift}
 use Rattle.model.specs.Sequences.{codeOf}
 
 -- "its parameters (bytes as sent)": what follows the second byte, a mode setting's mode byte first; "209 is always written with its byte"
@@ -43,7 +43,7 @@ paramsOf (Mode1 a) rows = 1 ∷ a ∷ []
 paramsOf (Mode2 a m p) rows = 2 ∷ a ∷ m ∷ p ∷ []
 paramsOf Mode3 rows = 3 ∷ []
 paramsOf (Select n) rows = n ∷ []
-paramsOf (Mark r c p) rows = r ∷ c ∷ p ∷ []
+paramsOf (Cover r c p) rows = r ∷ c ∷ p ∷ []
 paramsOf (Display n) rows = n ∷ []
 paramsOf WindowTop rows = []
 paramsOf WindowBottom rows = []
@@ -97,7 +97,7 @@ standing o (Mode1 a) = Mode1 a
 standing o (Mode2 a m p) = Mode2 a m p
 standing o Mode3 = Mode3
 standing o (Select n) = Select n
-standing o (Mark r c p) = Mark r c p
+standing o (Cover r c p) = Cover r c p
 standing o (Display n) = Display n
 standing o WindowTop = WindowTop
 standing o WindowBottom = WindowBottom

@@ -82,7 +82,7 @@ fn from_198(sequence: Sequence, rows: [u8; 8]) -> Spelled
         } => four(208, 2, lines, columns, boundary),
         Sequence::Mode3 => one(208, 3),
         Sequence::Select(n) => one(209, n),
-        Sequence::Mark { row, column, code } => three(210, row, column, code),
+        Sequence::Cover { row, column, code } => three(210, row, column, code),
         _ => from_211(sequence, rows),
     }
 }

@@ -19,9 +19,9 @@ use Rattle.model.specs.Sound.{Good}
 use Rattle.model.specs.Reading.{gathered, remaining, uncut}
 use Rattle.model.specs.Rules.{withSettings}
 use Rattle.model.specs.Items.{lined}
-use Rattle.calls.specs.Calls.{Promised, Request, Terminal, accepted, called, eventsIn, firstOf, message, noneWaits, numberOf, ownReasons, paints?, piece, pieced, reason, request, served, terminal}
+use Rattle.calls.specs.Calls.{Promised, Request, Terminal, granted, called, eventsIn, firstOf, message, noneWaits, numberOf, ownReasons, paints?, piece, pieced, reason, request, served, terminal}
 use Rattle.model.specs.Answers.{together}
-use Rattle.calls.proofs.CallLaws.{accepted-number, accepted-sized, accepted-sound, answer-number, left-is, legal-in, number-good, sized-served, state-served}
+use Rattle.calls.proofs.CallLaws.{granted-number, granted-sized, granted-sound, answer-number, left-is, legal-in, number-good, sized-served, state-served}
 use Rattle.model.proofs.Events.{good-all}
 use Rattle.calls.proofs.Offsets.{further}
 use Rattle.calls.proofs.PieceServings.{printsIn, stateOf, taking}
@@ -30,13 +30,13 @@ use Rattle.stream_parts.specs.Parts.{bothOf, countedFrom}
 use Rattle.stream_parts.proofs.Pieces.{Part, part-of, promised-two}
 use Rattle.stream_parts.proofs.Numbers.{piece-number}
 use Rattle.stream_parts.proofs.Refusals.{Told}
-use Rattle.stream_parts.proofs.Quiet.{held-is, quiet, quiet-accepted, quiet-state}
+use Rattle.stream_parts.proofs.Quiet.{held-is, quiet, quiet-granted, quiet-state}
 
 -- after an accepted call only a long message, or one while bytes wait, is refused
-number-next : (t : Terminal) (q q′ : Request) → accepted t q ≡ true → paints? (q .asked) ≡ true → numberOf (served t q) q′ ≡ firstOf (ownReasons (served t q .state .settings) (q′ .asked))
+number-next : (t : Terminal) (q q′ : Request) → granted t q ≡ true → paints? (q .asked) ≡ true → numberOf (served t q) q′ ≡ firstOf (ownReasons (served t q .state .settings) (q′ .asked))
 number-next t q q′ e f =
-    let z = sizes t (accepted-sized t q e f) in
-    let g : Good (t .state) = record { sound = accepted-sound t q e; cells-are = z .0; layer-are = z .1; dots-are = z .2 } in
+    let z = sizes t (granted-sized t q e f) in
+    let g : Good (t .state) = record { sound = granted-sound t q e; cells-are = z .0; layer-are = z .1; dots-are = z .2 } in
     number-good (served t q) q′ (subst Good (sym (state-served t q)) (good-all (eventsIn t q) (t .state) g (legal-in t q))) (sized-served t q (z .3))
 
 -- two answers counted from a start, together or each by itself
@@ -89,8 +89,8 @@ module _ (s : Settings) (m cells layer dots shown buffer : List ℕ) (size : len
     abbrev p₁ : List ℕ
     p₁ = printsIn xs (t .state) (length buffer)
 
-    first-served : accepted q asked ≡ true
-    first-served = accepted-number q asked (sym (ap (λ (x : Answer). x .number) (w .answer-is) ∙ answer-number q asked) ∙ z)
+    first-served : granted q asked ≡ true
+    first-served = granted-number q asked (sym (ap (λ (x : Answer). x .number) (w .answer-is) ∙ answer-number q asked) ∙ z)
 
     none-held : s₁ .held ≡ 0
     unfolding lined withSettings
@@ -127,8 +127,8 @@ module _ (s : Settings) (m cells layer dots shown buffer : List ℕ) (size : len
       unfolding lined withSettings
       two-served cut answer r e rest f g =
           let start : ℕ = s .count - length (heldIn s) in
-          let ok : accepted t (request (piece m) (length buffer)) ≡ true =
-          quiet-accepted s cells layer dots shown size (h .line) (piece m) (piece-number t m (h .few) (h .counts)) xs few buffer b s₁ c₁ l₁ d₁ g₁ p w z in
+          let ok : granted t (request (piece m) (length buffer)) ≡ true =
+          quiet-granted s cells layer dots shown size (h .line) (piece m) (piece-number t m (h .few) (h .counts)) xs few buffer b s₁ c₁ l₁ d₁ g₁ p w z in
           let fits : length (drop (length p₁) buffer) ≡ length buffer - length p₁ = length-drop (length p₁) buffer in
           subst (λ (x : List ℕ). Promised (pieced m t buffer answer (terminal r c₂ l₂ d₂ g₂) (x ++ p₂))) (sym front-is)
           (promised-two t m buffer xs ys cut ok (s .count) b b₂ left₁ (terminal s₂ c₂ l₂ d₂ g₂) p p₂ one two fits answer (terminal r c₂ l₂ d₂ g₂)

@@ -19,10 +19,10 @@ use Rattle.model.specs.Reading.{Read, gathered, remaining, uncut}
 use Rattle.model.specs.Rules.{withSettings}
 use Rattle.calls.specs.Packs.{readsEach}
 use Rattle.model.specs.Items.{applyAll, blankAnswer, copies, countedAll, eventsOf, lined, readsOf}
-use Rattle.calls.specs.Calls.{Asked, Call, Promised, Request, Terminal, accepted, answerOf, besideItems, called, firstOf, itemBytes, message, numberOf, packed?, packedBy, paints?, piece, printedBy, readsBy, reasons, request, served, startOf, takenBy}
+use Rattle.calls.specs.Calls.{Asked, Call, Promised, Request, Terminal, granted, answerOf, besideItems, called, firstOf, itemBytes, message, numberOf, packed?, packedBy, paints?, piece, printedBy, readsBy, reasons, request, served, startOf, takenBy}
 use Rattle.calls.specs.Claims.{countAfter, waitsAfter}
 use Rattle.model.specs.Answers.{together}
-use Rattle.calls.proofs.CallLaws.{accepted-answer, accepted-number, accepted-painted, accepted-prints, answer-number, left-is, plain-record, refused-number}
+use Rattle.calls.proofs.CallLaws.{granted-answer, granted-number, granted-painted, granted-prints, answer-number, left-is, plain-record, refused-number}
 use Rattle.calls.proofs.LineAfter.{leaves, leaves-lined}
 use Rattle.model.proofs.Lined.{applied-lined, copies-lined, reads-lined}
 use Rattle.calls.proofs.Offsets.{further}
@@ -61,13 +61,13 @@ module _ (n : ℕ) (xs : List ℕ) (st : State) (buffer : List ℕ) (a : Answer)
   unfolding readsBy itemBytes startOf besideItems takenBy applyAll
   part-of g e w z =
       let q : Request = request (message xs) room in
-      let ok : accepted g q ≡ true = accepted-number g q (sym (ap (λ (x : Answer). x .number) (w .answer-is) ∙ answer-number g q) ∙ z) in
+      let ok : granted g q ≡ true = granted-number g q (sym (ap (λ (x : Answer). x .number) (w .answer-is) ∙ answer-number g q) ∙ z) in
       let left : l ≡ served g q = left-is (called xs g buffer a l p) w in
-      let prints : printedBy g q ≡ printsIn xs st room = accepted-prints g q ok ∙ ap (λ (x : State). copies (eventsOf (readsOf (uncut xs) 0 x room)) x) e ∙ quiet-prints in
+      let prints : printedBy g q ≡ printsIn xs st room = granted-prints g q ok ∙ ap (λ (x : State). copies (eventsOf (readsOf (uncut xs) 0 x room)) x) e ∙ quiet-prints in
       record {
-        answer-is = w .answer-is ∙ accepted-answer g q ok ∙ ap (λ (x : State). countedAll (readsOf (uncut xs) 0 x room) (blankAnswer 0 (length xs))) e ∙ ap (λ (rs : List Read). countedAll rs (blankAnswer 0 (length xs))) items-quiet;
+        answer-is = w .answer-is ∙ granted-answer g q ok ∙ ap (λ (x : State). countedAll (readsOf (uncut xs) 0 x room) (blankAnswer 0 (length xs))) e ∙ ap (λ (rs : List Read). countedAll rs (blankAnswer 0 (length xs))) items-quiet;
         state-is = ap (λ (x : Terminal). x .state) left ∙ leaves g q ok ∙ ap (λ (x : State). applyAll (eventsOf (readsOf (uncut xs) 0 x room)) x) e ∙ quiet-state;
-        shown-is = subst (λ (x : Terminal). x .shown ≡ painting (x .state)) (sym (left ∙ accepted-painted g q ok refl)) refl;
+        shown-is = subst (λ (x : Terminal). x .shown ≡ painting (x .state)) (sym (left ∙ granted-painted g q ok refl)) refl;
         printer-is = w .printer-is ∙ ap (λ (ys : List ℕ). written ys buffer) prints;
         printed-is = ap (λ (x : Answer). x .printed) (w .answer-is) ∙ printed-is g q ∙ ap length prints;
       }
@@ -83,7 +83,7 @@ unfolding painting picture pictureAt covered under textAt halves sides windowAt 
 painting-lined w n st = refl
 
 -- what one part is all of: a call, no pack, whose items are the bytes xs, cut
-module _ (t : Terminal) (a : Asked) (paints : paints? a ≡ true) (plain : packed? a ≡ false) (buffer : List ℕ) (xs : List ℕ) (cut : itemBytes (t .state .settings) a ≡ uncut xs) (ok : accepted t (request a (length buffer)) ≡ true) where
+module _ (t : Terminal) (a : Asked) (paints : paints? a ≡ true) (plain : packed? a ≡ false) (buffer : List ℕ) (xs : List ℕ) (cut : itemBytes (t .state .settings) a ≡ uncut xs) (ok : granted t (request a (length buffer)) ≡ true) where
   abbrev s : Settings
   s = t .state .settings
 
@@ -103,12 +103,12 @@ module _ (t : Terminal) (a : Asked) (paints : paints? a ≡ true) (plain : packe
 
   one-answer : (n : ℕ) → answerOf t (request a (length buffer)) ≡ taking (takenBy a) (further start (countedAll (itemsOf xs (t .state) (length buffer)) (blankAnswer 0 n)))
   one-answer n =
-      accepted-answer t (request a (length buffer)) ok ∙ ap (λ (rs : List Read). countedAll rs (blankAnswer 0 (takenBy a))) one-read
+      granted-answer t (request a (length buffer)) ok ∙ ap (λ (rs : List Read). countedAll rs (blankAnswer 0 (takenBy a))) one-read
       ∙ sym (taking-all (takenBy a) (readsOf (uncut xs) start (t .state) (length buffer)) (blankAnswer 0 n)) ∙ ap (taking (takenBy a)) (later-counts start xs (t .state) (length buffer) n)
 
   one-prints : printedBy t (request a (length buffer)) ≡ printsIn xs (t .state) (length buffer)
   one-prints =
-      accepted-prints t (request a (length buffer)) ok ∙ ap (λ (rs : List Read). copies (eventsOf rs) (t .state)) one-read ∙ later-prints start xs (t .state) (length buffer)
+      granted-prints t (request a (length buffer)) ok ∙ ap (λ (rs : List Read). copies (eventsOf rs) (t .state)) one-read ∙ later-prints start xs (t .state) (length buffer)
 
   pub promised-one : (n : ℕ) (b : Answer) (l : Terminal) (p : List ℕ) → Part n xs (t .state) buffer b l p
       → (answer : Answer) (left : Terminal) → answer ≡ taking (takenBy a) (further start b) → left .state ≡ lined (waitsAfter s a) (countAfter s a) (l .state) → left .shown ≡ l .shown
@@ -122,7 +122,7 @@ module _ (t : Terminal) (a : Asked) (paints : paints? a ≡ true) (plain : packe
       (w .printer-is ∙ ap (λ (ys : List ℕ). written ys buffer) (sym one-prints)) (sym (plain-record t (request a (length buffer)) plain))
 
 -- what two parts are all of: a piece whose items are those of xs and then those of ys
-module _ (t : Terminal) (m : List ℕ) (buffer : List ℕ) (xs ys : List ℕ) (cut : gathered (heldIn (t .state .settings)) m ≡ uncut xs ++ uncut ys) (ok : accepted t (request (piece m) (length buffer)) ≡ true) where
+module _ (t : Terminal) (m : List ℕ) (buffer : List ℕ) (xs ys : List ℕ) (cut : gathered (heldIn (t .state .settings)) m ≡ uncut xs ++ uncut ys) (ok : granted t (request (piece m) (length buffer)) ≡ true) where
   abbrev sₚ : Settings
   sₚ = t .state .settings
 

@@ -15,9 +15,9 @@ use Rattle.model.specs.Line.{heldIn, limit, padded}
 use Rattle.model.specs.Reading.{gathered, remaining, uncut}
 use Rattle.model.specs.Rules.{withSettings}
 use Rattle.model.specs.Items.{lined}
-use Rattle.calls.specs.Calls.{Promised, Request, Terminal, accepted, called, countable, firstOf, itemBytes, message, noneWaits, piece, pieced, reasons, request, short, startOf, takenBy, terminal}
+use Rattle.calls.specs.Calls.{Promised, Request, Terminal, granted, called, countable, firstOf, itemBytes, message, noneWaits, piece, pieced, reasons, request, sendable, startOf, takenBy, terminal}
 use Rattle.calls.specs.Claims.{countAfter, waitsAfter}
-use Rattle.calls.proofs.CallLaws.{accepted-number, accepted-sound, answer-number}
+use Rattle.calls.proofs.CallLaws.{granted-number, granted-sound, answer-number}
 use Rattle.model.proofs.Gathering.{none-unfinished}
 use Rattle.calls.proofs.LineAfter.{leaves-lined, self-lined}
 use Rattle.calls.proofs.Offsets.{further}
@@ -27,7 +27,7 @@ use Rattle.unfinished.specs.Whole.{wholeEnd}
 use Rattle.stream_parts.specs.Parts.{countedFrom}
 use Rattle.calls.proofs.Bounds.{bounded}
 use Rattle.calls.proofs.Joining.{end-within, rest-most}
-use Rattle.stream_parts.proofs.Numbers.{accepted-with, oneOrThree, piece-number, refused-with, served-with}
+use Rattle.stream_parts.proofs.Numbers.{granted-with, oneOrThree, piece-number, refused-with, served-with}
 
 -- none waits, and it is small; where its whole items end
 pub record Plain (s : Settings) (m : List ℕ) (end : ℕ) : Type 0 where
@@ -76,7 +76,7 @@ module _ {s : Settings} {m : List ℕ} {end : ℕ} (x : Plain s m end) where
   size : length front ≤ 4096
   size = omega (arith, length-take end m)
 
-  small : short front ≡ true
+  small : sendable front ≡ true
   small = le-leb (length front) 4096 size
 
   -- the message call of them
@@ -100,7 +100,7 @@ module _ {s : Settings} {m : List ℕ} {end : ℕ} (x : Plain s m end) where
     -- the settings are sound then, and as they are where none waits
     as-quiet : b .number ≡ 0 → t .state ≡ lined [] (s .count) (t .state)
     as-quiet z =
-        sym (self-lined (t .state) (accepted-sound t (request (piece m) (length buffer)) (accepted-with t (piece m) only t front refl refl small quiet buffer b l p w z)))
+        sym (self-lined (t .state) (granted-sound t (request (piece m) (length buffer)) (granted-with t (piece m) only t front refl refl small quiet buffer b l p w z)))
         ∙ ap (λ (v : List ℕ). lined v (s .count) (t .state)) nothing
 
     pub plain-served : b .number ≡ 0 → (answer : Answer) (r : Settings) → answer ≡ countedFrom (s .count) (length m) b → r ≡ withLine s′ (padded rest) (length rest) (s .count + length m)
@@ -116,7 +116,7 @@ module _ {s : Settings} {m : List ℕ} {end : ℕ} (x : Plain s m end) where
     unfolding waitsAfter lined withSettings
     none-left z =
         let q : Request = request (message front) (length buffer) in
-        let ok : accepted t q ≡ true = accepted-number t q (sym (ap (λ (x : Answer). x .number) (w .answer-is) ∙ answer-number t q) ∙ z) in
+        let ok : granted t q ≡ true = granted-number t q (sym (ap (λ (x : Answer). x .number) (w .answer-is) ∙ answer-number t q) ∙ z) in
         let e = w .settings-are ∙ ap (λ (x : State). x .settings) (leaves-lined t (message front) (length buffer) ok refl) in
         (ap (λ (x : Settings). x .waiting) e, ap (λ (x : Settings). x .held) e)
 

@@ -13,13 +13,13 @@ use Rattle.model.specs.Line.{LineSound, heldIn, line?, padded}
 use Rattle.model.specs.Reading.{uncut}
 use Rattle.model.specs.Rules.{withSettings}
 use Rattle.model.specs.Items.{lined}
-use Rattle.calls.specs.Calls.{Asked, Promised, Terminal, accepted, called, firstOf, itemBytes, noneWaits, packed?, paints?, reasons, request, sized, soundIn, startOf, takenBy, terminal}
+use Rattle.calls.specs.Calls.{Asked, Promised, Terminal, granted, called, firstOf, itemBytes, noneWaits, packed?, paints?, reasons, request, sized, soundIn, startOf, takenBy, terminal}
 use Rattle.calls.specs.Claims.{countAfter, waitsAfter}
 use Rattle.model.proofs.Gathering.{none-unfinished}
 use Rattle.model.proofs.LineLaws.{held-length, line-true, sound-padded, true-line}
 use Rattle.stream_parts.specs.Parts.{countedFrom}
 use Rattle.stream_parts.proofs.Pieces.{call, sound-either}
-use Rattle.stream_parts.proofs.Numbers.{accepted-with, oneOrThree, refused-with, served-with}
+use Rattle.stream_parts.proofs.Numbers.{granted-with, oneOrThree, refused-with, served-with}
 
 -- the same terminal while none waits
 abbrev pub quiet : Settings → List ℕ → List ℕ → List ℕ → List ℕ → Terminal
@@ -70,8 +70,8 @@ module _ (s : Settings) (cells layer dots shown : List ℕ) (size : length (s .w
         refused-with t a only q xs same-sized same-sound (le-leb (length xs) 4096 few) none buffer b (terminal s′ cells′ layer′ dots′ shown′) p w z (terminal s cells′ layer′ dots′ shown′)
         (λ e. λ i. terminal s (e i .state .cells) (e i .state .layer) (e i .state .dots) (e i .shown))
 
-    pub quiet-accepted : b .number ≡ 0 → accepted t (request a (length buffer)) ≡ true
-    quiet-accepted = accepted-with t a only q xs same-sized same-sound (le-leb (length xs) 4096 few) none buffer b (terminal s′ cells′ layer′ dots′ shown′) p w
+    pub quiet-granted : b .number ≡ 0 → granted t (request a (length buffer)) ≡ true
+    quiet-granted = granted-with t a only q xs same-sized same-sound (le-leb (length xs) 4096 few) none buffer b (terminal s′ cells′ layer′ dots′ shown′) p w
 
     pub quiet-served : paints? a ≡ true → packed? a ≡ false → b .number ≡ 0 → itemBytes s a ≡ uncut xs → (answer : Answer) (r : Settings) → answer ≡ countedFrom (startOf s a) (takenBy a) b
         → (rest : List ℕ) (n : ℕ) → rest ≡ waitsAfter s a → n ≡ countAfter s a → r ≡ withLine s′ (padded rest) (length rest) n

@@ -8,13 +8,13 @@ use lib.ListN.{length}
 use borrow.Author.Tests.{leb-true}
 use Rattle.model.specs.declared.Settings.{Settings}
 use Rattle.model.specs.Line.{LineSound, limit, line?}
-use Rattle.calls.specs.Calls.{Terminal, countable, short, sized, soundIn}
+use Rattle.calls.specs.Calls.{Terminal, countable, sendable, sized, soundIn}
 use Rattle.model.proofs.LineLaws.{line-true}
 use Rattle.stream_parts.specs.Parts.{closingNumber, lineNumber}
 
 -- the numbers by their tests
 pub line-numbered : (t : Terminal) (m : List ℕ) (a b c d e : Bool) → let s : Settings = t .state .settings in
-    sized t ≡ a → short m ≡ b → line? (s .waiting) (s .held) (s .count) ≡ c → countable s m ≡ d → soundIn t ≡ e → lineNumber t m ≡ cond a (cond b (cond c (cond d 0 (cond e 15 3)) 3) 2) 1
+    sized t ≡ a → sendable m ≡ b → line? (s .waiting) (s .held) (s .count) ≡ c → countable s m ≡ d → soundIn t ≡ e → lineNumber t m ≡ cond a (cond b (cond c (cond d 0 (cond e 15 3)) 3) 2) 1
 unfolding lineNumber
 line-numbered t m a b c d e p q r v w = λ i. cond (p i) (cond (q i) (cond (r i) (cond (v i) 0 (cond (w i) 15 3)) 3) 2) 1
 
@@ -26,17 +26,17 @@ closing-numbered t a b p q = λ i. cond (p i) (cond (q i) 0 3) 1
 -- 0: neither 1 nor 2, nor 3 for the line, nor 15
 pub record Told (t : Terminal) (m : List ℕ) : Type 0 where
   pub stores : sized t ≡ true
-  pub few : short m ≡ true
+  pub few : sendable m ≡ true
   pub line : line? (t .state .settings .waiting) (t .state .settings .held) (t .state .settings .count) ≡ true
   pub counts : countable (t .state .settings) m ≡ true
 
 pub told : (t : Terminal) (m : List ℕ) → lineNumber t m ≡ 0 → Told t m
-told t m e = go (sized t) (short m) (line? (s .waiting) (s .held) (s .count)) (countable s m) (soundIn t) refl refl refl refl refl
+told t m e = go (sized t) (sendable m) (line? (s .waiting) (s .held) (s .count)) (countable s m) (soundIn t) refl refl refl refl refl
   where
     s : Settings
     s = t .state .settings
 
-    go : (a b c d f : Bool) → sized t ≡ a → short m ≡ b → line? (s .waiting) (s .held) (s .count) ≡ c → countable s m ≡ d → soundIn t ≡ f → Told t m
+    go : (a b c d f : Bool) → sized t ≡ a → sendable m ≡ b → line? (s .waiting) (s .held) (s .count) ≡ c → countable s m ≡ d → soundIn t ≡ f → Told t m
     go true true true true f p q r v w = record { stores = p; few = q; line = r; counts = v }
     go true true true false true p q r v w = absurd (omega (arith, line-numbered t m true true true false true p q r v w))
     go true true true false false p q r v w = absurd (omega (arith, line-numbered t m true true true false false p q r v w))

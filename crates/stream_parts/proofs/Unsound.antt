@@ -10,7 +10,7 @@ use Rattle.model.specs.Checks.{inRanges?}
 use Rattle.model.specs.Line.{line?}
 use Rattle.model.specs.Screens.{height, screens}
 use Rattle.model.specs.Sound.{arrayRanges, inside?, marks?, otherRanges, plainRanges, second?, shapeRanges, sound?}
-use Rattle.calls.specs.Calls.{Terminal, closing, countable, firstOf, piece, reason, reasons, short, sized, soundIn}
+use Rattle.calls.specs.Calls.{Terminal, closing, countable, firstOf, piece, reason, reasons, sendable, sized, soundIn}
 use Rattle.stream_parts.specs.Parts.{closingNumber, lineNumber}
 use Rattle.stream_parts.proofs.Refusals.{closing-numbered, line-numbered}
 
@@ -30,15 +30,15 @@ module _ (t : Terminal) where
   -- a piece
   pub line-refused : (m : List ℕ) → (lineNumber t m ≡ 0 → ⊥) → lineNumber t m ≡ firstOf (reasons t (piece m))
   unfolding reasons firstOf
-  line-refused m z = go (sized t) (short m) line (countable s m) (soundIn t) refl refl refl refl refl
+  line-refused m z = go (sized t) (sendable m) line (countable s m) (soundIn t) refl refl refl refl refl
     where
-      go : (a b c d e : Bool) → sized t ≡ a → short m ≡ b → line ≡ c → countable s m ≡ d → soundIn t ≡ e → lineNumber t m ≡ firstOf (reasons t (piece m))
+      go : (a b c d e : Bool) → sized t ≡ a → sendable m ≡ b → line ≡ c → countable s m ≡ d → soundIn t ≡ e → lineNumber t m ≡ firstOf (reasons t (piece m))
       go true true true true e p q r v w = absurd (z (line-numbered t m true true true true e p q r v w))
       go true true true false true p q r v w = line-numbered t m true true true false true p q r v w ∙ (λ i. firstOf (reason 1 (sym p i) ∷ reason 2 (sym q i) ∷ reason 3 (sym w i) ∷ reason 15 (sym v i) ∷ []))
       go true true true false false p q r v w = line-numbered t m true true true false false p q r v w ∙ (λ i. firstOf (reason 1 (sym p i) ∷ reason 2 (sym q i) ∷ reason 3 (sym w i) ∷ reason 15 (countable s m) ∷ []))
       go true true false d e p q r v w = line-numbered t m true true false d e p q r v w ∙ (λ i. firstOf (reason 1 (sym p i) ∷ reason 2 (sym q i) ∷ reason 3 (sym (unsound r) i) ∷ reason 15 (countable s m) ∷ []))
       go true false c d e p q r v w = line-numbered t m true false c d e p q r v w ∙ (λ i. firstOf (reason 1 (sym p i) ∷ reason 2 (sym q i) ∷ reason 3 (soundIn t) ∷ reason 15 (countable s m) ∷ []))
-      go false b c d e p q r v w = line-numbered t m false b c d e p q r v w ∙ (λ i. firstOf (reason 1 (sym p i) ∷ reason 2 (short m) ∷ reason 3 (soundIn t) ∷ reason 15 (countable s m) ∷ []))
+      go false b c d e p q r v w = line-numbered t m false b c d e p q r v w ∙ (λ i. firstOf (reason 1 (sym p i) ∷ reason 2 (sendable m) ∷ reason 3 (soundIn t) ∷ reason 15 (countable s m) ∷ []))
 
   -- the closing, and its number 0
   pub closing-refused : (closingNumber t ≡ 0 → ⊥) → closingNumber t ≡ firstOf (reasons t closing)

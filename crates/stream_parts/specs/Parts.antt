@@ -6,7 +6,7 @@ use mathlib.Core.List.{List}
 use lib.Dec.{eqb}
 use Rattle.model.specs.declared.Answer.{Answer}
 use Rattle.model.specs.declared.Settings.{Settings}
-use Rattle.calls.specs.Calls.{Terminal, countable, short, sized, soundIn}
+use Rattle.calls.specs.Calls.{Terminal, countable, sendable, sized, soundIn}
 use Rattle.model.specs.Line.{line?}
 use Rattle.model.specs.Answers.{together}
 
@@ -19,7 +19,7 @@ countedFrom start n a =
 unfoldable pub lineNumber : Terminal → List ℕ → ℕ
 lineNumber t m =
     let s : Settings = t .state .settings in
-    cond (sized t) (cond (short m) (cond (line? (s .waiting) (s .held) (s .count)) (cond (countable s m) 0 (cond (soundIn t) 15 3)) 3) 2) 1
+    cond (sized t) (cond (sendable m) (cond (line? (s .waiting) (s .held) (s .count)) (cond (countable s m) 0 (cond (soundIn t) 15 3)) 3) 2) 1
 
 -- the same of the closing
 unfoldable pub closingNumber : Terminal → ℕ

@@ -18,7 +18,7 @@ use Rattle.model.specs.Sound.{Good, Sound}
 use Rattle.model.specs.Items.{Event, applyAll, blankAnswer, bytesRead, copies, countedAll, readsOf, texted}
 use Rattle.model.specs.Records.{recordsAfter}
 use Rattle.calls.specs.Packs.{bodiesOf, readsEach, recordFrom}
-use Rattle.calls.specs.Calls.{Asked, Call, Promised, Request, Terminal, accepted, answerOf, eventsIn, firstOf, itemBytes, keyText, message, numberOf, ownReasons, pack, packed?, paints?, printedBy, quick, readsBy, readsIn, recordOf, request, requestOf, sentBy, served, startOf, takenBy}
+use Rattle.calls.specs.Calls.{Asked, Call, Promised, Request, Terminal, granted, answerOf, eventsIn, firstOf, itemBytes, keyText, message, numberOf, ownReasons, pack, packed?, paints?, printedBy, short, readsBy, readsIn, recordOf, request, requestOf, sentBy, served, startOf, takenBy}
 use Rattle.model.specs.Kept.{Apart, On, Standing, movesWindow, setsMode}
 use Rattle.calls.specs.Claims.{InBodies, InOrder, Quick, Shown, ShownIn, aboveRow8, countAfter, waitsAfter}
 use Rattle.theorems.specs.Demand3.{Demand, Demand3}
@@ -28,14 +28,14 @@ use Rattle.model.proofs.Keep.{same-refl, same-trans, spared-refl, spared-trans,
 use Rattle.model.proofs.DotsStay.{event-dots}
 use Rattle.model.proofs.ItemLaws.{Obeyed}
 use Rattle.model.proofs.Events.{AllLegal, at-next, cell-inside, chained, event-at, good-at, legal-append, refused-nothing, same-window, unchanged, window-at}
-use Rattle.calls.proofs.CallLaws.{accepted-answer, accepted-prints, left-is, legal-in, number-accepted, number-good, opening-resumed, opening-shown, refused-answer, refused-leaves, refused-number, refused-prints, shown-accepted, sized-served, state-served, number-is, is-accepted}
-use Rattle.calls.proofs.Printing.{in-bodies, ordered, reads-accepted, taken-is, printed-in}
+use Rattle.calls.proofs.CallLaws.{granted-answer, granted-prints, left-is, legal-in, number-granted, number-good, opening-resumed, opening-shown, refused-answer, refused-leaves, refused-number, refused-prints, shown-granted, sized-served, state-served, number-is, is-granted}
+use Rattle.calls.proofs.Printing.{in-bodies, ordered, reads-granted, taken-is, printed-in}
 use Rattle.calls.proofs.LineAfter.{leaves-none, leaves-texted, line-after, once, whole}
 use Rattle.theorems.proofs.ShownOverCalls.{above-stands, shown-above, shown-served, shown-stands}
 use Rattle.theorems.proofs.Unpacking.{events-unpacked, stands-unpacked}
 use Rattle.calls.proofs.OverRequests.{state-stands}
 use Rattle.model.proofs.Places.{one-cell}
-use Rattle.calls.proofs.ShortCall.{quick-in}
+use Rattle.calls.proofs.ShortCall.{short-in}
 
 legal-over : (t : Terminal) (qs : List Request) → AllLegal (eventsOver t qs) (t .state)
 unfolding eventsOver
@@ -80,7 +80,7 @@ each P given {t} (next {c = b} {cs = cs} g p m) (suc n) c (later h) =
     subst (λ (x : Terminal). P (stands x (requests (take n cs))) c) (left-is b p ∙ ap (λ (x : Terminal). served x (requestOf b)) g) (each P given m n c h)
 
 -- and what it left, from the promise alone
-pub left-unaltered : (c : Call) → Promised c → accepted (c .given) (requestOf c) ≡ false → (c .left ≡ c .given) × (c .answer ≡ blankAnswer (numberOf (c .given) (requestOf c)) 0) × (c .printer ≡ c .buffer)
+pub left-unaltered : (c : Call) → Promised c → granted (c .given) (requestOf c) ≡ false → (c .left ≡ c .given) × (c .answer ≡ blankAnswer (numberOf (c .given) (requestOf c)) 0) × (c .printer ≡ c .buffer)
 unfolding written
 left-unaltered c p e = (
   left-is c p ∙ refused-leaves (c .given) (requestOf c) e,
@@ -95,7 +95,7 @@ unaltered c p n =
 
 -- the shown screen: an accepted call that paints makes it true
 painted : (c : Call) → Promised c → c .answer .number ≡ 0 → paints? (c .asked) ≡ true → Shown (c .left)
-painted c p e f = subst Shown (sym (left-is c p)) (shown-accepted (c .given) (requestOf c) (is-accepted c p e) f)
+painted c p e f = subst Shown (sym (left-is c p)) (shown-granted (c .given) (requestOf c) (is-granted c p e) f)
 
 -- and it stays true while no key call is accepted
 shown-left : {t : Terminal} {cs : List Call} → Made t cs → (n : ℕ) → NoKey cs 0 n → Shown t → Shown (left t (take n cs))
@@ -103,11 +103,11 @@ unfolding left
 shown-left none zero f s = s
 shown-left none (suc n) f s = s
 shown-left (next g p m) zero f s = s
-shown-left {t} (next {c = c} {cs = cs} g p m) (suc n) f s = shown-left m n (λ j b l u h e. f (suc j) b (omega arith) (omega arith) (later h) e) (go (accepted (c .given) (requestOf c)) refl)
+shown-left {t} (next {c = c} {cs = cs} g p m) (suc n) f s = shown-left m n (λ j b l u h e. f (suc j) b (omega arith) (omega arith) (later h) e) (go (granted (c .given) (requestOf c)) refl)
   where
-    go : (b : Bool) → accepted (c .given) (requestOf c) ≡ b → Shown (c .left)
+    go : (b : Bool) → granted (c .given) (requestOf c) ≡ b → Shown (c .left)
     go true a =
-        let e : c .answer .number ≡ 0 = number-is c p ∙ number-accepted (c .given) (requestOf c) a in
+        let e : c .answer .number ≡ 0 = number-is c p ∙ number-granted (c .given) (requestOf c) a in
         subst Shown (sym (left-is c p)) (shown-served (c .given) (c .asked) (length (c .buffer)) (subst Shown (sym g) s) (f 0 c (omega arith) (omega arith) first e) a)
     go false a = subst Shown (sym (left-is c p ∙ refused-leaves (c .given) (requestOf c) a ∙ g)) s
 
@@ -136,11 +136,11 @@ unfolding readsBy itemBytes readsOf takenBy countedAll copies written
 key-in c p e k x f =
     let q : Request = request (keyText k x) (length (c .buffer)) in
     let fq : requestOf c ≡ q = ap (λ (a : Asked). request a (length (c .buffer))) f in
-    let a : accepted (c .given) q ≡ true = subst (λ (q : Request). accepted (c .given) q ≡ true) fq (is-accepted c p e) in (
+    let a : granted (c .given) q ≡ true = subst (λ (q : Request). granted (c .given) q ≡ true) fq (is-granted c p e) in (
       left-is c p ∙ ap (served (c .given)) fq ∙ leaves-texted (c .given) k x (length (c .buffer)) a,
-      ap (readsIn (c .given)) fq ∙ reads-accepted (c .given) q a,
-      p .answer-is ∙ ap (answerOf (c .given)) fq ∙ accepted-answer (c .given) q a,
-      p .printer-is ∙ ap (λ (ys : List ℕ). written ys (c .buffer)) (ap (printedBy (c .given)) fq ∙ accepted-prints (c .given) q a),
+      ap (readsIn (c .given)) fq ∙ reads-granted (c .given) q a,
+      p .answer-is ∙ ap (answerOf (c .given)) fq ∙ granted-answer (c .given) q a,
+      p .printer-is ∙ ap (λ (ys : List ℕ). written ys (c .buffer)) (ap (printedBy (c .given)) fq ∙ granted-prints (c .given) q a),
     )
 
 pub sized-stands : (qs : List Request) (t : Terminal) → length (t .shown) ≡ 640 → length (stands t qs .shown) ≡ 640
@@ -178,24 +178,24 @@ abbrev LineIs : Terminal → Call → Type 0
 LineIs x c = (heldIn (c .left .state .settings) ≡ waitsAfter (x .state .settings) (c .asked)) × (c .left .state .settings .count ≡ countAfter (x .state .settings) (c .asked))
 
 taken-in : (c : Call) → Promised c → c .answer .number ≡ 0 → c .answer .taken ≡ length (sentBy (c .asked))
-taken-in c p e = ap (λ (a : Answer). a .taken) (p .answer-is) ∙ taken-is (c .given) (requestOf c) (is-accepted c p e)
+taken-in c p e = ap (λ (a : Answer). a .taken) (p .answer-is) ∙ taken-is (c .given) (requestOf c) (is-granted c p e)
 
 once-in : (c : Call) → Promised c → c .answer .number ≡ 0 → packed? (c .asked) ≡ false → Once (c .given) c
 once-in c p e n =
-    let a = is-accepted c p e in (
+    let a = is-granted c p e in (
       once (c .given) (c .asked) (length (c .buffer)) a n ∙ ap (λ (s : Settings). joined (bytesRead (readsIn (c .given) (requestOf c))) ++ heldIn s) (sym (p .settings-are)),
       ordered (c .given) (requestOf c) a n,
       taken-in c p e,
     )
 
 each-in : (c : Call) → Promised c → c .answer .number ≡ 0 → (b : List ℕ) → c .asked ≡ pack b → (InBodies (bodiesOf b) (readsIn (c .given) (requestOf c))) × (c .answer .taken ≡ length (joined (bodiesOf b)))
-each-in c p e b f = (in-bodies (c .given) (requestOf c) (is-accepted c p e) b f, taken-in c p e ∙ ap (λ (a : Asked). length (sentBy a)) f)
+each-in c p e b f = (in-bodies (c .given) (requestOf c) (is-granted c p e) b f, taken-in c p e ∙ ap (λ (a : Asked). length (sentBy a)) f)
 
 whole-in : (c : Call) → Promised c → c .answer .number ≡ 0 → (m : List ℕ) → c .asked ≡ message m → Whole (c .given) c m
 unfolding startOf
 whole-in c p e m f =
     let q : c .answer .taken ≡ length m = taken-in c p e ∙ ap (λ (a : Asked). length (sentBy a)) f in
-    let a : accepted (c .given) (request (message m) (length (c .buffer))) ≡ true = subst (λ (a : Asked). accepted (c .given) (request a (length (c .buffer))) ≡ true) f (is-accepted c p e) in
+    let a : granted (c .given) (request (message m) (length (c .buffer))) ≡ true = subst (λ (a : Asked). granted (c .given) (request a (length (c .buffer))) ≡ true) f (is-granted c p e) in
     let z = subst (λ (a : Asked). (joined (bytesRead (readsIn (c .given) (request a (length (c .buffer))))) ≡ m) × (InOrder 0 (readsIn (c .given) (request a (length (c .buffer)))))) (sym f)
     (whole (c .given) m (length (c .buffer)) a, ordered (c .given) (request (message m) (length (c .buffer))) a refl) in
     (z .0, z .1, q)
@@ -206,16 +206,16 @@ unfolding readsBy readsEach bodiesOf recordsAfter takenBy countedAll copies writ
 empty-in c p e f =
     let q : Request = request (pack []) (length (c .buffer)) in
     let fq : requestOf c ≡ q = ap (λ (a : Asked). request a (length (c .buffer))) f in
-    let a : accepted (c .given) q ≡ true = subst (λ (q : Request). accepted (c .given) q ≡ true) fq (is-accepted c p e) in (
+    let a : granted (c .given) q ≡ true = subst (λ (q : Request). granted (c .given) q ≡ true) fq (is-granted c p e) in (
       left-is c p ∙ ap (served (c .given)) fq ∙ leaves-none (c .given) [] (length (c .buffer)) a refl,
-      p .answer-is ∙ ap (answerOf (c .given)) fq ∙ accepted-answer (c .given) q a,
+      p .answer-is ∙ ap (answerOf (c .given)) fq ∙ granted-answer (c .given) q a,
       p .record-is ∙ ap (recordOf (c .given)) fq ∙ ap (λ (b : Bool). cond (true && b) 0 0) a,
-      p .printer-is ∙ ap (λ (ys : List ℕ). written ys (c .buffer)) (ap (printedBy (c .given)) fq ∙ accepted-prints (c .given) q a),
+      p .printer-is ∙ ap (λ (ys : List ℕ). written ys (c .buffer)) (ap (printedBy (c .given)) fq ∙ granted-prints (c .given) q a),
     )
 
 line-in : (c : Call) → Promised c → c .answer .number ≡ 0 → LineIs (c .given) c
 line-in c p e =
-    let z = line-after (c .given) (c .asked) (length (c .buffer)) (is-accepted c p e) in
+    let z = line-after (c .given) (c .asked) (length (c .buffer)) (is-granted c p e) in
     (ap heldIn (p .settings-are) ∙ z .0, ap (λ (s : Settings). s .count) (p .settings-are) ∙ z .1)
 
 -- both starts are good
@@ -279,7 +279,7 @@ module _ (t : Terminal) (cs : List Call) (made : Made t cs) where
         → (c .left ≡ record { state = texted k y (c .given .state); shown = c .given .shown }) × (readsIn x (requestOf c) ≡ []) × (c .answer ≡ blankAnswer 0 0) × (c .printer ≡ c .buffer)) key-in made;
     packs = λ n h. (exact n ∙ sym (stands-unpacked (requests (take n cs)) t), sym (events-unpacked (requests (take n cs)) t));
     empty-pack = each (λ x c. c .answer .number ≡ 0 → c .asked ≡ pack [] → (c .left ≡ c .given) × (c .answer ≡ blankAnswer 0 0) × (c .in-record ≡ 0) × (c .printer ≡ c .buffer)) empty-in made;
-    short-message = each (λ x c. c .answer .number ≡ 0 → (m : List ℕ) → c .asked ≡ quick m → Quick c m) quick-in made;
+    short-message = each (λ x c. c .answer .number ≡ 0 → (m : List ℕ) → c .asked ≡ short m → Quick c m) short-in made;
     opened-shown = λ o n h f. shown-left made n f (opening-shown t o);
     message-shown = λ i c h e f n l u s. from-painting NoKey Shown no-key-tail (λ t cs m n. shown-left m n) made i c h e f n l s;
     opened-rows = λ o n h. above-left made n (shown-above t (opening-shown t o));

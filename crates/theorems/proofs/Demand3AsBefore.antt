@@ -6,7 +6,7 @@ use mathlib.Core.List.{List, [], _∷_}
 use lib.ListN.{length, take}
 use borrow.Author.Tests.{eq-eqb}
 use Rattle.model.specs.declared.Settings.{Settings}
-use Rattle.calls.specs.Calls.{Asked, Call, Terminal, firstOf, message, noneWaits, ownReasons, reason, request, served, short}
+use Rattle.calls.specs.Calls.{Asked, Call, Terminal, firstOf, message, noneWaits, ownReasons, reason, request, served, sendable}
 use Rattle.theorems.specs.Demand3.{AllMessages, AsBefore, another, noMore}
 use Rattle.calls.specs.Lists.{requests, stands, stood}
 use Rattle.calls.proofs.LineAfter.{quiet-served}
@@ -21,9 +21,9 @@ quiet-stood (another {c = c} {cs = cs} m f a) t e (suc n) =
     ap (λ (x : Asked). stands (served t (request x (length (c .buffer)))) (requests (take n cs)) .state .settings .held) f
     ∙ quiet-stood a (served t (request (message m) (length (c .buffer)))) (quiet-served t m (length (c .buffer)) e) n
 
-number-of : (s : Settings) (m : List ℕ) → s .held ≡ 0 → firstOf (ownReasons s (message m)) ≡ cond (short m) 0 2
+number-of : (s : Settings) (m : List ℕ) → s .held ≡ 0 → firstOf (ownReasons s (message m)) ≡ cond (sendable m) 0 2
 unfolding firstOf ownReasons noneWaits
-number-of s m e = (λ i. firstOf (reason 2 (short m) ∷ reason 16 (eq-eqb (s .held) 0 e i) ∷ [])) ∙ go (short m)
+number-of s m e = (λ i. firstOf (reason 2 (sendable m) ∷ reason 16 (eq-eqb (s .held) 0 e i) ∷ [])) ∙ go (sendable m)
   where
     go : (b : Bool) → _≡_ {A = ℕ} (elim b [ true ↦ 0 | false ↦ 2 ]) (cond b 0 2)
     go true = refl

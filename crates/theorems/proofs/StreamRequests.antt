@@ -13,15 +13,15 @@ use Rattle.model.specs.Picture.{painting}
 use Rattle.model.specs.Reading.{Read, gathered, lastly, remaining}
 use Rattle.model.specs.Rules.{withSettings}
 use Rattle.model.specs.Items.{applyAll, blankAnswer, copies, countedAll, eventsOf, lined}
-use Rattle.calls.specs.Calls.{Request, Terminal, accepted, answerOf, closing, itemBytes, numberOf, piece, printedBy, readsBy, readsIn, request, served, startOf, takenBy}
+use Rattle.calls.specs.Calls.{Request, Terminal, granted, answerOf, closing, itemBytes, numberOf, piece, printedBy, readsBy, readsIn, request, served, startOf, takenBy}
 use Rattle.calls.specs.Claims.{countAfter, waitsAfter}
 use Rattle.calls.specs.Lists.{stands}
 use Rattle.theorems.specs.Streams.{met13, readsOver}
 use Rattle.model.specs.Answers.{together}
 use Rattle.model.proofs.Lined.{applied-lined, copies-lined}
 use Rattle.model.proofs.Events.{applied-append}
-use Rattle.calls.proofs.Printing.{printed-reads, prints-append, reads-accepted}
-use Rattle.calls.proofs.CallLaws.{accepted-answer, accepted-leaves, accepted-sound, after, refused-answer, refused-leaves, refused-prints}
+use Rattle.calls.proofs.Printing.{printed-reads, prints-append, reads-granted}
+use Rattle.calls.proofs.CallLaws.{granted-answer, granted-leaves, granted-sound, after, refused-answer, refused-leaves, refused-prints}
 use Rattle.calls.proofs.LineAfter.{leaves-lined, line-after}
 use Rattle.theorems.proofs.AlwaysRoom.{ahead, ahead-piece, readsWithRoom, with-room-lined, met-append, reads-with-room}
 use Rattle.model.proofs.AnswerLaws.{joint, joint-refused}
@@ -30,23 +30,23 @@ use Rattle.model.proofs.LineLaws.{held-counted}
 
 -- requests of which the accepted ones are pieces and then one closing; and the bytes of these pieces, joined
 pub data Streaming : Terminal → List Request → List ℕ → Type 0 where
-  closes : {t : Terminal} {room : ℕ} → accepted t (request closing room) ≡ true → Streaming t (request closing room ∷ []) []
+  closes : {t : Terminal} {room : ℕ} → granted t (request closing room) ≡ true → Streaming t (request closing room ∷ []) []
   goes : {t : Terminal} {m : List ℕ} {room : ℕ} {qs : List Request} {bs : List ℕ}
-      → accepted t (request (piece m) room) ≡ true → Streaming (served t (request (piece m) room)) qs bs → Streaming t (request (piece m) room ∷ qs) (m ++ bs)
-  skips : {t : Terminal} {q : Request} {qs : List Request} {bs : List ℕ} → accepted t q ≡ false → Streaming t qs bs → Streaming t (q ∷ qs) bs
+      → granted t (request (piece m) room) ≡ true → Streaming (served t (request (piece m) room)) qs bs → Streaming t (request (piece m) room ∷ qs) (m ++ bs)
+  skips : {t : Terminal} {q : Request} {qs : List Request} {bs : List ℕ} → granted t q ≡ false → Streaming t qs bs → Streaming t (q ∷ qs) bs
 
 -- its first accepted call is made of the terminal itself, so that is sound
 pub streaming-sound : {t : Terminal} {qs : List Request} {bs : List ℕ} → Streaming t qs bs → Sound (t .state .settings)
-streaming-sound {t} (closes {room = room} a) = accepted-sound t (request closing room) a
-streaming-sound {t} (goes {m = m} {room = room} a s) = accepted-sound t (request (piece m) room) a
+streaming-sound {t} (closes {room = room} a) = granted-sound t (request closing room) a
+streaming-sound {t} (goes {m = m} {room = room} a s) = granted-sound t (request (piece m) room) a
 streaming-sound (skips a s) = streaming-sound s
 
 -- a refused call reads nothing and leaves all
-reads-refused : (t : Terminal) (q : Request) → accepted t q ≡ false → readsIn t q ≡ []
+reads-refused : (t : Terminal) (q : Request) → granted t q ≡ false → readsIn t q ≡ []
 unfolding readsIn
 reads-refused t q e = ap (λ (b : Bool). cond b (readsBy t q) []) e
 
-over-refused : (t : Terminal) (q : Request) (qs : List Request) → accepted t q ≡ false → readsOver t (q ∷ qs) ≡ readsOver t qs
+over-refused : (t : Terminal) (q : Request) (qs : List Request) → granted t q ≡ false → readsOver t (q ∷ qs) ≡ readsOver t qs
 unfolding readsOver
 over-refused t q qs e = ap (λ (l : List Read). l ++ readsOver (served t q) qs) (reads-refused t q e) ∙ ap (λ (x : Terminal). readsOver x qs) (refused-leaves t q e)
 
@@ -54,19 +54,19 @@ none-more : (l : List Read) → l ++ [] ≡ l
 none-more l = append-nil l
 
 -- a piece: what it leaves, over its items
-piece-leaves : (t : Terminal) (m : List ℕ) (room : ℕ) → let q = request (piece m) room in accepted t q ≡ true
+piece-leaves : (t : Terminal) (m : List ℕ) (room : ℕ) → let q = request (piece m) room in granted t q ≡ true
     → served t q .state ≡ lined (remaining (heldIn (t .state .settings)) m) (t .state .settings .count + length m) (applyAll (eventsOf (readsIn t q)) (t .state))
 unfolding waitsAfter countAfter
 piece-leaves t m room e =
     let q : Request = request (piece m) room in
     leaves-lined t (piece m) room e refl
-    ∙ ap (λ (rs : List Read). lined (remaining (heldIn (t .state .settings)) m) (t .state .settings .count + length m) (applyAll (eventsOf rs) (t .state))) (sym (reads-accepted t q e))
+    ∙ ap (λ (rs : List Read). lined (remaining (heldIn (t .state .settings)) m) (t .state .settings .count + length m) (applyAll (eventsOf rs) (t .state))) (sym (reads-granted t q e))
 
-closing-leaves : (t : Terminal) (room : ℕ) → let q = request closing room in accepted t q ≡ true → served t q .state ≡ lined [] 0 (applyAll (eventsOf (readsIn t q)) (t .state))
+closing-leaves : (t : Terminal) (room : ℕ) → let q = request closing room in granted t q ≡ true → served t q .state ≡ lined [] 0 (applyAll (eventsOf (readsIn t q)) (t .state))
 unfolding waitsAfter countAfter
 closing-leaves t room e =
     let q : Request = request closing room in
-    leaves-lined t closing room e refl ∙ ap (λ (rs : List Read). lined [] 0 (applyAll (eventsOf rs) (t .state))) (sym (reads-accepted t q e))
+    leaves-lined t closing room e refl ∙ ap (λ (rs : List Read). lined [] 0 (applyAll (eventsOf rs) (t .state))) (sym (reads-granted t q e))
 
 -- the items
 pub streaming-items : {t : Terminal} {qs : List Request} {bs : List ℕ} → Streaming t qs bs → met13 (readsOver t qs) ≡ false
@@ -75,7 +75,7 @@ unfolding readsOver ahead readsBy itemBytes startOf gathered remaining waitsAfte
 streaming-items {t} (closes {room = room} a) e =
     let q : Request = request closing room in
     let s : Settings = t .state .settings in
-    let i : readsIn t q ++ [] ≡ readsBy t q = none-more (readsIn t q) ∙ reads-accepted t q a in
+    let i : readsIn t q ++ [] ≡ readsBy t q = none-more (readsIn t q) ∙ reads-granted t q a in
     i ∙ reads-with-room (lastly (heldIn s)) (s .count - length (heldIn s)) (t .state) room (subst (λ (l : List Read). met13 l ≡ false) i e)
 streaming-items {t} (goes {m = m} {room = room} {qs = qs} {bs = bs} a f) e =
     let q : Request = request (piece m) room in
@@ -85,13 +85,13 @@ streaming-items {t} (goes {m = m} {room = room} {qs = qs} {bs = bs} a f) e =
     let n : ℕ = s .count + length m in
     let rs : List Read = readsWithRoom (gathered w m) (s .count - length w) (t .state) in
     let z = met-append (readsIn t q) (readsOver (served t q) qs) e in
-    let i : readsIn t q ≡ rs = reads-accepted t q a ∙ reads-with-room (gathered w m) (s .count - length w) (t .state) room (subst (λ (l : List Read). met13 l ≡ false) (reads-accepted t q a) (z .0)) in
+    let i : readsIn t q ≡ rs = reads-granted t q a ∙ reads-with-room (gathered w m) (s .count - length w) (t .state) room (subst (λ (l : List Read). met13 l ≡ false) (reads-granted t q a) (z .0)) in
     let st : served t q .state ≡ lined r n (applyAll (eventsOf rs) (t .state)) = piece-leaves t m room a ∙ ap (λ (l : List Read). lined r n (applyAll (eventsOf l) (t .state))) i in
     let l = line-after t (piece m) room a in
     let rest : List (List ℕ) = gathered r bs ++ lastly (remaining r bs) in
     let go : readsOver (served t q) qs ≡ ahead r n (applyAll (eventsOf rs) (t .state)) bs =
     streaming-items f (z .1) ∙ (λ j. ahead (l .0 j) (l .1 j) (st j) bs) ∙ with-room-lined r n rest (n - length r) (applyAll (eventsOf rs) (t .state)) in
-    (λ j. i j ++ go j) ∙ sym (ahead-piece w (s .count) (t .state) m bs (held-counted s (accepted-sound t q a)))
+    (λ j. i j ++ go j) ∙ sym (ahead-piece w (s .count) (t .state) m bs (held-counted s (granted-sound t q a)))
 streaming-items {t} (skips {q = q} {qs = qs} {bs = bs} a f) e =
     let i = over-refused t q qs a in
     i ∙ streaming-items f (subst (λ (l : List Read). met13 l ≡ false) i e)
@@ -122,7 +122,7 @@ streaming-state {t} (skips {q = q} {qs = qs} a f) =
 -- closing paints
 pub streaming-shown : {t : Terminal} {qs : List Request} {bs : List ℕ} → Streaming t qs bs → stands t qs .shown ≡ painting (stands t qs .state)
 unfolding stands after
-streaming-shown {t} (closes {room = room} a) = subst (λ (x : Terminal). x .shown ≡ painting (x .state)) (sym (accepted-leaves t (request closing room) a)) refl
+streaming-shown {t} (closes {room = room} a) = subst (λ (x : Terminal). x .shown ≡ painting (x .state)) (sym (granted-leaves t (request closing room) a)) refl
 streaming-shown (goes a f) = streaming-shown f
 streaming-shown {t} (skips {q = q} {qs = qs} a f) = subst (λ (x : Terminal). stands x qs .shown ≡ painting (stands x qs .state)) (sym (refused-leaves t q a)) (streaming-shown f)
 
@@ -143,8 +143,8 @@ streaming-prints {t} (skips {q = q} {qs = qs} a f) =
     (λ j. refused-prints t q a j ++ printedOver (refused-leaves t q a j) qs) ∙ streaming-prints f
     ∙ ap (λ (l : List Read). copies (eventsOf l) (t .state)) (sym (over-refused t q qs a))
 
-answer-in : (t : Terminal) (q : Request) → accepted t q ≡ true → answerOf t q ≡ countedAll (readsIn t q) (blankAnswer 0 (takenBy (q .asked)))
-answer-in t q e = accepted-answer t q e ∙ ap (λ (l : List Read). countedAll l (blankAnswer 0 (takenBy (q .asked)))) (sym (reads-accepted t q e))
+answer-in : (t : Terminal) (q : Request) → granted t q ≡ true → answerOf t q ≡ countedAll (readsIn t q) (blankAnswer 0 (takenBy (q .asked)))
+answer-in t q e = granted-answer t q e ∙ ap (λ (l : List Read). countedAll l (blankAnswer 0 (takenBy (q .asked)))) (sym (reads-granted t q e))
 
 pub streaming-counts : {t : Terminal} {qs : List Request} {bs : List ℕ} → Streaming t qs bs → answersOver t qs ≡ countedAll (readsOver t qs) (blankAnswer 0 (length bs))
 unfolding answersOver readsOver countedAll takenBy

@@ -15,15 +15,15 @@ use Rattle.model.specs.Sound.{Good, Sound}
 use Rattle.model.specs.Picture.{painting}
 use Rattle.model.specs.Reading.{Read, uncut}
 use Rattle.model.specs.Items.{applyAll, blankAnswer, copies, countedAll, eventsOf, lined, readsOf}
-use Rattle.calls.specs.Calls.{Asked, Call, Promised, Request, Terminal, accepted, answerOf, closing, countable, firstOf, itemBytes, message, numberOf, ownReasons, piece, printedBy, readsBy, readsIn, reason, request, requestOf, served, sized, startOf, takenBy}
+use Rattle.calls.specs.Calls.{Asked, Call, Promised, Request, Terminal, granted, answerOf, closing, countable, firstOf, itemBytes, message, numberOf, ownReasons, piece, printedBy, readsBy, readsIn, reason, request, requestOf, served, sized, startOf, takenBy}
 use Rattle.calls.specs.Claims.{countAfter, waitsAfter}
 use Rattle.calls.specs.Lists.{Made, left, next, none, requests, stands}
 use Rattle.theorems.specs.Streams.{As, AsMessage, Cut, HoweverCut, Stream, Uncut, closes, cuts, ends, goes, met13, partsOf, readsOver, skips, summed}
 use Rattle.model.specs.Answers.{together}
 use Rattle.model.proofs.Lined.{applied-lined}
 use Rattle.model.proofs.Events.{good-all}
-use Rattle.calls.proofs.Printing.{reads-accepted, part-is}
-use Rattle.calls.proofs.CallLaws.{accepted-answer, accepted-leaves, accepted-prints, accepted-sized, after, left-is, legal-in, message-accepted, number-good, refused-leaves, refused-number, sized-served, state-served, is-accepted, number-is}
+use Rattle.calls.proofs.Printing.{reads-granted, part-is}
+use Rattle.calls.proofs.CallLaws.{granted-answer, granted-leaves, granted-prints, granted-sized, after, left-is, legal-in, message-granted, number-good, refused-leaves, refused-number, sized-served, state-served, is-granted, number-is}
 use Rattle.calls.proofs.LineAfter.{count-lined, held-lined, leaves-lined, line-after, self-lined}
 use Rattle.theorems.proofs.AlwaysRoom.{ahead, reads-with-room}
 use Rattle.theorems.proofs.StreamRequests.{Streaming, streaming-counts, streaming-items, streaming-prints, streaming-shown, streaming-sound, streaming-state}
@@ -31,21 +31,21 @@ use Rattle.calls.proofs.OverRequests.{answersOver, printedOver}
 use Rattle.theorems.proofs.Demand3.{exact-all, start-resumed}
 
 -- a call that kept its promise, as the request that it is worked out from
-asked-accepted : (c : Call) (a : Asked) (t : Terminal) → c .given ≡ t → Promised c → c .asked ≡ a → c .answer .number ≡ 0 → accepted t (request a (length (c .buffer))) ≡ true
-asked-accepted c a t g p f e = (λ i. accepted (sym g i) (request (sym f i) (length (c .buffer)))) ∙ is-accepted c p e
+asked-granted : (c : Call) (a : Asked) (t : Terminal) → c .given ≡ t → Promised c → c .asked ≡ a → c .answer .number ≡ 0 → granted t (request a (length (c .buffer))) ≡ true
+asked-granted c a t g p f e = (λ i. granted (sym g i) (request (sym f i) (length (c .buffer)))) ∙ is-granted c p e
 
 pub left-served : (c : Call) (t : Terminal) → c .given ≡ t → Promised c → c .left ≡ served t (requestOf c)
 left-served c t g p = left-is c p ∙ ap (λ (x : Terminal). served x (requestOf c)) g
 
 streaming-of : {t : Terminal} {cs : List Call} {bs : List ℕ} → Made t cs → Stream cs bs → Streaming t (requests cs) bs
 streaming-of {t} (next {c = c} g p none) (closes f e) =
-    subst (λ (a : Asked). Streaming t (request a (length (c .buffer)) ∷ []) []) (sym f) (Streaming.closes (asked-accepted c closing t g p f e))
+    subst (λ (a : Asked). Streaming t (request a (length (c .buffer)) ∷ []) []) (sym f) (Streaming.closes (asked-granted c closing t g p f e))
 streaming-of {t} (next {c = c} {cs = cs} g p r) (goes {m = m} {bs = bs} f e s) =
     let l : c .left ≡ served t (request (piece m) (length (c .buffer))) = left-served c t g p ∙ ap (λ (a : Asked). served t (request a (length (c .buffer)))) f in
     subst (λ (a : Asked). Streaming t (request a (length (c .buffer)) ∷ requests cs) (m ++ bs)) (sym f)
-    (Streaming.goes (asked-accepted c (piece m) t g p f e) (subst (λ (x : Terminal). Streaming x (requests cs) bs) l (streaming-of r s)))
+    (Streaming.goes (asked-granted c (piece m) t g p f e) (subst (λ (x : Terminal). Streaming x (requests cs) bs) l (streaming-of r s)))
 streaming-of {t} (next {c = c} {cs = cs} g p r) (skips {bs = bs} e s) =
-    let n : accepted t (requestOf c) ≡ false = refused-number t (requestOf c) (λ z. e (number-is c p ∙ ap (λ (x : Terminal). numberOf x (requestOf c)) g ∙ z)) in
+    let n : granted t (requestOf c) ≡ false = refused-number t (requestOf c) (λ z. e (number-is c p ∙ ap (λ (x : Terminal). numberOf x (requestOf c)) g ∙ z)) in
     Streaming.skips n (subst (λ (x : Terminal). Streaming x (requests cs) bs) (left-served c t g p ∙ refused-leaves t (requestOf c) n) (streaming-of r s))
 
 -- the answers and the printed parts are those of the rules
@@ -113,7 +113,7 @@ cut-stream {t} g l (next {c = c} {cs = cs} x p r) (cuts {m = m} {bs = bs} f k cu
     let z : c .left ≡ served t (requestOf c) = left-served c t x p in
     let good : Good (served t (requestOf c) .state) = subst Good (sym (state-served t (requestOf c))) (good-all _ (t .state) g (legal-in t (requestOf c))) in
     let count : c .left .state .settings .count ≡ s .count + length m =
-    ap (λ (y : Terminal). y .state .settings .count) (z ∙ ap (λ (a : Asked). served t (request a (length (c .buffer)))) f) ∙ line-after t (piece m) (length (c .buffer)) (asked-accepted c (piece m) t x p f e) .1 in
+    ap (λ (y : Terminal). y .state .settings .count) (z ∙ ap (λ (a : Asked). served t (request a (length (c .buffer)))) f) ∙ line-after t (piece m) (length (c .buffer)) (asked-granted c (piece m) t x p f e) .1 in
     goes f e (cut-stream (subst (λ (y : Terminal). Good (y .state)) (sym z) good) (ap (λ (y : Terminal). length (y .shown)) z ∙ sized-served t (requestOf c) l) r cut (omega (arith, h, count, length-append m bs)))
 
 pub however-cut : HoweverCut
@@ -125,8 +125,8 @@ however-cut t cs bs room start made z cut h =
 
 -- the first accepted call of a stream is made of the terminal itself, so its stores have their sizes
 streaming-sized : {t : Terminal} {qs : List Request} {bs : List ℕ} → Streaming t qs bs → sized t ≡ true
-streaming-sized {t} (Streaming.closes {room = room} a) = accepted-sized t (request closing room) a refl
-streaming-sized {t} (Streaming.goes {m = m} {room = room} a s) = accepted-sized t (request (piece m) room) a refl
+streaming-sized {t} (Streaming.closes {room = room} a) = granted-sized t (request closing room) a refl
+streaming-sized {t} (Streaming.goes {m = m} {room = room} a s) = granted-sized t (request (piece m) room) a refl
 streaming-sized (Streaming.skips a s) = streaming-sized s
 
 pub as-message : AsMessage
@@ -138,18 +138,18 @@ as-message t cs bs c made z stream g p f l e₁ e₂ =
     let room : ℕ = length (c .buffer) in
     let q : Request = request (message bs) room in
     let fq : requestOf c ≡ q = ap (λ (a : Asked). request a room) f in
-    let ok : accepted t q ≡ true = message-accepted t bs room (streaming-sized streaming) sound (quiet-held s sound z) l in
+    let ok : granted t q ≡ true = message-granted t bs room (streaming-sized streaming) sound (quiet-held s sound z) l in
     let u : List Read = readsOf (uncut bs) 0 (t .state) room in
-    let ru : readsIn t (requestOf c) ≡ u = ap (readsIn t) fq ∙ reads-accepted t q ok in
+    let ru : readsIn t (requestOf c) ≡ u = ap (readsIn t) fq ∙ reads-granted t q ok in
     let one : As u bs t cs = uncut-as t cs bs room made z stream e₁ (subst (λ (rs : List Read). met13 rs ≡ false) ru e₂) in
     let lc : c .left ≡ served t q = left-served c t g p ∙ ap (served t) fq in
     let st : served t q .state ≡ applyAll (eventsOf u) (t .state) =
     leaves-lined t (message bs) room ok refl ∙ ap (λ (n : ℕ). lined [] n (applyAll (eventsOf u) (t .state))) z ∙ quiet-state (t .state) sound z u in
-    let sh : served t q .shown ≡ painting (served t q .state) = subst (λ (x : Terminal). x .shown ≡ painting (x .state)) (sym (accepted-leaves t q ok)) refl in
+    let sh : served t q .shown ≡ painting (served t q .state) = subst (λ (x : Terminal). x .shown ≡ painting (x .state)) (sym (granted-leaves t q ok)) refl in
     let both : left t cs ≡ served t q = λ i. record { state = (one .state ∙ sym st) i; shown = (one .shown ∙ ap painting (sym st) ∙ sym sh) i } in
     record {
       items = one .items ∙ sym ru;
-      answer = one .counts ∙ sym (p .answer-is ∙ (λ i. answerOf (g i) (fq i)) ∙ accepted-answer t q ok);
+      answer = one .counts ∙ sym (p .answer-is ∙ (λ i. answerOf (g i) (fq i)) ∙ granted-answer t q ok);
       left-is = both ∙ sym lc;
-      printed = one .printed ∙ sym (part-is c p ∙ (λ i. printedBy (g i) (fq i)) ∙ accepted-prints t q ok);
+      printed = one .printed ∙ sym (part-is c p ∙ (λ i. printedBy (g i) (fq i)) ∙ granted-prints t q ok);
     }

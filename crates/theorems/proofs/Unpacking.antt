@@ -6,7 +6,7 @@ use mathlib.Core.List.{List, [], _++_, _∷_, append-nil}
 use Rattle.model.specs.declared.Answer.{Answer}
 use Rattle.calls.specs.Packs.{bodiesOf}
 use Rattle.model.specs.Items.{Event, blankAnswer, copies}
-use Rattle.calls.specs.Calls.{Asked, Request, Terminal, accepted, answerOf, closing, eventsBy, eventsIn, keyText, message, numberOf, pack, packed?, packedBy, piece, quick, request, served}
+use Rattle.calls.specs.Calls.{Asked, Request, Terminal, granted, answerOf, closing, eventsBy, eventsIn, keyText, message, numberOf, pack, packed?, packedBy, piece, short, request, served}
 use Rattle.calls.specs.Lists.{eventsOver, oneByOne, stands, standsFor, unpacked}
 use Rattle.model.specs.Answers.{together}
 use Rattle.model.proofs.Tests.{cond-at}
@@ -32,7 +32,7 @@ module _ (t : Terminal) where
   }
 
   -- none, where it is refused
-  alike-none : (q : Request) → accepted t q ≡ false → Alike t q []
+  alike-none : (q : Request) → granted t q ≡ false → Alike t q []
   unfolding stands eventsOver answersOver eventsIn
   alike-none q e = record {
     same-left = sym (refused-leaves t q e);
@@ -41,7 +41,7 @@ module _ (t : Terminal) where
   }
 
   -- the messages of an accepted pack
-  alike-sent : (p : List ℕ) (room : ℕ) → accepted t (request (pack p) room) ≡ true → Alike t (request (pack p) room) (oneByOne t (bodiesOf p) room)
+  alike-sent : (p : List ℕ) (room : ℕ) → granted t (request (pack p) room) ≡ true → Alike t (request (pack p) room) (oneByOne t (bodiesOf p) room)
   alike-sent p room e =
       record { same-left = sym (pack-stands t p room e); same-events = sym (pack-events t p room e); same-answers = λ b. ap (λ (a : Answer). together a b) (sym (pack-answer t p room e)) }
 
@@ -50,15 +50,15 @@ module _ (t : Terminal) where
   unfolding standsFor
   alike q = go (q .asked)
     where
-      go : (a : Asked) → let q = request a (q .room) in Alike t q (cond (packed? a) (cond (accepted t q) (oneByOne t (packedBy a) (q .room)) []) (q ∷ []))
+      go : (a : Asked) → let q = request a (q .room) in Alike t q (cond (packed? a) (cond (granted t q) (oneByOne t (packedBy a) (q .room)) []) (q ∷ []))
       go (message m) = alike-itself (request (message m) (q .room))
       go (piece m) = alike-itself (request (piece m) (q .room))
       go closing = alike-itself (request closing (q .room))
       go (keyText k x) = alike-itself (request (keyText k x) (q .room))
-      go (quick m) = alike-itself (request (quick m) (q .room))
+      go (short m) = alike-itself (request (short m) (q .room))
       go (pack p) =
           let q : Request = request (pack p) (q .room) in
-          cond-at (Alike t q) (accepted t q) (oneByOne t (bodiesOf p) (q .room)) [] (λ e. alike-sent p (q .room) e) (λ e. alike-none q e)
+          cond-at (Alike t q) (granted t q) (oneByOne t (bodiesOf p) (q .room)) [] (λ e. alike-sent p (q .room) e) (λ e. alike-none q e)
 
 -- and a list with each pack replaced by its messages
 pub stands-unpacked : (qs : List Request) (t : Terminal) → stands t (unpacked t qs) ≡ stands t qs

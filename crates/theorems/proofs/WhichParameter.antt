@@ -7,7 +7,7 @@ use Rattle.model.specs.State.{State}
 use Rattle.model.specs.Reading.{Read, uncut}
 use Rattle.calls.specs.Packs.{readsEach}
 use Rattle.model.specs.Items.{blankAnswer, countedAll, readsOf}
-use Rattle.calls.specs.Calls.{Request, Terminal, accepted, answerOf, numberOf, readsIn, requestOf, takenIn}
+use Rattle.calls.specs.Calls.{Request, Terminal, granted, answerOf, numberOf, readsIn, requestOf, takenIn}
 use Rattle.calls.proofs.Printing.{reads-either}
 use Rattle.model.proofs.AnswerLaws.{counted-append}
 use Rattle.calls.specs.Lists.{stood}
@@ -30,7 +30,7 @@ unfolding answerOf readsIn countedAll
 answer-named t q =
     let none : Answer = blankAnswer (numberOf t q) (takenIn t q) in
     let Names : List Read → Type 0 = λ rs. Named (countedAll rs none .first) (countedAll rs none .parameter) in
-    cond-at Names (accepted t q) _ []
+    cond-at Names (granted t q) _ []
     (λ e. reads-either Names t q (λ ms. each-named ms (t .state) (q .room) none none-named) (λ bss at. all-named bss at (t .state) (q .room) none none-named)) (λ e. none-named)
 
 answer-first : (t : Terminal) (q : Request) → FirstIn (readsIn t q) (answerOf t q)

@@ -10,7 +10,7 @@ use Rattle.model.specs.Bytes.{joined, written}
 use Rattle.model.specs.Line.{heldIn}
 use Rattle.model.specs.Items.{texted, blankAnswer, bytesRead}
 use Rattle.calls.specs.Packs.{bodiesOf}
-use Rattle.calls.specs.Calls.{Terminal, message, keyText, pack, quick, packed?, paints?, sentBy, startOf, Call, requestOf, short, firstOf, ownReasons, numberOf, answerOf, recordOf, printedBy, readsIn}
+use Rattle.calls.specs.Calls.{Terminal, message, keyText, pack, short, packed?, paints?, sentBy, startOf, Call, requestOf, sendable, firstOf, ownReasons, numberOf, answerOf, recordOf, printedBy, readsIn}
 use Rattle.model.specs.Kept.{Standing, InWindow, setsMode, refusedEvent, mustFollow, Unchanged, SameWindow}
 use Rattle.calls.specs.Claims.{InOrder, InBodies, Quick, waitsAfter, countAfter, Shown, ShownIn, aboveRow8}
 use Rattle.calls.specs.Lists.{Made, NoKey, Nth, Opening, Start, Still, Stretch, before, claimed, event, eventsOver, itemCount, left, requests, stands, stood, unpacked}
@@ -60,7 +60,7 @@ pub record Demand3 (t : Terminal) (cs : List Call) : Type 0 where
   pub empty-pack : (n : ℕ) (c : Call) → Nth n cs c → c .answer .number ≡ 0 → c .asked ≡ pack []
       → (c .left ≡ c .given) × (c .answer ≡ blankAnswer 0 0) × (c .in-record ≡ 0) × (c .printer ≡ c .buffer)
   -- P12, an accepted short message: it is the message but for the places, and what its own promises say of these
-  pub short-message : (n : ℕ) (c : Call) → Nth n cs c → c .answer .number ≡ 0 → (m : List ℕ) → c .asked ≡ quick m → Quick c m
+  pub short-message : (n : ℕ) (c : Call) → Nth n cs c → c .answer .number ≡ 0 → (m : List ℕ) → c .asked ≡ short m → Quick c m
   -- from an accepted opening on, all 640 places show the picture of what stands, while no key call is accepted
   pub opened-shown : Opening t → (n : ℕ) → n ≤ length cs → NoKey cs 0 n → Shown (left t (take n cs))
   -- from the first accepted message, piece, closing or pack with a message on, too; and after a key call from the next one on
@@ -101,4 +101,4 @@ pub data AllMessages : List Call → Type 0 where
 -- of lists of messages alone, from a start where none waits, what demand 3 said before P1: no call is refused but a message over 4,096 bytes
 abbrev pub AsBefore : Type 0
 AsBefore = (t : Terminal) (cs : List Call) → Made t cs → Start t → t .state .settings .held ≡ 0 → AllMessages cs
-    → (n : ℕ) (c : Call) → Nth n cs c → (m : List ℕ) → c .asked ≡ message m → c .answer .number ≡ cond (short m) 0 2
+    → (n : ℕ) (c : Call) → Nth n cs c → (m : List ℕ) → c .asked ≡ message m → c .answer .number ≡ cond (sendable m) 0 2

@@ -45,7 +45,7 @@ pub data Replaced : List Call → List Call → Type 0 where
   noCall : Replaced [] []
   sameCall : {c d : Call} {cs ds : List Call} → packed? (c .asked) ≡ false → d .asked ≡ c .asked → length (d .buffer) ≡ length (c .buffer) → Replaced cs ds → Replaced (c ∷ cs) (d ∷ ds)
   refusedPack : {c : Call} {p : List ℕ} {cs ds : List Call} → c .asked ≡ pack p → (c .answer .number ≡ 0 → ⊥) → Replaced cs ds → Replaced (c ∷ cs) ds
-  acceptedPack : {c : Call} {p : List ℕ} {es cs ds : List Call}
+  grantedPack : {c : Call} {p : List ℕ} {es cs ds : List Call}
       → c .asked ≡ pack p → c .answer .number ≡ 0 → Sent (length (c .buffer)) (bodiesOf p) es → Replaced cs ds → Replaced (c ∷ cs) (es ++ ds)
 
 -- lists that do the same: terminal, what happens, sums and printer bytes

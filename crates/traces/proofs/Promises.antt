@@ -15,7 +15,7 @@ use Rattle.model.proofs.SoundLaws.{sound-true}
 use Rattle.model.specs.Records.{all?, recordsOf, uncut?}
 use Rattle.traces.specs.Strokes.{rising?, stroke?, strokesIn}
 use Rattle.traces.specs.Codes.{Code, codesBytes, sent}
-use Rattle.traces.specs.Call.{RepeatsPromised, checks, fits?, listed, reasons, sentIn, short?}
+use Rattle.traces.specs.Call.{RepeatsPromised, checks, fits?, listed, reasons, sentIn, traceable}
 use Rattle.traces.specs.Stepping.{Whole, strokesFrom}
 
 -- the checks, by their outcomes
@@ -23,7 +23,7 @@ abbrev pub by : Bool → Bool → Bool → Bool → Bool → List Reason
 by a b c d e = reason 3 a ∷ reason 19 b ∷ reason 20 c ∷ reason 21 d ∷ reason 24 e ∷ []
 
 module _ (s : Settings) (trace : List ℕ) where
-  pub checked : {a b c d e : Bool} → sound? s ≡ a → short? trace ≡ b → uncut? trace ≡ c → all? stroke? (recordsOf trace) ≡ d → rising? 0 (strokesIn trace) ≡ e → checks s trace ≡ by a b c d e
+  pub checked : {a b c d e : Bool} → sound? s ≡ a → traceable trace ≡ b → uncut? trace ≡ c → all? stroke? (recordsOf trace) ≡ d → rising? 0 (strokesIn trace) ≡ e → checks s trace ≡ by a b c d e
   unfolding checks
   checked p q r t u = λ i. by (p i) (q i) (r i) (t i) (u i)
 
@@ -50,9 +50,9 @@ ahead (r ∷ rs) qs h = go (r .free) h (ahead rs qs)
     go false h later = (refl, refl)
 
 module _ (s : Settings) (trace : List ℕ) where
-  tests : firstOf (checks s trace) ≡ 0 → (sound? s ≡ true) × (short? trace ≡ true) × (uncut? trace ≡ true) × (all? stroke? (recordsOf trace) ≡ true) × (rising? 0 (strokesIn trace) ≡ true)
+  tests : firstOf (checks s trace) ≡ 0 → (sound? s ≡ true) × (traceable trace ≡ true) × (uncut? trace ≡ true) × (all? stroke? (recordsOf trace) ≡ true) × (rising? 0 (strokesIn trace) ≡ true)
   unfolding checks
-  tests h = free (sound? s) (short? trace) (uncut? trace) (all? stroke? (recordsOf trace)) (rising? 0 (strokesIn trace)) h
+  tests h = free (sound? s) (traceable trace) (uncut? trace) (all? stroke? (recordsOf trace)) (rising? 0 (strokesIn trace)) h
 
   -- what the code behind the checks asks
   pub whole : firstOf (checks s trace) ≡ 0 → Whole trace 0

@@ -15,8 +15,8 @@ use Rattle.traces.specs.Strokes.{strokesIn, stroke?, rising?}
 use Rattle.traces.specs.Codes.{Code, sent, codesBytes}
 
 -- 19: "too long"; here, that it is not: "a trace up to 60,000 bytes"
-abbrev pub short? : List ℕ → Bool
-short? trace = leb (length trace) 60000
+abbrev pub traceable : List ℕ → Bool
+traceable trace = leb (length trace) 60000
 
 -- the codes that a trace sends under some settings
 unfoldable pub sentIn : Settings → List ℕ → List Code
@@ -29,7 +29,7 @@ fits? cs room = leb (5 * length cs) room
 -- what is refused before a code is counted, each "over the whole trace" before the next: "3, 19, 20, 21 (kind or body length), 24 falling tick"
 unfoldable pub checks : Settings → List ℕ → List Reason
 checks s trace =
-    reason 3 (sound? s) ∷ reason 19 (short? trace) ∷ reason 20 (uncut? trace) ∷ reason 21 (all? stroke? (recordsOf trace)) ∷ reason 24 (rising? 0 (strokesIn trace)) ∷ []
+    reason 3 (sound? s) ∷ reason 19 (traceable trace) ∷ reason 20 (uncut? trace) ∷ reason 21 (all? stroke? (recordsOf trace)) ∷ reason 24 (rising? 0 (strokesIn trace)) ∷ []
 
 -- "Refusals, in order": the last is "25 output too small"
 unfoldable pub reasons : Settings → List ℕ → ℕ → List Reason

@@ -6,7 +6,7 @@ use mathlib.Core.List.{List, [], _∷_}
 use denote.Enum.Declared.{tagOf}
 use types.Run.{OneOf, miss}
 use Rattle.model.specs.declared.Sequence.{Sequence as Seq}
-use Rattle.model.specs.declared.Sequence.the-variants.{PrintCode, Clear, CursorOff, CursorOn, Put, Charset, Copy, EraseLine, EraseRest, SecretOn, SecretOff, LinesUp, LinesDown, Step, Tracking, WindowUp, WindowDown, InsOn, InsOff, CapsOn, CapsOff, NumOn, NumOff, StringsOff, StringsOn, DrawLine, DrawDot, Mode0, Mode1, Mode2, Mode3, Select, Mark, Display, WindowTop, WindowBottom, CursorKind, WindowCursor, Pattern, Repeat, RepeatDelay, RepeatInterval, Arrows1, Arrows2, Arrows3, Nothing, Shift}
+use Rattle.model.specs.declared.Sequence.the-variants.{PrintCode, Clear, CursorOff, CursorOn, Put, Charset, Copy, EraseLine, EraseRest, SecretOn, SecretOff, LinesUp, LinesDown, Step, Tracking, WindowUp, WindowDown, InsOn, InsOff, CapsOn, CapsOff, NumOn, NumOff, StringsOff, StringsOn, DrawLine, DrawDot, Mode0, Mode1, Mode2, Mode3, Select, Cover, Display, WindowTop, WindowBottom, CursorKind, WindowCursor, Pattern, Repeat, RepeatDelay, RepeatInterval, Arrows1, Arrows2, Arrows3, Nothing, Shift}
 use Rattle.model.specs.State.{State}
 use Rattle.model.specs.Checks.{member}
 use Rattle.model.specs.Sequences.{codeOf, idle?}
@@ -55,7 +55,7 @@ idle (Mode1 a) z o m st = absurd (differ o)
 idle (Mode2 a b c) z o m st = absurd (differ o)
 idle Mode3 z o m st = absurd (differ o)
 idle (Select a) z o m st = absurd (differ o)
-idle (Mark a b c) z o m st = absurd (differ o)
+idle (Cover a b c) z o m st = absurd (differ o)
 idle (Display a) z o m st = absurd (differ o)
 idle WindowTop z o m st = refl
 idle WindowBottom z o m st = refl

@@ -2,7 +2,7 @@
 use native.Mathlib.Omega.{arith}
 use borrow.Author.Needs.{needs}
 use Rattle.ground.proofs.Carried.{unmarked-acts}
-use Rattle.cursor.proofs.Moves.{right-steps, right-waits, right-wraps}
+use Rattle.cursor.proofs.Moves.{right-steps, right-late, right-wraps}
 use Rattle.cursor.proofs.right.Statement.{statement}
 use Rattle.cursor.proofs.right.Tie as tie
 
@@ -15,7 +15,7 @@ right-spec =
     (λ c κs. search needs)
     (λ c κs. search needs)
     (λ c. let entry = c .before .before .before .before .before .before .before .before in unmarked-acts (entry .pre .1) (right-steps (entry .pre .0) (c .before .before .if1 .taken) (c .put-at .ensures)))
-    (λ c. let entry = c .before .before .before .before .before .before .before .before .before in unmarked-acts (entry .pre .1) (right-waits (entry .pre .0) (c .before .before .before .if1 .left) (omega (arith, c .before .if2 .taken)) (c .wait-at .ensures)))
+    (λ c. let entry = c .before .before .before .before .before .before .before .before .before in unmarked-acts (entry .pre .1) (right-late (entry .pre .0) (c .before .before .before .if1 .left) (omega (arith, c .before .if2 .taken)) (c .late-at .ensures)))
     (λ c. search needs)
     (λ c. search needs)
     (λ c. search needs)

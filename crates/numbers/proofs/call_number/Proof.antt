@@ -3,7 +3,7 @@ use mathlib.Core.Path.{_∙_, _≡_, refl, sym}
 use mathlib.Core.Bool.{_&&_, false, true}
 use borrow.Author.Needs.{needs}
 use borrow.Author.Tests.{le-leb, lt-leb}
-use Rattle.calls.specs.Calls.{short, sized, terminal}
+use Rattle.calls.specs.Calls.{sendable, sized, terminal}
 use Rattle.model.specs.Line.{line?}
 use Rattle.model.specs.Sound.{sound?}
 use Rattle.soundness.proofs.Chains.{sound-line, sound-places, sound-shape}
@@ -29,7 +29,7 @@ all-sized : (c : tie.Then1) → let a = start-of c .args in sized (terminal (a .
 unfolding sized
 all-sized c = sym (c .before .stores-sized .ensures) ∙ c .if1 .taken
 
-few : (c : tie.Then2) → short (asked c .args .message .now) ≡ true
+few : (c : tie.Then2) → sendable (asked c .args .message .now) ≡ true
 few c = le-leb _ _ (c .if2 .taken)
 
 by-line : (c : tie.Then4) → let s = asked (few-of (shaped-of c)) .args .settings in sound? s ≡ line? (s .waiting) (s .held) (s .count)

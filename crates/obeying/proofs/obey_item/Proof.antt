@@ -45,7 +45,7 @@ pub obey-item-spec : {M : Type 1} → statement M
 obey-item-spec =
     tie.close
     (tie.spec
-    (λ c. let entry = c .before .before .before .before in omega (arith, entry .pre .1 .1 .inside, entry .pre .1 .1 .short))
+    (λ c. let entry = c .before .before .before .before in omega (arith, entry .pre .1 .1 .inside, entry .pre .1 .1 .sendable))
     (λ c. search needs)
     print-run-requires
     (λ c. search needs)

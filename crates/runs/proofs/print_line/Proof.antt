@@ -13,20 +13,20 @@ copy-in-requires : tie.Need-copy-in-requires
 copy-in-requires c κs =
     let first = c .before .before .before .before .before .before .before .before .before in
     let n = c .before .before .fitting .ensures in
-    let h = first .awaited .ensures .ready in
+    let h = first .late-step .ensures .ready in
     (omega (arith, c .before .cell .ensures, n .some, n .room, cell-room (h .stands), h .cells-are), omega (arith, n .most, first .before .before .before .before .before .before .before .before .pre .1 .1))
 
 cast-further : tie.Need-cast-further
 cast-further c =
     let fit = c .before .before .before .before .before .before .before .before .before in
     let first = fit .before .before .before .before .before .before .before in
-    omega (arith, fit .fitting .ensures .room, first .awaited .ensures .ready .stands .fits, first .before .before .before .before .before .before .before .before .good)
+    omega (arith, fit .fitting .ensures .room, first .late-step .ensures .ready .stands .fits, first .before .before .before .before .before .before .before .before .good)
 
 further-requires : tie.Need-further-requires
 further-requires c κs =
     let fit = c .before .before .before .before .before .before .before .before .before in
     let first = fit .before .before .before .before .before .before .before in
-    omega (arith, fit .fitting .ensures .some, fit .fitting .ensures .room, first .awaited .ensures .ready .stands .fits, first .before .before .before .before .before .before .before .before .good)
+    omega (arith, fit .fitting .ensures .some, fit .fitting .ensures .room, first .late-step .ensures .ready .stands .fits, first .before .before .before .before .before .before .before .before .good)
 
 right-requires : tie.Need-right-requires
 right-requires c κs =
@@ -35,7 +35,7 @@ right-requires c κs =
     let first = fit .before .before .before .before .before .before .before in
     let entry = first .before .before .before .before .before .before .before .before in
     let a = entry .args in
-    let w = first .awaited .ensures in
+    let w = first .late-step .ensures in
     let laid = line-laid w (a .message .now) (a .at) (a .end) (fit .fitting .result) (fit .fitting .ensures) (entry .pre .1 .1 .1) (done .before .before .before .before .before .before .before .before .before .cell .ensures) (done .before .before .before .before .before .before .before .copy-in .ensures) (done .before .before .before .uncover .ensures) (done .further .ensures) in
     (laid .ready, w .marks-are)
 
@@ -52,7 +52,7 @@ returns c =
     let first = fit .before .before .before .before .before .before .before in
     let entry = first .before .before .before .before .before .before .before .before in
     let a = entry .args in
-    let w = first .awaited .ensures in
+    let w = first .late-step .ensures in
     let n = fit .fitting .result in
     let laid = line-laid w (a .message .now) (a .at) (a .end) n (fit .fitting .ensures) (entry .pre .1 .1 .1) (done .before .before .before .before .before .before .before .before .before .cell .ensures) (done .before .before .before .before .before .before .before .copy-in .ensures) (done .before .before .before .uncover .ensures) (done .further .ensures) in
     part-line w (a .message .now) (a .at) (a .end) n (fit .fitting .ensures) (entry .pre .1 .1 .1) refl laid (c .before .before .before .before .before .before .before .before .before .before .right .ensures) (c .before .before .track .ensures)
@@ -63,10 +63,10 @@ print-line-spec =
     (tie.spec
     (λ c κs. search needs)
     (λ c. search (needs, c .before .before .before .before .before .before .before .before .before .before .before .before .before .before .pre .1 .1))
-    (λ c κs. (c .before .before .before .before .before .before .awaited .ensures .ready .stands, omega (arith, c .before .before .before .before .before .before .before .before .before .before .before .before .before .before .pre .1 .1)))
-    (λ c κs. c .before .before .before .before .before .before .before .awaited .ensures .ready .stands)
+    (λ c κs. (c .before .before .before .before .before .before .late-step .ensures .ready .stands, omega (arith, c .before .before .before .before .before .before .before .before .before .before .before .before .before .before .pre .1 .1)))
+    (λ c κs. c .before .before .before .before .before .before .before .late-step .ensures .ready .stands)
     copy-in-requires
-    (λ c κs. let h = c .before .before .before .before .before .before .before .before .before .before .before .before .before .awaited .ensures .ready in (h .stands, h .layer-are))
+    (λ c κs. let h = c .before .before .before .before .before .before .before .before .before .before .before .before .before .late-step .ensures .ready in (h .stands, h .layer-are))
     (λ c. c .before .before .before .before .before .before .before .before .before .fitting .ensures .some)
     cast-further
     further-requires

@@ -15,4 +15,4 @@ print-spec =
     (λ c. search needs)
     (λ c. search needs)
     (λ c. search needs)
-    (λ c. let here = c .before .before .before .before .before .before in then-with (here .before .before .before .before .before .before .before .before .before .before .awaited .ensures) (here .print-here .ensures)))
+    (λ c. let here = c .before .before .before .before .before .before in then-with (here .before .before .before .before .before .before .before .before .before .before .late-step .ensures) (here .print-here .ensures)))

@@ -165,7 +165,7 @@ serve-spec =
     (λ c κs. tt)
     loop-holds
     (λ c. omega (arith, c .before .loop .inv .going .fits, c .before .loop .inv .going .same-size))
-    (λ c κs. (c .loop-test .taken, c .before .loop .inv .short))
+    (λ c κs. (c .loop-test .taken, c .before .loop .inv .sendable))
     count-requires
     (λ c. search (needs, marks-are _ _ _ _ _ _ (c .before .before .before .before .before .before .loop .inv)))
     obey-item-requires
@@ -180,7 +180,7 @@ serve-spec =
     frame-of-requires-2
     loop-less-2
     loop-again-2
-    (λ c κs. omega (arith, c .before .loop .inv .going .reached, c .before .loop .inv .short))
+    (λ c κs. omega (arith, c .before .loop .inv .going .reached, c .before .loop .inv .sendable))
     finish-requires
     same-length
     same-length-2

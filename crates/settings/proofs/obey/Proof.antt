@@ -46,7 +46,7 @@ obey-spec =
     (λ c. search needs) (λ c. let done = c .before .before in
     let told = done .before .before .before in
     arm (told .q5 .given .1) (λ m. stands (done .select .ensures .0) refl (done .select .ensures .1 ∙ ap (λ (n : ℕ). replicate n 0) (told .before .before .before .before .before .pre .sized .layer-are)) refl) (refl, refl) refl)
-    (λ c. search needs) (λ c. let done = c .before .before in arm (done .before .before .before .q6 .given .1) (λ m. rw (done .mark .ensures .0, done .mark .ensures .1)) (refl, refl) refl)
+    (λ c. search needs) (λ c. let done = c .before .before in arm (done .before .before .before .q6 .given .1) (λ m. rw (done .cover .ensures .0, done .cover .ensures .1)) (refl, refl) refl)
     (λ c. search needs) (λ c. let done = c .before .before in arm (done .before .before .before .q7 .given .1) (λ m. done .display .ensures _ _) (display-stays _ _) refl)
     (λ c. let h = c .set .ensures in
     record {

@@ -95,7 +95,7 @@ message-short-spec =
     (λ c κs. search needs)
     paint-row-8-requires
     (λ c κs. search needs)
-    (λ c κs. omega (arith, able (c .before .before .before .before .before .before .before .before .before .before .before .before .before .before .before .before .before .before .before .before .before .before) .short))
+    (λ c κs. omega (arith, able (c .before .before .before .before .before .before .before .before .before .before .before .before .before .before .before .before .before .before .before .before .before .before) .sendable))
     (λ c. search needs)
     (λ c. search needs)
     (λ c. search needs)

@@ -35,7 +35,7 @@ print-code-requires : tie.Need-print-code-requires
 print-code-requires c κs = let entry = c .before .before .before .before .before .before .before .before .before .before .before .before .before .before .before .before in (entry .pre .0, entry .pre .1 .0)
 
 add-at : tie.Need-add-t32
-add-at c = let entry = c .before .before .before .before .before .before .before .before .before .before .before .before .before .before .before .before .before .before .before .before .before .before .before .before .before .before in omega (arith, entry .pre .1 .1 .inside, entry .pre .1 .1 .short)
+add-at c = let entry = c .before .before .before .before .before .before .before .before .before .before .before .before .before .before .before .before .before .before .before .before .before .before .before .before .before .before in omega (arith, entry .pre .1 .1 .inside, entry .pre .1 .1 .sendable)
 
 returns-2 : tie.Need-returns-2
 returns-2 c =

@@ -18,10 +18,10 @@ done-of c = c .before .before .before .before .before .before .before .before
 abbrev painted-of : tie.After-print-here → tie.After-paint-code
 painted-of c = c .before .before .before .before .before .before
 
-abbrev first-of : tie.After-paint-code-arg → tie.After-awaited
+abbrev first-of : tie.After-paint-code-arg → tie.After-late-step
 first-of c = c .before .before .before .before .before .before .before .before .before .before .before .before
 
-abbrev entry-of : tie.After-awaited → tie.Start
+abbrev entry-of : tie.After-late-step → tie.Start
 entry-of c = c .before .before .before .before .before .before .before .before .before .before
 
 returns : tie.Need-returns
@@ -33,9 +33,9 @@ returns c =
     let first = first-of (painted .before) in
     let entry = entry-of first in
     let f = entry .args .frame in
-    let q = first .awaited .result in (
-      then-with (first .awaited .ensures) (done .print-here .ensures),
-      sees-one (first .awaited .ensures) (done .print-here .ensures) (entry .pre .1 .1)
+    let q = first .late-step .result in (
+      then-with (first .late-step .ensures) (done .print-here .ensures),
+      sees-one (first .late-step .ensures) (done .print-here .ensures) (entry .pre .1 .1)
           (ap (λ (b : Bool). eqb (entry .args .place .waiting) 1 && b) (first .before .before .before .before .lowest .ensures))
           (ap (λ (b : Bool). not (ltb (q .column) (f .columns)) && (not (eqb (f .rule) 2) && b)) (spot .before .lowest2 .ensures)) (spot .shown .ensures) (painted .paint-code .ensures),
     )

@@ -172,7 +172,7 @@ serve-spec =
     (λ c κs. tt)
     loop-holds
     (λ c. omega (arith, c .before .loop .inv .loop .going .fits, c .before .loop .inv .loop .going .same-size))
-    (λ c κs. (c .loop-test .taken, c .before .loop .inv .loop .short))
+    (λ c κs. (c .loop-test .taken, c .before .loop .inv .loop .sendable))
     count-requires
     (λ c. search (needs, marks-are _ _ _ _ _ _ (c .before .before .before .before .before .before .before .loop .inv .loop)))
     obey-item-requires
@@ -187,7 +187,7 @@ serve-spec =
     frame-of-requires-2
     loop-less-2
     loop-again-2
-    (λ c κs. omega (arith, c .before .loop .inv .loop .going .reached, c .before .loop .inv .loop .short))
+    (λ c κs. omega (arith, c .before .loop .inv .loop .going .reached, c .before .loop .inv .loop .sendable))
     finish-requires
     same-length
     same-length-2

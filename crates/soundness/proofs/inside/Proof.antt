@@ -11,7 +11,7 @@ returns : tie.Need-returns
 returns c =
     let most = c .before .before .before .before .before .before .before .before in
     let a = most .before .before .args in
-    rw (most .before .minus .ensures, most .most-wait .ensures) (window (a .rule) (a .lines) (a .columns) (a .less) (a .p))
+    rw (most .before .minus .ensures, most .most-late .ensures) (window (a .rule) (a .lines) (a .columns) (a .less) (a .p))
 
 pub inside-spec : {M : Type 1} → statement M
 inside-spec = tie.close (tie.spec minus-requires (λ c κs. tt) returns)

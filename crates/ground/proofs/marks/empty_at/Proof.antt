@@ -4,17 +4,17 @@ use native.Mathlib.Omega.{arith}
 use lib.ListN.{length-set}
 use borrow.Author.Tests.{le-ltb, lt-ltb}
 use borrow.Author.Needs.{needs}
-use Rattle.model.specs.Rules.{unmark}
-use Rattle.ground.proofs.Rows.{unmark-empty}
+use Rattle.model.specs.Rules.{emptyAt}
+use Rattle.ground.proofs.Rows.{empty-at-bare}
 use Rattle.ground.proofs.marks.empty_at.Statement.{statement}
 use Rattle.ground.proofs.marks.empty_at.Tie as tie
 
 pub empty-at-spec : {M : Type 1} → statement M
-unfolding unmark
+unfolding emptyAt
 empty-at-spec =
     tie.close
     (tie.spec
-    (λ c. sym (unmark-empty (c .before .args .shown) _ (c .before .pre .empty (c .if1 .taken))))
+    (λ c. sym (empty-at-bare (c .before .args .shown) _ (c .before .pre .empty (c .if1 .taken))))
     (λ c. search needs)
     (λ c. search needs)
     (λ c. simp length-set (omega arith))

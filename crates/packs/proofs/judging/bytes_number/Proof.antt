@@ -8,19 +8,19 @@ use borrow.Author.Needs.{needs}
 use borrow.Author.Tests.{le-leb, lt-leb, not-false, not-true}
 use Rattle.model.specs.Records.{Record, all?, recordsOf}
 use Rattle.calls.specs.Packs.{known?}
-use Rattle.calls.specs.Calls.{firstOf, knownIn, packable, short, shortIn}
+use Rattle.calls.specs.Calls.{firstOf, knownIn, packable, sendable, sendableIn}
 use Rattle.packs.specs.Bytes.{ofBytes}
-use Rattle.packs.proofs.Walking.{Whole, behind, fits, known-on, over, short-on}
+use Rattle.packs.proofs.Walking.{Whole, behind, fits, known-on, over, sendable-on}
 use Rattle.packs.proofs.Numbers.{bytes-numbered}
 use Rattle.packs.proofs.judging.bytes_number.Statement.{statement}
 use Rattle.packs.proofs.judging.bytes_number.Tie as tie
 
 abbrev Inv-loop : tie.InvT-loop
 Inv-loop pack known₀ short₀ at₀ known few at =
-    Whole pack at × ((knownIn pack ≡ (known && all? known? (recordsOf (drop at pack)))) × (shortIn pack ≡ (few && all? (λ (r : Record). short (r .body)) (recordsOf (drop at pack)))))
+    Whole pack at × ((knownIn pack ≡ (known && all? known? (recordsOf (drop at pack)))) × (sendableIn pack ≡ (few && all? (λ (r : Record). sendable (r .body)) (recordsOf (drop at pack)))))
 
 abbrev μ-loop : tie.MeasureT-loop
-μ-loop pack known₀ short₀ at₀ known short at = length pack - at
+μ-loop pack known₀ few₀ at₀ known few at = length pack - at
 
 -- where a record begins, all of it is there
 whole : (c : tie.After-length-at Inv-loop μ-loop) → let head = c .before .before in
@@ -41,7 +41,7 @@ returns-2 c =
     sym (bytes-numbered p (le-leb (length p) 60000 (omega (arith, told .before .if1 .left))) (sym (told .uncut .ensures) ∙ not-true _ (c .if2 .taken)) refl refl)
 
 loop-holds : tie.Need-loop-holds Inv-loop μ-loop
-unfolding knownIn shortIn
+unfolding knownIn sendableIn
 loop-holds c = (record { inside = omega arith; uncut = sym (c .before .uncut .ensures) ∙ not-false _ (c .if2 .left) }, (refl, refl))
 
 length-at-requires : tie.Need-length-at-requires Inv-loop μ-loop
@@ -60,13 +60,13 @@ loop-again c =
       behind p (head .loop .at) (size .result) (h .0) some (size .ensures),
       (
         known-on p (head .loop .at) (size .result) (h .0) some (size .ensures) (head .loop .known) (c .kind-at .result) (c .kind-at .ensures) (h .1 .0),
-        short-on p (head .loop .at) (size .result) (h .0) some (size .ensures) (head .loop .short) (h .1 .1),
+        sendable-on p (head .loop .at) (size .result) (h .0) some (size .ensures) (head .loop .few) (h .1 .1),
       ),
     )
 
 -- the number by the four tests, once all of the pack was walked over
 walked : (c : tie.After-loop Inv-loop μ-loop) → let head = c .before in
-    firstOf (ofBytes (head .before .before .before .before .before .args .pack .now)) ≡ cond true (cond true (cond (head .loop .known) (cond (head .loop .short) 0 2) 21) 20) 19
+    firstOf (ofBytes (head .before .before .before .before .before .args .pack .now)) ≡ cond true (cond true (cond (head .loop .known) (cond (head .loop .few) 0 2) 21) 20) 19
 unfolding packable
 walked c =
     let head = c .before in
@@ -74,7 +74,7 @@ walked c =
     let p = told .before .before .before .args .pack .now in
     let past = c .loop-test .left in
     bytes-numbered p (le-leb (length p) 60000 (omega (arith, told .before .if1 .left))) (sym (told .uncut .ensures) ∙ not-false _ (head .before .if2 .left))
-    (head .loop .inv .1 .0 ∙ over p (head .loop .at) known? (head .loop .known) past) (head .loop .inv .1 .1 ∙ over p (head .loop .at) (λ (r : Record). short (r .body)) (head .loop .short) past)
+    (head .loop .inv .1 .0 ∙ over p (head .loop .at) known? (head .loop .known) past) (head .loop .inv .1 .1 ∙ over p (head .loop .at) (λ (r : Record). sendable (r .body)) (head .loop .few) past)
 
 returns-3 : tie.Need-returns-3 Inv-loop μ-loop
 returns-3 c = sym (walked (c .before) ∙ rw (not-true (c .before .before .loop .known) (c .if3 .taken)))
