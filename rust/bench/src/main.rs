@@ -1,5 +1,5 @@
 //! `bench [WORD]`: the proved library ("ours") against plain Rust (`tuned`),
-//! both built for release, on one machine and the same input. Each line is
+//! both built by the profile `speed`, on one machine and the same input. Each line is
 //! `bench NAME ours NS plain NS ratio R`, in nanoseconds a message call; with
 //! a word, only the names that hold it. Where the machine has libvterm, lines
 //! whose input is the same for it end with `libvterm NS`.
@@ -70,7 +70,7 @@ const SHORTEST_RUN: Duration = Duration::from_millis(3);
 
 fn main() -> ExitCode {
     if cfg!(debug_assertions) {
-        eprintln!("bench: build it with --release");
+        eprintln!("bench: build it with --profile speed");
         return ExitCode::from(2);
     }
     eprintln!("bench: libvterm {}", vterm::VERSION);

@@ -8,7 +8,6 @@
 //! - `coverage`: counts what the lists reached
 //! - `short`: what document 02 says of a short message, asked of each that is served
 //! - `report`: a whole comparison with its words, for a program's main
-//! - `breaks`: deliberately broken copies, to show that the lists find them
 //! - `vectors`: the named cases
 //! - `streams`: closed streams against one uncut reading
 //! - `secrecy`: pairs of runs in secret mode, of which nothing may be seen
@@ -17,7 +16,6 @@
 //! - `writes`: the sequences written, with a trait of its own
 //! - `classes`: counts by name
 
-pub mod breaks;
 pub mod classes;
 pub mod coverage;
 pub mod generate;
@@ -32,9 +30,11 @@ pub mod traces;
 pub mod vectors;
 pub mod writes;
 
+pub use broken::{Functions, BROKEN, BROKEN_SCREENS, BROKEN_TRACES, BROKEN_WRITES};
 use reference::{Answer, Settings};
 
 /// An implementation of the terminal's calls on plain slices.
+#[allow(clippy::too_many_arguments)] // the stores come one by one, as in C
 pub trait Terminal {
     fn name(&self) -> &str;
 
@@ -90,7 +90,6 @@ pub trait Terminal {
     ) -> (Settings, Answer);
 
     /// Behind the answer the record of the first refusal.
-    #[allow(clippy::too_many_arguments)]
     fn pack(
         &mut self,
         settings: Settings,
@@ -106,28 +105,6 @@ pub trait Terminal {
 
     fn printed<'a>(&mut self, buffer: &'a [u8], count: usize) -> &'a [u8];
 }
-
-/// An implementation given by Rust functions.
-#[derive(Clone, Copy)]
-pub struct Functions {
-    pub name: &'static str,
-    pub opening: OpeningCall,
-    pub message: MessageCall,
-    pub message_short: MessageCall,
-    pub piece: MessageCall,
-    pub closing: ClosingCall,
-    pub pack: PackCall,
-    pub key_text: KeyTextCall,
-    pub printed: for<'a> fn(&'a [u8], usize) -> &'a [u8],
-}
-
-pub type OpeningCall = fn(usize, &mut [u8], &mut [u8], &mut [u8], &mut [u8]) -> (Settings, u8);
-pub type MessageCall =
-    fn(Settings, &[u8], &mut [u8], &mut [u8], &mut [u8], &mut [u8], &mut [u8]) -> (Settings, Answer);
-pub type ClosingCall = fn(Settings, &mut [u8], &mut [u8], &mut [u8], &mut [u8]) -> (Settings, Answer);
-pub type PackCall =
-    fn(Settings, &[u8], &mut [u8], &mut [u8], &mut [u8], &mut [u8], &mut [u8]) -> (Settings, Answer, u32);
-pub type KeyTextCall = fn(Settings, usize, &[u8]) -> (Settings, Answer);
 
 pub const REFERENCE: Functions = Functions {
     name: "reference",
@@ -152,8 +129,6 @@ pub const TUNED: Functions = Functions {
     key_text: tuned::key_text,
     printed: tuned::printed,
 };
-
-include!(concat!(env!("OUT_DIR"), "/broken.rs"));
 
 impl Terminal for Functions {
     fn name(&self) -> &str {

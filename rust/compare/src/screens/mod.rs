@@ -7,6 +7,7 @@ use self::pairs::{named, random_pair, Pair, CLASSES};
 use crate::classes::Classes;
 use crate::play::Plan;
 use crate::random::Random;
+pub use broken::screens::Functions;
 use reference::differences::Record;
 
 /// An implementation of the two calls on plain slices.
@@ -19,17 +20,6 @@ pub trait Screens {
     /// The call's number, and the first difference.
     fn first_difference(&mut self, first: &[u8], second: &[u8]) -> (u8, Option<Record>);
 }
-
-/// An implementation given by two Rust functions.
-#[derive(Clone, Copy)]
-pub struct Functions {
-    pub name: &'static str,
-    pub compare: CompareCall,
-    pub first_difference: FirstCall,
-}
-
-pub type CompareCall = fn(&[u8], &[u8], &mut [Record]) -> (u8, usize);
-pub type FirstCall = fn(&[u8], &[u8]) -> (u8, Option<Record>);
 
 pub const REFERENCE: Functions = Functions {
     name: "reference",

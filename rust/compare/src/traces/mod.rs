@@ -12,6 +12,7 @@ pub mod write;
 use crate::classes::Classes;
 use crate::play::Plan;
 use crate::random::Random;
+pub use broken::traces::Functions;
 use reference::Settings;
 
 /// An implementation of the call on plain slices.
@@ -20,15 +21,6 @@ pub trait Repeats {
 
     /// The call's number, and how many codes it wrote.
     fn key_repeats(&mut self, settings: Settings, trace: &[u8], output: &mut [u8]) -> (u8, usize);
-}
-
-pub type RepeatsCall = fn(Settings, &[u8], &mut [u8]) -> (u8, usize);
-
-/// An implementation given by a Rust function.
-#[derive(Clone, Copy)]
-pub struct Functions {
-    pub name: &'static str,
-    pub key_repeats: RepeatsCall,
 }
 
 pub const REFERENCE: Functions =

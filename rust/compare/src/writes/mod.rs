@@ -16,6 +16,7 @@ use crate::classes::Classes;
 use crate::play::Plan;
 use crate::random::Random;
 use crate::Terminal;
+pub use broken::writes::{Functions, Reached};
 use reference::Settings;
 
 /// An implementation of the call on plain slices.
@@ -31,16 +32,6 @@ pub trait Writes {
         buffer: &mut [u8],
         place: usize,
     ) -> Reached;
-}
-
-pub type Reached = (usize, u8, u8);
-pub type WriteCall = fn(Settings, u8, &[u8], &mut [u8], usize) -> Reached;
-
-/// An implementation given by a Rust function.
-#[derive(Clone, Copy)]
-pub struct Functions {
-    pub name: &'static str,
-    pub write: WriteCall,
 }
 
 pub const REFERENCE: Functions = Functions { name: "reference", write: reference::write::write };
