@@ -8,7 +8,7 @@ use std::fmt;
 /// ESC, the second byte and the most parameters.
 const SEQUENCE_MOST: usize = 2 + PARAMETERS_MOST;
 
-/// What [`write`] gives back.
+/// What [`write()`] gives back.
 #[repr(C)]
 #[derive(Clone, Copy, Debug, PartialEq, Eq)]
 pub struct Reached {
