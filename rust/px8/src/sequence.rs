@@ -92,7 +92,7 @@ pub enum Sequence {
     /// 0 screen 1, 1 screen 2 (209).
     Select { screen: u8 },
     /// Marks row 1 to 8, column 1 to 80, with any code (210).
-    Mark { row: u8, column: u8, code: u8 },
+    Cover { row: u8, column: u8, code: u8 },
     /// 0 row 8 is the key line, 1 not (211).
     KeyDisplay { display: u8 },
     /// (212)
@@ -159,7 +159,7 @@ impl Sequence {
             S::NumOn => 164, S::NumOff => 165, S::KeyCodes => 176, S::KeyStrings => 177,
             S::DrawLine { .. } => 198, S::SetDot { .. } => 199,
             S::Mode0 { .. } | S::Mode1 { .. } | S::Mode2 { .. } | S::Mode3 => 208,
-            S::Select { .. } => 209, S::Mark { .. } => 210, S::KeyDisplay { .. } => 211,
+            S::Select { .. } => 209, S::Cover { .. } => 210, S::KeyDisplay { .. } => 211,
             S::WindowTop => 212, S::WindowEnd => 213, S::CursorType { .. } => 214,
             S::WindowToCursor => 215, S::Pattern { .. } => 224, S::KeyRepeat { .. } => 240,
             S::RepeatDelay { .. } => 241, S::RepeatInterval { .. } => 242,
@@ -189,7 +189,7 @@ impl Sequence {
             | S::ShiftState { state: byte } => Parameters::of([byte]),
             S::PlaceCursor { line, column } => Parameters::of([line, column]),
             S::ScrollUp { above, lines } | S::ScrollDown { above, lines } => Parameters::of([above, lines]),
-            S::Mark { row, column, code } => Parameters::of([row, column, code]),
+            S::Cover { row, column, code } => Parameters::of([row, column, code]),
             S::Mode0 { lines1, lines2 } => Parameters::of([0, lines1, lines2]),
             S::Mode1 { lines } => Parameters::of([1, lines]),
             S::Mode2 { lines, columns, boundary } => Parameters::of([2, lines, columns, boundary]),
@@ -231,7 +231,7 @@ impl Sequence {
             (208, &[1, lines]) => S::Mode1 { lines },
             (208, &[2, lines, columns, boundary]) => S::Mode2 { lines, columns, boundary },
             (208, [3]) => S::Mode3, (209, &[screen]) => S::Select { screen },
-            (210, &[row, column, code]) => S::Mark { row, column, code },
+            (210, &[row, column, code]) => S::Cover { row, column, code },
             (211, &[display]) => S::KeyDisplay { display },
             (212, []) => S::WindowTop, (213, []) => S::WindowEnd,
             (214, &[kind]) => S::CursorType { kind }, (215, []) => S::WindowToCursor,
@@ -312,7 +312,7 @@ impl fmt::Display for Sequence {
                 write!(f, "mode 2, {lines} lines, {columns} and {other} columns, boundary {boundary}")
             }
             S::Select { screen } => write!(f, "select screen {}", u16::from(screen) + 1),
-            S::Mark { row, column, code } => write!(f, "mark row {row}, column {column} with code {code}"),
+            S::Cover { row, column, code } => write!(f, "cover row {row}, column {column} with code {code}"),
             S::CursorType { kind } => write!(f, "cursor type {kind}"),
             S::Pattern { code, rows } => write!(f, "pattern of code {code}: rows {rows:?}"),
             S::RepeatDelay { time } => write!(f, "key repeat starts after {time}/64 s"),

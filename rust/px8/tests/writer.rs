@@ -48,7 +48,7 @@ fn all() -> Vec<(Sequence, Vec<u8>, &'static str)> {
             "mode 2, 10 lines, 20 and 59 columns, boundary 35"),
         (Sequence::Mode3, vec![208, 3], "mode 3"),
         (Sequence::Select { screen: 0 }, vec![209, 0], "select screen 1"),
-        (Sequence::Mark { row: 8, column: 80, code: 7 }, vec![210, 8, 80, 7], "mark row 8, column 80 with code 7"),
+        (Sequence::Cover { row: 8, column: 80, code: 7 }, vec![210, 8, 80, 7], "cover row 8, column 80 with code 7"),
         (Sequence::KeyDisplay { display: 0 }, vec![211, 0], "key line on"),
         (Sequence::KeyDisplay { display: 1 }, vec![211, 1], "key line off"),
         (Sequence::WindowTop, vec![212], "window to the top"), (Sequence::WindowEnd, vec![213], "window to the end"),
