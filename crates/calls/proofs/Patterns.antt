@@ -1,6 +1,6 @@
 -- The rows of a pattern are named by their offset in the message: an item does the same with the whole message as with its
 -- own bytes.
-use mathlib.Core.Path.{_∙_, _≡_, ap, refl, sym}
+use mathlib.Core.Path.{_∙_, _≡_, ap, refl, subst, sym}
 use Prim.Native.Nat.{_*_, _+_, _-_, _<_, _≤_, ℕ}
 use native.Mathlib.Omega.{arith}
 use mathlib.Core.Bool.{Bool, _&&_, cond, false, true}
@@ -22,6 +22,7 @@ use Rattle.model.specs.Rules.{applyItem, withKindPatterns, obeyed}
 use Rattle.model.specs.Items.{obeyedBy}
 use Rattle.model.proofs.Tests.{cond-at, differ, elim-at}
 use Rattle.model.proofs.ByteLaws.{getD-part, same-listFrom}
+use Rattle.model.proofs.Gathering.{escape-order}
 use Rattle.calls.proofs.Loop.{readAt}
 
 module _ (f g : ℕ → ℕ) where
@@ -91,13 +92,15 @@ kind-length (b ∷ []) e h = absurd (no (eqb b 27) e h)
     no : (t : Bool) → t ≡ true → cond t 2 1 ≤ 1 → ⊥
     no true e h = omega arith
     no false e h = differ (sym e)
-kind-length (b ∷ c ∷ []) e h = go (eqb b 27) (eqb c 208) e h
+kind-length (b ∷ c ∷ []) e h =
+    let order : needed (b ∷ c ∷ []) ≡ cond (eqb b 27) (cond (eqb c 208) 3 (rowOf c .bytes)) 1 = ap (λ (n : ℕ). cond (eqb b 27) n 1) (escape-order c []) in
+    order ∙ go (eqb b 27) (eqb c 208) e (subst (λ (n : ℕ). n ≤ 2) order h)
   where
     go : (t u : Bool) → t ≡ true → cond t (cond u 3 (rowOf c .bytes)) 1 ≤ 2 → cond t (cond u 3 (rowOf c .bytes)) 1 ≡ elim u as (λ u. Row) [ true ↦ modeRowOf 0 | false ↦ rowOf c ] .bytes
     go true true e h = absurd (omega arith)
     go true false e h = refl
     go false u e h = absurd (differ (sym e))
-kind-length (b ∷ c ∷ k ∷ bs) e h = go (eqb b 27) (eqb c 208) e
+kind-length (b ∷ c ∷ k ∷ bs) e h = ap (λ (n : ℕ). cond (eqb b 27) n 1) (escape-order c (k ∷ bs)) ∙ go (eqb b 27) (eqb c 208) e
   where
     go : (t u : Bool) → t ≡ true → cond t (cond u (modeRowOf k .bytes) (rowOf c .bytes)) 1 ≡ elim u as (λ u. Row) [ true ↦ modeRowOf k | false ↦ rowOf c ] .bytes
     go true true e = refl

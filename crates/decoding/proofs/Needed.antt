@@ -1,5 +1,5 @@
 -- How many bytes an item needs, from what the code looks at: its first byte, and of a sequence its second and third.
-use mathlib.Core.Path.{_∙_, _≡_, ap, refl, sym}
+use mathlib.Core.Path.{_∙_, _≡_, ap, refl, subst, sym}
 use mathlib.Core.Logic.{⊎-elim}
 use Prim.Native.Nat.{ℕ, _<_, _≤_}
 use native.Mathlib.Nat.{eq-or-lt-of-le}
@@ -12,15 +12,20 @@ use lib.Dec.{eqb}
 use borrow.Author.Tests.{eq-eqb, ne-eqb}
 use Rattle.model.specs.Sequences.{Row, find, modeRowOf, refusal, rowOf, rows}
 use Rattle.model.specs.Reading.{afterEscape, afterMode, needed}
+use Rattle.model.proofs.Gathering.{escape-order, in-order}
 use Rattle.tables.specs.Lengths.{lengthOf}
 use Rattle.decoding.proofs.Found.{mode-least, row-least, two-defaults}
 
--- the length by a second and a third byte, where the test for 208 is decided: as `length_of` has it, and by the rules
+-- the length by a second and a third byte, where the test for 208 is decided, whenever it is asked: as `length_of` has it, and by the rules
 abbrev ours : ℕ → ℕ → Bool → ℕ
 ours c k b = cond b (modeRowOf k .bytes) (find (refusal 0 0 10 0) rows c .bytes)
 
 abbrev pub theirs : ℕ → ℕ → Bool → ℕ
 theirs c k b = cond b (modeRowOf k .bytes) (rowOf c .bytes)
+
+length-order : (c k : ℕ) → lengthOf c k ≡ ours c k (eqb c 208)
+unfolding lengthOf
+length-order c k = in-order c (modeRowOf k .bytes) 0
 
 module _ (c k : ℕ) where
   listed : (b : Bool) → (ours c k b ≡ 0 → ⊥) → theirs c k b ≡ ours c k b
@@ -29,8 +34,7 @@ module _ (c k : ℕ) where
   listed false h = ⊎-elim (λ d. absurd (h (ap (λ (r : Row). r .bytes) (d .0)))) (λ s. ap (λ (r : Row). r .bytes) (sym s)) (two-defaults (refusal 0 0 10 0) (refusal 0 2 10 0) rows c)
 
   pub length-listed : (lengthOf c k ≡ 0 → ⊥) → theirs c k (eqb c 208) ≡ lengthOf c k
-  unfolding lengthOf
-  length-listed h = listed (eqb c 208) h
+  length-listed h = listed (eqb c 208) (λ z. h (length-order c k ∙ z)) ∙ sym (length-order c k)
 
   unlisted : (b : Bool) → ours c k b ≡ 0 → (b ≡ false) × (rowOf c ≡ refusal 0 2 10 0)
   unfolding rowOf
@@ -39,8 +43,7 @@ module _ (c k : ℕ) where
 
   -- a byte that is not in the list
   pub length-none : lengthOf c k ≡ 0 → (eqb c 208 ≡ false) × (rowOf c ≡ refusal 0 2 10 0)
-  unfolding lengthOf
-  length-none h = unlisted (eqb c 208) h
+  length-none h = unlisted (eqb c 208) (sym (length-order c k) ∙ h)
 
   least : (b : Bool) → 2 ≤ theirs c k b
   least true = omega (arith, mode-least k)
@@ -55,8 +58,7 @@ module _ (c k : ℕ) where
   free j false h = refl
 
   third-free : (j : ℕ) → lengthOf c k < 3 → lengthOf c j ≡ lengthOf c k
-  unfolding lengthOf
-  third-free j h = free j (eqb c 208) h
+  third-free j h = length-order c j ∙ free j (eqb c 208) (subst (λ (n : ℕ). n < 3) (length-order c k) h) ∙ sym (length-order c k)
 
 -- the length that the second and third byte say
 abbrev pub said : List ℕ → ℕ
@@ -77,10 +79,10 @@ needed-alone (b ∷ c ∷ bs) l e = absurd (omega arith)
 
 -- a byte that is not in the list
 pub needed-unlisted : (bs : List ℕ) → 2 ≤ length bs → getD bs 0 0 ≡ 27 → said bs ≡ 0 → needed bs ≡ 2
-unfolding needed afterEscape
+unfolding needed
 needed-unlisted [] l e h = absurd (omega arith)
 needed-unlisted (b ∷ []) l e h = absurd (omega arith)
-needed-unlisted (b ∷ c ∷ bs) l e h = let u = length-none c (getD bs 0 0) h in rw (eq-eqb b 27 e, u .0, u .1)
+needed-unlisted (b ∷ c ∷ bs) l e h = let u = length-none c (getD bs 0 0) h in rw (eq-eqb b 27 e, escape-order c bs, u .0, u .1)
 
 -- two bytes are all there is: of 208 the third is still to come
 module _ (c n : ℕ) where
@@ -94,18 +96,18 @@ module _ (c n : ℕ) where
 
 -- a sequence that is whole, and one that is cut short
 pub needed-whole : (bs : List ℕ) → 2 ≤ length bs → getD bs 0 0 ≡ 27 → (said bs ≡ 0 → ⊥) → said bs ≤ length bs → needed bs ≡ said bs
-unfolding needed afterEscape afterMode
+unfolding needed afterMode
 needed-whole [] l e h w = absurd (omega arith)
 needed-whole (b ∷ []) l e h w = absurd (omega arith)
-needed-whole (b ∷ c ∷ []) l e h w = rw (eq-eqb b 27 e) (two-whole c (lengthOf c 0) (eqb c 208) (length-listed c 0 h) w)
-needed-whole (b ∷ c ∷ k ∷ bs) l e h w = rw (eq-eqb b 27 e) (length-listed c k h)
+needed-whole (b ∷ c ∷ []) l e h w = rw (eq-eqb b 27 e) (escape-order c [] ∙ two-whole c (lengthOf c 0) (eqb c 208) (length-listed c 0 h) w)
+needed-whole (b ∷ c ∷ k ∷ bs) l e h w = rw (eq-eqb b 27 e) (escape-order c (k ∷ bs) ∙ length-listed c k h)
 
 pub needed-cut : (bs : List ℕ) → 2 ≤ length bs → getD bs 0 0 ≡ 27 → (said bs ≡ 0 → ⊥) → length bs < said bs → length bs < needed bs
-unfolding needed afterEscape afterMode
+unfolding needed afterMode
 needed-cut [] l e h w = absurd (omega arith)
 needed-cut (b ∷ []) l e h w = absurd (omega arith)
-needed-cut (b ∷ c ∷ []) l e h w = rw (eq-eqb b 27 e) (two-cut c (lengthOf c 0) (eqb c 208) (length-listed c 0 h) w)
-needed-cut (b ∷ c ∷ k ∷ bs) l e h w = rw (eq-eqb b 27 e, length-listed c k h) w
+needed-cut (b ∷ c ∷ []) l e h w = rw (eq-eqb b 27 e) (subst (λ (n : ℕ). 2 < n) (sym (escape-order c [])) (two-cut c (lengthOf c 0) (eqb c 208) (length-listed c 0 h) w))
+needed-cut (b ∷ c ∷ k ∷ bs) l e h w = rw (eq-eqb b 27 e) (subst (λ (n : ℕ). length (b ∷ c ∷ k ∷ bs) < n) (sym (escape-order c (k ∷ bs) ∙ length-listed c k h)) w)
 
 -- the own bytes say the length as well
 pub unlisted-own : (bs : List ℕ) → 2 ≤ length bs → getD bs 0 0 ≡ 27 → said bs ≡ 0 → needed (take 2 bs) ≡ 2

@@ -7,9 +7,9 @@ use mathlib.Core.List.{List, [], _++_, _∷_, append-assoc, append-nil}
 use lib.ListN.{drop, drop-of-length-le, length, length-append, take, take-append-drop}
 use lib.Seq.{length-take-le, take-all}
 use lib.Dec.{eqb, leb, ltb}
-use borrow.Author.Tests.{le-ltb, leb-true, lt-ltb, ltb-false, ltb-true}
+use borrow.Author.Tests.{eqb-true, le-ltb, leb-true, lt-ltb, ltb-false, ltb-true}
 use Rattle.model.specs.Bytes.{joined}
-use Rattle.model.specs.Sequences.{Row, find, modeRowOf, modeRows, refusal, rowOf, rows}
+use Rattle.model.specs.Sequences.{Row, find, inOrder, modeRowOf, modeRows, refusal, rowOf, rows}
 use Rattle.model.specs.Reading.{afterEscape, afterMode, gathered, lastly, needed, remaining, uncut, unfinished?}
 use Rattle.model.proofs.Tests.{and-left, and-right, by-test, cond-at, elim-at}
 
@@ -72,46 +72,59 @@ mode-length : (c : ℕ) → (3 ≤ modeRowOf c .bytes) × (modeRowOf c .bytes �
 unfolding modeRowOf
 mode-length c = found-length 3 13 (refusal 0 3 11 1) modeRows c refl refl
 
+-- a length asked in the list's order is the same with 208 asked first, as the proofs go by cases: no row has 208
+pub in-order : (c byMode none : ℕ) → inOrder c byMode none ≡ cond (eqb c 208) byMode (find (refusal 0 none 10 0) rows c .bytes)
+unfolding find
+in-order c byMode none = go (eqb c 208) refl
+  where
+    go : (t : Bool) → eqb c 208 ≡ t → find (refusal 0 (cond t byMode none) 10 0) rows c .bytes ≡ cond t byMode (find (refusal 0 none 10 0) rows c .bytes)
+    go true e = ap (λ (x : ℕ). find (refusal 0 byMode 10 0) rows x .bytes) (eqb-true c 208 e)
+    go false e = refl
+
+pub escape-order : (c : ℕ) (ys : List ℕ) → afterEscape (c ∷ ys) ≡ cond (eqb c 208) (afterMode ys) (rowOf c .bytes)
+unfolding afterEscape rowOf
+escape-order c ys = in-order c (afterMode ys) 2
+
+after-mode : (ys : List ℕ) → (3 ≤ afterMode ys) × (afterMode ys ≤ 13)
+unfolding afterMode
+after-mode [] = omega arith
+after-mode (k ∷ ys) = mode-length k
+
+after-escape : (ys : List ℕ) → (2 ≤ afterEscape ys) × (afterEscape ys ≤ 13)
+unfolding afterEscape
+after-escape [] = omega arith
+after-escape (c ∷ ys) =
+    subst (λ (n : ℕ). (2 ≤ n) × (n ≤ 13)) (sym (escape-order c ys))
+    (cond-at (λ (n : ℕ). (2 ≤ n) × (n ≤ 13)) (eqb c 208) (afterMode ys) (rowOf c .bytes) (λ e. omega (arith, after-mode ys)) (λ e. row-length c))
+
 pub needed-least : (bs : List ℕ) → 1 ≤ needed bs
-unfolding needed afterEscape afterMode
+unfolding needed
 needed-least [] = omega arith
-needed-least (b ∷ []) = cond-at (λ (n : ℕ). 1 ≤ n) (eqb b 27) 2 1 (λ e. omega arith) (λ e. omega arith)
-needed-least (b ∷ c ∷ []) = cond-at (λ (n : ℕ). 1 ≤ n) (eqb b 27) _ 1 (λ e. cond-at (λ (n : ℕ). 1 ≤ n) (eqb c 208) 3 (rowOf c .bytes) (λ e. omega arith) (λ e. omega (arith, row-length c))) (λ e. omega arith)
-needed-least (b ∷ c ∷ k ∷ bs) = cond-at (λ (n : ℕ). 1 ≤ n) (eqb b 27) _ 1 (λ e. cond-at (λ (n : ℕ). 1 ≤ n) (eqb c 208) (modeRowOf k .bytes) (rowOf c .bytes) (λ e. omega (arith, mode-length k)) (λ e. omega (arith, row-length c))) (λ e. omega arith)
+needed-least (b ∷ bs) = cond-at (λ (n : ℕ). 1 ≤ n) (eqb b 27) (afterEscape bs) 1 (λ e. omega (arith, after-escape bs)) (λ e. omega arith)
 
 -- no sequence has more than 13 bytes
 pub needed-most : (bs : List ℕ) → needed bs ≤ 13
-unfolding needed afterEscape afterMode
+unfolding needed
 needed-most [] = omega arith
-needed-most (b ∷ []) = cond-at (λ (n : ℕ). n ≤ 13) (eqb b 27) 2 1 (λ e. omega arith) (λ e. omega arith)
-needed-most (b ∷ c ∷ []) = cond-at (λ (n : ℕ). n ≤ 13) (eqb b 27) _ 1 (λ e. cond-at (λ (n : ℕ). n ≤ 13) (eqb c 208) 3 (rowOf c .bytes) (λ e. omega arith) (λ e. row-length c .1)) (λ e. omega arith)
-needed-most (b ∷ c ∷ k ∷ bs) = cond-at (λ (n : ℕ). n ≤ 13) (eqb b 27) _ 1 (λ e. cond-at (λ (n : ℕ). n ≤ 13) (eqb c 208) (modeRowOf k .bytes) (rowOf c .bytes) (λ e. mode-length k .1) (λ e. row-length c .1)) (λ e. omega arith)
+needed-most (b ∷ bs) = cond-at (λ (n : ℕ). n ≤ 13) (eqb b 27) (afterEscape bs) 1 (λ e. after-escape bs .1) (λ e. omega arith)
 
 -- so at most 12 wait
 pub waiting-most : (bs : List ℕ) → unfinished? bs ≡ true → length bs ≤ 12
 unfolding unfinished?
 waiting-most bs e = omega (arith, ltb-true (length bs) (needed bs) e, needed-most bs)
 
-after-mode : (ys : List ℕ) → 3 ≤ afterMode ys
-unfolding afterMode
-after-mode [] = omega arith
-after-mode (k ∷ ys) = mode-length k .0
-
-after-escape : (ys : List ℕ) → 2 ≤ afterEscape ys
-unfolding afterEscape
-after-escape [] = omega arith
-after-escape (c ∷ ys) = cond-at (λ (n : ℕ). 2 ≤ n) (eqb c 208) (afterMode ys) (rowOf c .bytes) (λ e. omega (arith, after-mode ys)) (λ e. row-length c .0)
-
 -- unfinished bytes stay short of their need, whatever follows
 pub needed-grows : (w ys : List ℕ) → length w < needed w → length w < needed (w ++ ys)
 unfolding needed afterEscape afterMode
 needed-grows [] ys h = needed-least ys
-needed-grows (b ∷ []) ys h = go (eqb b 27) h (after-escape ys)
+needed-grows (b ∷ []) ys h = go (eqb b 27) h (after-escape ys .0)
   where
     go : (t : Bool) → 1 < cond t 2 1 → 2 ≤ afterEscape ys → 1 < cond t (afterEscape ys) 1
     go true h k = k
     go false h k = h
-needed-grows (b ∷ c ∷ []) ys h = go (eqb b 27) (eqb c 208) h (after-mode ys)
+needed-grows (b ∷ c ∷ []) ys h =
+    let short : ℕ → Type 0 = λ n. 2 < cond (eqb b 27) n 1 in
+    subst short (sym (escape-order c ys)) (go (eqb b 27) (eqb c 208) (subst short (escape-order c []) h) (after-mode ys .0))
   where
     go : (t u : Bool) → 2 < cond t (cond u 3 (rowOf c .bytes)) 1 → 3 ≤ afterMode ys → 2 < cond t (cond u (afterMode ys) (rowOf c .bytes)) 1
     go true true h k = k
@@ -141,7 +154,9 @@ needed-more (b ∷ []) ys h = go (eqb b 27) h
     go : (t : Bool) → cond t 2 1 ≤ 1 → cond t (afterEscape ys) 1 ≡ cond t 2 1
     go true h = absurd (omega arith)
     go false h = refl
-needed-more (b ∷ c ∷ []) ys h = go (eqb b 27) (eqb c 208) h
+needed-more (b ∷ c ∷ []) ys h =
+    ap (λ (n : ℕ). cond (eqb b 27) n 1) (escape-order c ys) ∙ go (eqb b 27) (eqb c 208) (subst (λ (n : ℕ). cond (eqb b 27) n 1 ≤ 2) (escape-order c []) h)
+    ∙ sym (ap (λ (n : ℕ). cond (eqb b 27) n 1) (escape-order c []))
   where
     go : (t u : Bool) → cond t (cond u 3 (rowOf c .bytes)) 1 ≤ 2 → cond t (cond u (afterMode ys) (rowOf c .bytes)) 1 ≡ cond t (cond u 3 (rowOf c .bytes)) 1
     go true true h = absurd (omega arith)
@@ -175,28 +190,31 @@ gathered-none w (x ∷ xs) h =
 
 -- the own bytes of an item tell its length as well
 needed-two : (b c : ℕ) (bs : List ℕ) (n : ℕ) → 2 ≤ n → eqb b 27 ≡ true → eqb c 208 ≡ false → needed (take n (b ∷ c ∷ bs)) ≡ rowOf c .bytes
-unfolding needed afterEscape
+unfolding needed
 needed-two b c bs zero h e f = absurd (omega arith)
 needed-two b c bs (suc zero) h e f = absurd (omega arith)
-needed-two b c bs (suc (suc n)) h e f = rw (e, f)
+needed-two b c bs (suc (suc n)) h e f = rw (e, escape-order c (take n bs), f)
 
 needed-three : (b c k : ℕ) (bs : List ℕ) (n : ℕ) → 3 ≤ n → eqb b 27 ≡ true → eqb c 208 ≡ true → needed (take n (b ∷ c ∷ k ∷ bs)) ≡ modeRowOf k .bytes
-unfolding needed afterEscape afterMode
+unfolding needed afterMode
 needed-three b c k bs zero h e f = absurd (omega arith)
 needed-three b c k bs (suc zero) h e f = absurd (omega arith)
 needed-three b c k bs (suc (suc zero)) h e f = absurd (omega arith)
-needed-three b c k bs (suc (suc (suc n))) h e f = rw (e, f)
+needed-three b c k bs (suc (suc (suc n))) h e f = rw (e, escape-order c (k ∷ take n bs), f)
+
+needed-mode : (b c : ℕ) (bs : List ℕ) → eqb b 27 ≡ true → eqb c 208 ≡ true → needed (take (afterMode bs) (b ∷ c ∷ bs)) ≡ afterMode bs
+unfolding needed afterMode
+needed-mode b c [] e f = rw (e, escape-order c [], f)
+needed-mode b c (k ∷ bs) e f = needed-three b c k bs _ (mode-length k .0) e f
 
 pub needed-own : (bs : List ℕ) → needed (take (needed bs) bs) ≡ needed bs
 unfolding needed afterEscape afterMode
 needed-own [] = refl
 needed-own (b ∷ []) = cond-at (λ (n : ℕ). needed (take n (b ∷ [])) ≡ n) (eqb b 27) 2 1 (λ e. rw e) (λ e. rw e)
-needed-own (b ∷ c ∷ []) =
-    cond-at (λ (n : ℕ). needed (take n (b ∷ c ∷ [])) ≡ n) (eqb b 27) (cond (eqb c 208) 3 (rowOf c .bytes)) 1
-    (λ e. cond-at (λ (n : ℕ). needed (take n (b ∷ c ∷ [])) ≡ n) (eqb c 208) 3 (rowOf c .bytes) (λ f. rw (e, f)) (λ f. needed-two b c [] _ (row-length c .0) e f)) (λ e. rw e)
-needed-own (b ∷ c ∷ k ∷ bs) =
-    cond-at (λ (n : ℕ). needed (take n (b ∷ c ∷ k ∷ bs)) ≡ n) (eqb b 27) (cond (eqb c 208) (modeRowOf k .bytes) (rowOf c .bytes)) 1
-    (λ e. cond-at (λ (n : ℕ). needed (take n (b ∷ c ∷ k ∷ bs)) ≡ n) (eqb c 208) (modeRowOf k .bytes) (rowOf c .bytes) (λ f. needed-three b c k bs _ (mode-length k .0) e f) (λ f. needed-two b c (k ∷ bs) _ (row-length c .0) e f)) (λ e. rw e)
+needed-own (b ∷ c ∷ bs) =
+    cond-at (λ (n : ℕ). needed (take n (b ∷ c ∷ bs)) ≡ n) (eqb b 27) (afterEscape (c ∷ bs)) 1
+    (λ e. subst (λ (n : ℕ). needed (take n (b ∷ c ∷ bs)) ≡ n) (sym (escape-order c bs))
+    (cond-at (λ (n : ℕ). needed (take n (b ∷ c ∷ bs)) ≡ n) (eqb c 208) (afterMode bs) (rowOf c .bytes) (λ f. needed-mode b c bs e f) (λ f. needed-two b c bs _ (row-length c .0) e f))) (λ e. rw e)
 
 -- an item is cut off at once, whatever follows
 pub finished : (w : List ℕ) (y : ℕ) (ys rest : List ℕ) → length (w ++ (y ∷ ys)) ≡ needed (w ++ (y ∷ ys))

@@ -40,7 +40,7 @@ judged-sequence (Refused n p) s room q e = e
 
 -- what begins 27, 224 needs eleven bytes
 needed-pattern : (bs : List ℕ) → getD bs 0 0 ≡ 27 → getD bs 1 0 ≡ 224 → needed bs ≡ 11
-unfolding needed afterEscape rowOf find
+unfolding needed afterEscape find
 needed-pattern [] e f = absurd (eqb-false 0 27 refl e)
 needed-pattern (b ∷ []) e f = absurd (eqb-false 0 224 refl f)
 needed-pattern (b ∷ c ∷ bs) e f = rw (e, f)

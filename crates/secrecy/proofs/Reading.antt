@@ -138,7 +138,7 @@ unfolding unfinished? needed
 only-escape x xs u e = let h : suc (length xs) < 1 = ltb-true _ _ (ap (λ (b : Bool). ltb (suc (length xs)) (cond b (afterEscape xs) 1)) (sym e) ∙ u) in omega (arith, h)
 
 whole-37 : (xs : List ℕ) → unfinished? (27 ∷ 37 ∷ xs) ≡ ltb (suc (suc (length xs))) 3
-unfolding unfinished? needed afterEscape rowOf find
+unfolding unfinished? needed afterEscape find
 whole-37 xs = refl
 
 ending : (w : List ℕ) (b at o : ℕ) → unfinished? w ≡ true → unfinished? (w ++ (b ∷ [])) ≡ false → {i : Item} → Character (w ++ (b ∷ [])) at o i → (o ≡ at + length w) × Ending w b

@@ -16,6 +16,7 @@ use Rattle.model.specs.Bytes.{listFrom}
 use Rattle.model.specs.Sequences.{Row, find, modeRowOf, modeRows, refusal, rowOf, rows}
 use Rattle.model.specs.Reading.{afterEscape, afterMode, decoded, ended, itemOf, kindOf, needed, unfinished?}
 use Rattle.model.proofs.ByteLaws.{length-listFrom}
+use Rattle.model.proofs.Gathering.{escape-order}
 use Rattle.model.proofs.Tests.{cond-at, differ, elim-at}
 use Rattle.spelling.specs.Spelling.{bytesOf, paramsOf}
 
@@ -112,7 +113,7 @@ module _ (o : ℕ) (q : Seq) where
       → elim t [ true ↦ kindOf (b ∷ xs) .made (λ n. getD (b ∷ xs) (n + 1) 0) (o + 2) | false ↦ elim (ltb b 32) [ true ↦ Control b | false ↦ Printed b ] ] ≡ Sequence q → Spelt (b ∷ xs) q
   unfolding afterEscape kindOf sequence?
   first b [] true t e k = absurd (omega (arith, e))
-  first b (c ∷ xs) true t e k = subst (λ (x : ℕ). Spelt (x ∷ c ∷ xs) q) (sym (eqb-true b 27 t)) (escaped c xs (eqb c 208) refl e (ap (λ (p : ℕ → ℕ). kindOf (b ∷ c ∷ xs) .made p (o + 2)) (sym (behind b (c ∷ xs))) ∙ k))
+  first b (c ∷ xs) true t e k = subst (λ (x : ℕ). Spelt (x ∷ c ∷ xs) q) (sym (eqb-true b 27 t)) (escaped c xs (eqb c 208) refl (e ∙ escape-order c xs) (ap (λ (p : ℕ → ℕ). kindOf (b ∷ c ∷ xs) .made p (o + 2)) (sym (behind b (c ∷ xs))) ∙ k))
   first b xs false t e k = absurd (differ (sym (ap sequence? k) ∙ elim-at (λ (i : Item). sequence? i ≡ false) (ltb b 32) (Control b) (Printed b) (λ t. refl) (λ t. refl)))
 
   whole : (bs : List ℕ) → length bs ≡ needed bs → decoded o bs ≡ Sequence q → Spelt bs q

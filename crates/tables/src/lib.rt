@@ -8,7 +8,7 @@ ghost use Rattle.model.specs.Checks.{member};
 ghost use Rattle.model.specs.Dot.{twoBytes};
 ghost use Rattle.model.specs.Picture.{copySizeOf};
 ghost use Rattle.model.specs.Screens.{height, textRows};
-ghost use Rattle.model.specs.Sequences.{codeOf, find, idle?, modeRowOf, refusal, rows};
+ghost use Rattle.model.specs.Sequences.{codeOf, idle?};
 ghost use Rattle.model.specs.Sound.{charsets, shifts};
 ghost use Rattle.tables.specs.Lengths.{lengthOf};
 use model::COPY;
@@ -86,20 +86,10 @@ pub fn two_bytes(high: u8, low: u8) -> u16
     256 * (high as u16) + (low as u16)
 }
 
-// "Lengths with ESC, by second byte": the bytes of a sequence, ESC with them, of 208 by its mode byte, the third; 0 where the list has none.
+// "Lengths with ESC, by second byte": the bytes of a sequence, ESC with them; 0 where the list has none. One decision, in the list's order: an arm
+// a line, its bytes in their order; the last line is 208's, by its mode byte, the third.
 pub fn length_of(second: u8, third: u8) -> usize
     ensures { λ r. ⌜ r ≡ lengthOf second third ⌝ }
-{
-    if second == 208 {
-        mode_length(third)
-    } else {
-        list_length(second)
-    }
-}
-
-// The lines of the list but for the last: an arm a line, its bytes in its order. 208 is in none of them.
-fn list_length(second: u8) -> usize
-    ensures { λ r. ⌜ r ≡ find (refusal 0 0 10 0) rows second .bytes ⌝ }
 {
     match second {
         // "2: 42, 50, 51, 80, 84, 89, 123, 125, 150, 151, 160 to 165, 176, 177, 212, 213, 215, 246"
@@ -120,33 +110,20 @@ fn list_length(second: u8) -> usize
         | 213
         | 215
         | 246 => 2,
-        // "3: 37, 67, 148, 149, 209, 211, 214, 240, 241, 242, 247"
-        37 | 67 | 148 | 149 | 209 | 211 | 214 | 240 | 241 | 242 | 247 => 3,
-        // "4: 61, 144, 145"
-        61 | 144 | 145 => 4,
-        // "5: 210"
-        210 => 5,
-        // "6: 199, 243, 244, 245"
-        199 | 243 | 244 | 245 => 6,
-        // "11: 224"
-        224 => 11,
-        // "13: 198"
-        198 => 13,
-        // not in the list
-        _ => 0,
-    }
-}
-
-// Its last line, "208: 5, 4, 6 or 3 for modes 0 to 3; any other mode byte: 3, and 11".
-fn mode_length(mode: u8) -> usize
-    ensures { λ r. ⌜ r ≡ modeRowOf mode .bytes ⌝ }
-{
-    match mode {
-        0 => 5,
-        1 => 4,
-        2 => 6,
-        3 => 3,
-        // "any other mode byte"
-        _ => 3,
+        37 | 67 | 148 | 149 | 209 | 211 | 214 | 240 | 241 | 242 | 247 => 3, // "3: 37, 67, 148, 149, 209, 211, 214, 240, 241, 242, 247"
+        61 | 144 | 145 => 4, // "4: 61, 144, 145"
+        210 => 5, // "5: 210"
+        199 | 243 | 244 | 245 => 6, // "6: 199, 243, 244, 245"
+        224 => 11, // "11: 224"
+        198 => 13, // "13: 198"
+        // "208: 5, 4, 6 or 3 for modes 0 to 3; any other mode byte: 3, and 11"
+        208 => match third {
+            0 => 5,
+            1 => 4,
+            2 => 6,
+            3 => 3,
+            _ => 3, // "any other mode byte"
+        },
+        _ => 0, // not in the list
     }
 }

@@ -80,7 +80,7 @@ all-of s c xs n = go (ltb (needed (27 ∷ c ∷ xs)) (length (27 ∷ c ∷ xs)))
 
 -- a 209 with a byte or more behind it is finished
 finished-209 : (c x : ℕ) (xs : List ℕ) → length (27 ∷ c ∷ x ∷ xs) < needed (27 ∷ c ∷ x ∷ xs) → c ≡ 209 → ⊥
-unfolding needed afterEscape rowOf find
+unfolding needed afterEscape find
 finished-209 c x xs h e = let k : needed (27 ∷ c ∷ x ∷ xs) ≡ 3 = ap (λ (b : ℕ). needed (27 ∷ b ∷ x ∷ xs)) e in omega (arith, h, k)
 
 pub only-given : (s : Settings) (second : ℕ) (ps : List ℕ) → numberIn (saidOfAll s (givenBytes second ps)) ≡ 0 → Spelt (givenBytes second ps)
