@@ -10,7 +10,7 @@ use Rattle.model.specs.Items.{Event, applyAll}
 use Rattle.calls.specs.Calls.{Terminal, message, packed?, packedBy, Request, request, Call, requestOf, Promised, granted, answerOf, eventsIn, served}
 use Rattle.calls.specs.Opening.{OpeningPromised}
 use Rattle.calls.specs.Claims.{unclaims?, claimedBy}
-use Rattle.model.specs.Kept.{setsMode, movesWindow, noEvent}
+use Rattle.model.specs.Kept.{StillEvent, setsMode, noEvent}
 
 -- "Each call gets the settings and these three stores as the call before left them", P11: and the dots, and keeps its promise
 pub data Made : Terminal → List Call → Type 0 where
@@ -107,6 +107,6 @@ before t cs n = applyAll (take n (eventsOver t (requests cs))) (t .state)
 abbrev pub Stretch : Terminal → List Call → ℕ → ℕ → ℕ → Type 0
 Stretch t cs i j k = (n : ℕ) → i ≤ n → n < j → (before t cs n .settings .selected ≡ k) × (setsMode (event t cs n) ≡ false)
 
--- P2, "211 joins 208 as what may move the other window": the same, and none an accepted 211
+-- P2, "211 joins 208 as what may move the other window": the same, and none "A changed 211"
 abbrev pub Still : Terminal → List Call → ℕ → ℕ → ℕ → Type 0
-Still t cs i j k = (n : ℕ) → i ≤ n → n < j → (before t cs n .settings .selected ≡ k) × (movesWindow (event t cs n) ≡ false)
+Still t cs i j k = (n : ℕ) → i ≤ n → n < j → (before t cs n .settings .selected ≡ k) × StillEvent (event t cs n) (before t cs n)

@@ -25,7 +25,7 @@ use Rattle.model.specs.Judging.{allowed, badOf, fitting, judged, legal?,
 use Rattle.model.specs.Rules.{applyItem, withSettings}
 use Rattle.model.specs.Items.{Event, applyAll, eventsOf, happened, itemRead, keySet, lineLeft, lined, readsOf, texted}
 use Rattle.model.specs.Keyable.{keyable}
-use Rattle.model.specs.Kept.{InWindow, On, SameWindow, Unchanged, isRefusal, movesWindow, mustFollow, refusedEvent, setsMode, noEvent}
+use Rattle.model.specs.Kept.{InWindow, On, SameWindow, StillEvent, Unchanged, isRefusal, mustFollow, refusedEvent, setsMode, noEvent}
 use Rattle.model.proofs.Frames.{SameScreen, Spared, legalEvent?}
 use Rattle.model.proofs.Tests.{and-left, and-right, cond-at, differ}
 use Rattle.model.proofs.ByteLaws.{getD-part, length-put}
@@ -142,7 +142,7 @@ unfolding texted withSettings linesOf columnsOf height textRows placeOf base siz
 same-texted j k x a = record { same-base = refl; same-lines = refl; same-columns = refl; same-height = refl; same-place = refl; same-cells = refl; same-marks = refl }
 
 -- one event
-obeyed-event : (e : Event) (a : State) → Good a → legalEvent? e (limitsOf (a .settings)) ≡ true → Obeyed a (happened e a) (setsMode e) (movesWindow e)
+obeyed-event : (e : Event) (a : State) → Good a → legalEvent? e (limitsOf (a .settings)) ≡ true → Obeyed a (happened e a) (setsMode e) (StillEvent e a)
 unfolding happened
 obeyed-event (itemRead r) a g l = obeyed-item (byteOf r) (r .item) a g l
 obeyed-event (lineLeft w n) a g l = quiet (good-lined w n a g l) (λ k h d. same-lined k w n a)
@@ -190,7 +190,7 @@ refused-nothing (lineLeft w n) a e = absurd (differ (sym e))
 refused-nothing (keySet k x) a e = absurd (differ (sym e))
 
 -- what event n does
-pub event-at : (es : List Event) (a : State) → Good a → AllLegal es a → (n : ℕ) → n < length es → Obeyed (at es a n) (at es a (suc n)) (setsMode (getD es n noEvent)) (movesWindow (getD es n noEvent))
+pub event-at : (es : List Event) (a : State) → Good a → AllLegal es a → (n : ℕ) → n < length es → Obeyed (at es a n) (at es a (suc n)) (setsMode (getD es n noEvent)) (StillEvent (getD es n noEvent) (at es a n))
 unfolding applyAll
 event-at [] a g l n h = absurd (not-suc-le-zero h)
 event-at (e ∷ es) a g l zero h = obeyed-event e a g (l .0)

@@ -1,12 +1,12 @@
--- Every item keeps the state good; every item but a mode setting leaves the screen that is not selected as it was, 211 all but its window.
+-- Every item keeps the state good; every item but a mode setting leaves the screen that is not selected as it was, a changed 211 all but its window.
 use mathlib.Core.Path.{_∙_, _≡_, ap, refl, sym}
 use Prim.Native.Nat.{_*_, _-_, _<_, _≤_, suc, zero, ℕ}
 use native.Mathlib.Omega.{arith}
-use mathlib.Core.Bool.{Bool, _||_, cond, false, true}
+use mathlib.Core.Bool.{Bool, cond, false, true}
 use mathlib.Core.List.{List, [], _∷_}
 use lib.ListN.{getD, length, length-replicate, length-set, set}
 use lib.Dec.{eqb}
-use borrow.Author.Tests.{eq-eqb}
+use borrow.Author.Tests.{eq-eqb, eqb-false}
 use Rattle.model.specs.declared.Item.{Item}
 use Rattle.model.specs.declared.Item.the-variants.{Control, Printed, Refused, Sequence}
 use Rattle.model.specs.declared.Sequence.{Sequence as Seq}
@@ -21,7 +21,7 @@ use Rattle.model.specs.Marks.{markOf, marksDown, marksUp}
 use Rattle.model.specs.Sound.{Good, Inside, Shaped, Sound, arrayRanges, keyRanges, mode0, mode1, mode2, plainRanges, aloneRanges, mode3}
 use Rattle.model.specs.Judging.{legal?, legalItem?, limitsOf, ranges, judgedRanges}
 use Rattle.model.specs.Rules.{applyItem, centred, displaying, emptied, flagged, keyLine, modeSet, obeyed, placed, withArrows, withKeys, withKindPatterns, withLayer, withLed, withSettings}
-use Rattle.model.specs.Kept.{isDisplay, isMode}
+use Rattle.model.specs.Kept.{StillItem, isMode}
 use Rattle.model.proofs.Frames.{SameScreen, Spared}
 use Rattle.model.proofs.Tests.{cond-at, differ, ranges-true}
 use Rattle.model.proofs.ByteLaws.{length-down, length-listFrom, length-put, length-up}
@@ -31,28 +31,28 @@ use Rattle.model.proofs.DotLaws.{length-lined, length-withDot}
 use Rattle.model.proofs.Steps.{fits, height-fits, kept-at, kept-cleared, kept-control, kept-erased, kept-held, kept-printed, kept-shifted, kept-top, kept-trackedFar, length-mark, lines-here, sound-marks}
 
 -- what an item does: the state stays good; all but a mode setting leave each cell and the cursor of the screen that is not selected as they
--- were, and all but that and 211 its window too
-pub record Obeyed (a b : State) (mode moves : Bool) : Type 0 where
+-- were, and what is still, all but that and a changed 211, its window too
+pub record Obeyed (a b : State) (mode : Bool) (still : Type 0) : Type 0 where
   pub good : Good b
   pub other : mode ≡ false → (k : ℕ) → k < 2 → (k ≡ a .settings .selected → ⊥) → Spared k a b
-  pub window : moves ≡ false → (k : ℕ) → k < 2 → (k ≡ a .settings .selected → ⊥) → SameScreen k a b
+  pub window : still → (k : ℕ) → k < 2 → (k ≡ a .settings .selected → ⊥) → SameScreen k a b
 
 -- of what leaves the other screen as it was
-pub quiet : {a b : State} → Good b → ((k : ℕ) → k < 2 → (k ≡ a .settings .selected → ⊥) → SameScreen k a b) → Obeyed a b false false
+pub quiet : {a b : State} {still : Type 0} → Good b → ((k : ℕ) → k < 2 → (k ≡ a .settings .selected → ⊥) → SameScreen k a b) → Obeyed a b false still
 quiet g f = record { good = g; other = λ e k l n. spared (f k l n); window = λ e. f }
 
-of-kept : {a b : State} → Kept a b → Obeyed a b false false
+of-kept : {a b : State} {still : Type 0} → Kept a b → Obeyed a b false still
 of-kept k = quiet (k .good) (k .other)
 
 -- of a mode setting
-anew : {a b : State} → Good b → Obeyed a b true true
-anew g = record { good = g; other = λ n. absurd (differ n); window = λ n. absurd (differ n) }
+anew : {a b : State} {still : Type 0} → Good b → Obeyed a b true ((true ≡ false) × still)
+anew g = record { good = g; other = λ n. absurd (differ n); window = λ n. absurd (differ (n .0)) }
 
 good-modeSet : (s : Settings) → Sound s → Good (modeSet s)
 unfolding modeSet
 good-modeSet s h = record { sound = h; cells-are = length-replicate {A = ℕ} 3840 32; layer-are = length-replicate {A = ℕ} 1280 0; dots-are = length-replicate {A = ℕ} 3840 0 }
 
-good-flags : (a : State) → Good a → (tr st se cu : ℕ) → Passes (range 0 tr 1) → 1 ≤ st → st ≤ height (a .settings) → Passes (range 0 se 1) → Passes (range 0 cu 1) → Obeyed a (flagged (a .settings .selected) tr st se cu a) false false
+good-flags : {still : Type 0} (a : State) → Good a → (tr st se cu : ℕ) → Passes (range 0 tr 1) → 1 ≤ st → st ≤ height (a .settings) → Passes (range 0 se 1) → Passes (range 0 cu 1) → Obeyed a (flagged (a .settings .selected) tr st se cu a) false still
 good-flags a g tr st se cu p q r u v = let z = kept-flags a g (a .settings .selected) tr st se cu (g .sound .selected) p q r u v in quiet (z .0) (λ k l n. z .1 k)
 
 -- settings of a mode just set
@@ -132,21 +132,22 @@ sound-display n s h e d =
     all (suc zero) l = omega (arith, h .inside 1 l, second-height (h .shaped) d, height-high (withDisplay s n (s .places) (s .step)))
     all (suc (suc k)) l = absurd (omega (arith, screens-most s))
 
--- 211: it may move both windows, and nothing else of a screen
-obeyed-display : (n : ℕ) (a : State) → Good a → Passes (range 0 n 1) → (a .settings .mode ≡ 3 → ⊥) → Obeyed a (keyLine n a) false true
-unfolding keyLine emptied withLayer withSettings displaying linesOf columnsOf placeOf base size
-obeyed-display n a g e d = cond-at (λ (b : State). Obeyed a b false true) (eqb n (a .settings .display)) _ _
-    (λ z. record { good = g; other = λ m k l o. spared-refl k a; window = λ m. absurd (differ m) })
+-- 211: another display may move both windows, and nothing else of a screen; the one that stands moves nothing
+spared-display : (n : ℕ) (a : State) (k : ℕ) → k < 2 → Spared k a (emptied (withSettings (displaying n (a .settings)) a))
+unfolding emptied withLayer withSettings displaying linesOf columnsOf placeOf base size
+spared-display n a zero l = record { same-base = refl; same-lines = refl; same-columns = refl; same-line = refl; same-column = refl; same-late = refl; same-cells = refl; same-marks = refl }
+spared-display n a (suc zero) l = record { same-base = refl; same-lines = refl; same-columns = refl; same-line = refl; same-column = refl; same-late = refl; same-cells = refl; same-marks = refl }
+spared-display n a (suc (suc k)) l = absurd (omega arith)
+
+obeyed-display : (n : ℕ) (a : State) → Good a → Passes (range 0 n 1) → (a .settings .mode ≡ 3 → ⊥) → Obeyed a (keyLine n a) false (StillItem (Sequence (Display n)) a)
+unfolding keyLine emptied withLayer withSettings displaying
+obeyed-display n a g e d = cond-at (λ (b : State). Obeyed a b false (StillItem (Sequence (Display n)) a)) (eqb n (a .settings .display)) _ _
+    (λ z. record { good = g; other = λ m k l o. spared-refl k a; window = λ m k l o. same-refl k a })
     (λ z. record {
       good = record { sound = sound-display n (a .settings) (g .sound) e d; cells-are = g .cells-are; layer-are = length-replicate {A = ℕ} 1280 0; dots-are = g .dots-are };
-      other = λ m k l o. all k l;
-      window = λ m. absurd (differ m);
+      other = λ m k l o. spared-display n a k l;
+      window = λ m. absurd (eqb-false n (a .settings .display) z (m .1 n refl d));
     })
-  where
-    all : (k : ℕ) → k < 2 → Spared k a (emptied (withSettings (displaying n (a .settings)) a))
-    all zero l = record { same-base = refl; same-lines = refl; same-columns = refl; same-line = refl; same-column = refl; same-late = refl; same-cells = refl; same-marks = refl }
-    all (suc zero) l = record { same-base = refl; same-lines = refl; same-columns = refl; same-line = refl; same-column = refl; same-late = refl; same-cells = refl; same-marks = refl }
-    all (suc (suc k)) l = absurd (omega arith)
 
 -- one of three flags set
 set-low : (l : List ℕ) (w i f : ℕ) → getD l i 0 ≤ 1 → f ≤ 1 → getD (set l w f) i 0 ≤ 1
@@ -202,7 +203,7 @@ awake : (m c : ℕ) → member c idleThere ≡ true → idle? m c ≡ false → 
 unfolding idle?
 awake m c t e z = differ (sym t ∙ sym (ap (λ (b : Bool). cond b (member c idleThere) (member c drawing)) (eq-eqb m 3 z)) ∙ e)
 
-obeyed-all : (ms : ℕ → ℕ) (q : Seq) (a : State) → Good a → InRanges (ranges q (limitsOf (a .settings))) → idle? (a .settings .mode) (codeOf q) ≡ false → Obeyed a (obeyed ms q a) (isMode (Sequence q)) (isMode (Sequence q) || isDisplay (Sequence q))
+obeyed-all : (ms : ℕ → ℕ) (q : Seq) (a : State) → Good a → InRanges (ranges q (limitsOf (a .settings))) → idle? (a .settings .mode) (codeOf q) ≡ false → Obeyed a (obeyed ms q a) (isMode (Sequence q)) (StillItem (Sequence q) a)
 unfolding obeyed centred withKeys withKindPatterns keyRanges plainRanges arrayRanges member
 obeyed-all ms (PrintCode c) a g e d = of-kept (kept-printed a g c)
 obeyed-all ms Clear a g e d = of-kept (kept-cleared a g)
@@ -256,11 +257,11 @@ obeyed-all ms (Arrows3 c1 c2 c3 c4) a g e d = of-kept (kept-arrows 2 _ a g refl 
 obeyed-all ms Nothing a g e d = of-kept (kept-refl a g)
 obeyed-all ms (Shift n) a g e d = of-kept (kept-stored-only a g _ _ _ (search (keys g, e) depth 30) (g .sound .arrays) (λ m. refl))
 
-pub obeyed-item : (ms : ℕ → ℕ) (i : Item) (a : State) → Good a → legalItem? i (limitsOf (a .settings)) ≡ true → Obeyed a (applyItem ms i a) (isMode i) (isMode i || isDisplay i)
+pub obeyed-item : (ms : ℕ → ℕ) (i : Item) (a : State) → Good a → legalItem? i (limitsOf (a .settings)) ≡ true → Obeyed a (applyItem ms i a) (isMode i) (StillItem i a)
 unfolding applyItem legal? judgedRanges
 obeyed-item ms (Printed c) a g e = of-kept (kept-printed a g c)
 obeyed-item ms (Control c) a g e = of-kept (kept-control a g c)
-obeyed-item ms (Sequence q) a g e = cond-at (λ (b : State). Obeyed a b (isMode (Sequence q)) (isMode (Sequence q) || isDisplay (Sequence q))) (idle? (a .settings .mode) (codeOf q)) a (obeyed ms q a)
+obeyed-item ms (Sequence q) a g e = cond-at (λ (b : State). Obeyed a b (isMode (Sequence q)) (StillItem (Sequence q) a)) (idle? (a .settings .mode) (codeOf q)) a (obeyed ms q a)
     (λ d. record { good = g; other = λ n k l o. spared-refl k a; window = λ n k l o. same-refl k a })
     (λ d. obeyed-all ms q a g (ranges-true (ranges q (limitsOf (a .settings))) (sym (ap (λ (b : Bool). inRanges? (cond b [] (ranges q (limitsOf (a .settings))))) d) ∙ e)) d)
 obeyed-item ms (Refused n p) a g e = of-kept (kept-refl a g)

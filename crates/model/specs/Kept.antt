@@ -6,6 +6,7 @@ use mathlib.Core.List.{[]}
 use lib.ListN.{length, getD}
 use lib.Dec.{eqb}
 use Rattle.model.specs.declared.Settings.{Settings}
+use Rattle.model.specs.declared.Sequence.the-variants.{Display}
 use Rattle.model.specs.declared.Item.{Item}
 use Rattle.model.specs.declared.Item.the-variants.{Printed, Control, Sequence, Refused}
 use Rattle.model.specs.State.{State}
@@ -55,13 +56,6 @@ isMode (Control c) = false
 isMode (Sequence q) = eqb (codeOf q) 208
 isMode (Refused n p) = false
 
--- P2, "211 joins 208 as what may move the other window": an accepted 211
-abbrev pub isDisplay : Item → Bool
-isDisplay (Printed c) = false
-isDisplay (Control c) = false
-isDisplay (Sequence q) = eqb (codeOf q) 211
-isDisplay (Refused n p) = false
-
 -- "A printed character is a printed byte or an accepted 37; a line step is code 10, and codes 8 and 13 are counted with it; a cursor placing is 61"
 abbrev pub follows : Item → Bool
 follows (Printed c) = true
@@ -81,11 +75,6 @@ abbrev pub setsMode : Event → Bool
 setsMode (itemRead r) = isMode (r .item)
 setsMode (lineLeft w n) = false
 setsMode (keySet k x) = false
-
-abbrev pub movesWindow : Event → Bool
-movesWindow (itemRead r) = isMode (r .item) || isDisplay (r .item)
-movesWindow (lineLeft w n) = false
-movesWindow (keySet k x) = false
 
 abbrev pub refusedEvent : Event → Bool
 refusedEvent (itemRead r) = isRefusal (r .item)
@@ -111,6 +100,17 @@ pub record Unchanged (k : ℕ) (a b : State) : Type 0 where
 pub record SameWindow (k : ℕ) (a b : State) : Type 0 where
   pub top : placeOf (b .settings) k .top ≡ placeOf (a .settings) k .top
   pub tall : height (b .settings) ≡ height (a .settings)
+
+-- P2, "211 joins 208 as what may move the other window", and of 211 "A changed 211": an item that may not is no mode setting, and no 211 with another value than
+-- the one that stands (P11: in mode 3 any 211 does nothing)
+abbrev pub StillItem : Item → State → Type 0
+StillItem i st = (isMode i ≡ false) × ((n : ℕ) → i ≡ Sequence (Display n) → (st .settings .mode ≡ 3 → ⊥) → n ≡ st .settings .display)
+
+-- the same of an event; what moves a stream's line or sets a key's text moves no window
+abbrev pub StillEvent : Event → State → Type 0
+StillEvent (itemRead r) st = StillItem (r .item) st
+StillEvent (lineLeft w n) st = Unit {0}
+StillEvent (keySet k x) st = Unit {0}
 
 -- read past the end of a list of events; no claim reaches it
 abbrev pub noEvent : Event

@@ -19,7 +19,7 @@ use Rattle.model.specs.Items.{Event, applyAll, blankAnswer, bytesRead, copies, 
 use Rattle.model.specs.Records.{recordsAfter}
 use Rattle.calls.specs.Packs.{bodiesOf, readsEach, recordFrom}
 use Rattle.calls.specs.Calls.{Asked, Call, Promised, Request, Terminal, granted, answerOf, eventsIn, firstOf, itemBytes, keyText, message, numberOf, ownReasons, pack, packed?, paints?, printedBy, short, readsBy, readsIn, recordOf, request, requestOf, sentBy, served, startOf, takenBy}
-use Rattle.model.specs.Kept.{Apart, On, Standing, movesWindow, setsMode}
+use Rattle.model.specs.Kept.{Apart, On, Standing, StillEvent, setsMode}
 use Rattle.calls.specs.Claims.{InBodies, InOrder, Quick, Shown, ShownIn, aboveRow8, countAfter, waitsAfter}
 use Rattle.theorems.specs.Demand3.{Demand, Demand3}
 use Rattle.calls.specs.Lists.{Made, NoKey, Nth, Resumed, Start, Still, Stretch, before, claimed, event, eventsOver, first, itemCount, later, left, next, none, opening, requests, resumed, stands, stood}
@@ -112,10 +112,10 @@ shown-left {t} (next {c = c} {cs = cs} g p m) (suc n) f s = shown-left m n (λ j
     go false a = subst Shown (sym (left-is c p ∙ refused-leaves (c .given) (requestOf c) a ∙ g)) s
 
 -- a fact that a call that paints makes, and that stays over the calls behind it
-from-painting : (Stays : List Call → ℕ → ℕ → Type 0) (P : Terminal → Type 0)
-    → ((c : Call) (cs : List Call) (i n : ℕ) → Stays (c ∷ cs) (suc i) (suc n) → Stays cs i n)
-    → ((t : Terminal) (cs : List Call) → Made t cs → (n : ℕ) → Stays cs 0 n → Shown t → P (left t (take n cs)))
-    → {t : Terminal} {cs : List Call} → Made t cs → (i : ℕ) (c : Call) → Nth i cs c → c .answer .number ≡ 0 → paints? (c .asked) ≡ true → (n : ℕ) → i < n → Stays cs (suc i) n → P (left t (take n cs))
+from-painting : (StillItem : List Call → ℕ → ℕ → Type 0) (P : Terminal → Type 0)
+    → ((c : Call) (cs : List Call) (i n : ℕ) → StillItem (c ∷ cs) (suc i) (suc n) → StillItem cs i n)
+    → ((t : Terminal) (cs : List Call) → Made t cs → (n : ℕ) → StillItem cs 0 n → Shown t → P (left t (take n cs)))
+    → {t : Terminal} {cs : List Call} → Made t cs → (i : ℕ) (c : Call) → Nth i cs c → c .answer .number ≡ 0 → paints? (c .asked) ≡ true → (n : ℕ) → i < n → StillItem cs (suc i) n → P (left t (take n cs))
 unfolding left
 from-painting S P tail go (next g p m) zero c first e f zero l s = absurd (not-suc-le-zero l)
 from-painting S P tail go (next {cs = cs} g p m) zero c first e f (suc n) l s = go (c .left) cs m n (tail c cs 0 n s) (painted c p e f)
@@ -247,7 +247,7 @@ module _ (t : Terminal) (cs : List Call) (made : Made t cs) where
         ∙ number-good (stood t cs n) (requestOf c) g (sized-stands (requests (take n cs)) t (start-resumed t start .shown-is))
 
     -- what event n of the list does
-    step : (n : ℕ) → n < itemCount t cs → Obeyed (before t cs n) (before t cs (suc n)) (setsMode (event t cs n)) (movesWindow (event t cs n))
+    step : (n : ℕ) → n < itemCount t cs → Obeyed (before t cs n) (before t cs (suc n)) (setsMode (event t cs n)) (StillEvent (event t cs n) (before t cs n))
     step = event-at (eventsOver t (requests cs)) (t .state) good (legal-over t (requests cs))
 
     stretch : (i j k : ℕ) → i ≤ j → j ≤ itemCount t cs → Stretch t cs i j k → (o : ℕ) → o < 2 → (o ≡ k → ⊥) → Spared o (before t cs i) (before t cs j)

@@ -86,7 +86,7 @@ pub record Demand3 (t : Terminal) (cs : List Call) : Type 0 where
   pub tracks : Start t → (n : ℕ) → n < itemCount t cs → mustFollow (event t cs n) ≡ true → before t cs n .settings .tracking ≡ 1 → InWindow (before t cs (suc n))
   -- a stretch leaves each cell and the cursor of the other screen (with its flag, P9, and its marks, P5) as they were
   pub stretch : Start t → (i j k : ℕ) → i ≤ j → j ≤ itemCount t cs → Stretch t cs i j k → (o : ℕ) → o < 2 → (o ≡ k → ⊥) → Unchanged o (before t cs i) (before t cs j)
-  -- and its window, with no 211 among the items
+  -- and its window, with no changed 211 among the items
   pub windows : Start t → (i j k : ℕ) → i ≤ j → j ≤ itemCount t cs → Still t cs i j k → (o : ℕ) → o < 2 → (o ≡ k → ⊥) → SameWindow o (before t cs i) (before t cs j)
 
 -- "a single claim about a whole list and not one for each call"
