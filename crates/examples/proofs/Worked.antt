@@ -67,7 +67,7 @@ unfolding copySizeOf dotCopy pictureCopy withDots dotsCleared weight dotAt withD
 packed = refl
 
 pub pack-numbers : packNumbers ≡ true
-unfolding packNumbers sized firstOf reasons numberOf soundIn noneWaits sound? second? aloneRanges screens inRanges? passes member linesOf columnsOf placeOf textRows height keyRanges plainRanges arrayRanges insideRanges shapeRanges otherRanges inside? zeros? line? unfinished? needed markOf marked? marks? numberIn lengthIn kindIn bodyIn recordIn recordsAfter lacking uncut? all? known? packable knownIn sendableIn
+unfolding packNumbers sized firstOf reasons numberOf soundIn noneWaits sound? second? aloneRanges screens inRanges? passes member linesOf columnsOf placeOf textRows height keyRanges plainRanges arrayRanges insideRanges shapeRanges otherRanges inside? zeros? line? unfinished? needed afterEscape markOf marked? marks? numberIn lengthIn kindIn bodyIn recordIn recordsAfter lacking uncut? all? known? packable knownIn sendableIn
 pack-numbers = refl
 
 pub pack-claims : packClaims ≡ true

@@ -76,14 +76,16 @@ packRuns =
     ∷ packs (one (67 ∷ []) ++ (9 ∷ 0 ∷ 1 ∷ 0 ∷ [])) 0 (refusedBy 20 ∷ cursorAt 1 3 ∷ cell 1 1 3 32 ∷ waits [] 1 ∷ []) ∷ [])
     ∷ []
 
--- the order of the numbers: 1, 19, 20, 21, 2, 3, 16
+-- the order of the numbers: 1, 19, 20, 21, 2, 3, 16. An ESC that waits is 16 where the count is 1, and 3 where it is 0: there it is longer than the count
 unfoldable pub packNumbers : Bool
 packNumbers =
     let small = terminal (openedSettings 1) (replicate 3839 32) (replicate 1280 0) (replicate 3840 0) (replicate 640 32) in
     let unsound = terminal (withLine (openedSettings 1) (replicate 12 0) 0 1000000001) (replicate 3840 32) (replicate 1280 0) (replicate 3840 0) (replicate 640 32) in
+    let waiting : ℕ → Terminal = λ n. terminal (withLine (openedSettings 1) (27 ∷ replicate 11 0) 1 n) (replicate 3840 32) (replicate 1280 0) (replicate 3840 0) (replicate 640 32) in
     let number : Terminal → List ℕ → ℕ = λ t p. numberOf t (request (pack p) 0) in
     eqb (number small (replicate 60001 0)) 1 && eqb (number opened (replicate 60001 0)) 19 && eqb (number opened (replicate 60000 0)) 21
     && eqb (number unsound (0 ∷ 0 ∷ 9 ∷ 0 ∷ one (replicate 4097 65))) 21 && eqb (number unsound (one (replicate 4097 65))) 2 && eqb (number unsound []) 3 && eqb (number unsound (one [])) 3
+    && eqb (number (waiting 0) []) 3 && eqb (number (waiting 0) (one [])) 3 && eqb (number (waiting 1) []) 16 && eqb (number (waiting 1) (one [])) 16
 
 -- 6: after a key call nothing is claimed of row 8, an empty pack claims no more, and a pack of an empty message all
 unfoldable pub packClaims : Bool
