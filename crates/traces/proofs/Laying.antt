@@ -10,7 +10,7 @@ use Rattle.model.specs.Bytes.{put}
 use Rattle.model.proofs.ByteLaws.{length-put}
 use Rattle.store.proofs.Laws.{put-more, put-none, put-then, put-two}
 use Rattle.traces.specs.declared.Stroke.{Stroke}
-use Rattle.traces.specs.Codes.{Code, bytesOf, code, codeBytes, codesBytes, endOf, everyFrom, firstRepeat, repeatCount, sent, sentBy}
+use Rattle.traces.specs.Codes.{Code, code, codeBytes, codesBytes, endOf, everyFrom, firstRepeat, repeatCount, sent, sentBy, tickBytes}
 use Rattle.traces.specs.Stepping.{StrokeRead, Written, strokesFrom}
 use Rattle.traces.proofs.Stepping.{strokes-end}
 use Rattle.traces.proofs.Counting.{every-length, press-length, sent-press, sent-release}
@@ -24,7 +24,7 @@ five-put p a b c d e xs fits =
 
 -- codes have five bytes each, and go one behind the other
 codes-length : (cs : List Code) → length (codesBytes cs) ≡ 5 * length cs
-unfolding codesBytes codeBytes bytesOf
+unfolding codesBytes codeBytes tickBytes
 codes-length [] = refl
 codes-length (c ∷ cs) = omega (arith, codes-length cs)
 

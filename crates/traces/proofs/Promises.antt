@@ -1,5 +1,5 @@
 -- The call's number by its tests, and its promise: refused by the trace, refused by the output, or served.
-use mathlib.Core.Path.{_∙_, _≡_, ap, refl, sym}
+use mathlib.Core.Path.{_∙_, _≡_, ap, refl, subst, sym}
 use Prim.Native.Nat.{_*_, _/_, _<_, _≤_, ℕ}
 use native.Mathlib.Nat.{zero-add}
 use native.Mathlib.Omega.{arith}
@@ -14,9 +14,11 @@ use Rattle.calls.specs.Calls.{Reason, allFree, firstOf, reason}
 use Rattle.model.proofs.SoundLaws.{sound-true}
 use Rattle.model.specs.Records.{all?, recordsOf, uncut?}
 use Rattle.traces.specs.Strokes.{rising?, stroke?, strokesIn}
-use Rattle.traces.specs.Codes.{Code, codesBytes, sent}
+use Rattle.traces.specs.Codes.{Code, Held, codesBytes, sent}
 use Rattle.traces.specs.Call.{RepeatsPromised, checks, fits?, listed, reasons, sentIn, traceable}
+use Rattle.traces.specs.Claims.{Bytes}
 use Rattle.traces.specs.Stepping.{Whole, strokesFrom}
+use Rattle.traces.proofs.Claimed.{all-held, strokes-four}
 
 -- the checks, by their outcomes
 abbrev pub by : Bool → Bool → Bool → Bool → Bool → List Reason
@@ -75,7 +77,7 @@ module _ (s : Settings) (trace : List ℕ) where
     refused {n} e h =
         let z = ahead (checks s trace) (reason 25 (fits? (sentIn s trace) room) ∷ []) (λ f. h (e ∙ f)) in
         let none : listed s trace room ≡ [] = ap (λ (b : Bool). cond b (sentIn s trace) []) (z .1) in
-        record { number-is = e ∙ sym (z .0); count-is = ap length (sym none); output-is = ap (λ (cs : List Code). written (codesBytes cs) output) (sym none) }
+        record { number-is = e ∙ sym (z .0); count-is = ap length (sym none); output-is = ap (λ (cs : List Code). written (codesBytes cs) output) (sym none); held = subst Held (sym none) tt }
 
     -- with the checks passed, the outcome of the last
     last : firstOf (checks s trace) ≡ 0 → {b : Bool} → fits? (sentIn s trace) room ≡ b → reasons s trace room ≡ by true true true true true ++ (reason 25 b ∷ [])
@@ -87,15 +89,20 @@ module _ (s : Settings) (trace : List ℕ) where
     too-small h f =
         let z = last h f in
         let none : listed s trace room ≡ [] = ap (λ (rs : List Reason). cond (allFree rs) (sentIn s trace) []) z in
-        record { number-is = ap firstOf (sym z); count-is = ap length (sym none); output-is = ap (λ (cs : List Code). written (codesBytes cs) output) (sym none) }
+        record { number-is = ap firstOf (sym z); count-is = ap length (sym none); output-is = ap (λ (cs : List Code). written (codesBytes cs) output) (sym none); held = subst Held (sym none) tt }
 
-    pub served : firstOf (checks s trace) ≡ 0 → {n : ℕ} {output′ : List ℕ} → n ≡ length (sent (s .keys) (strokesFrom trace 0)) → fits? (sentIn s trace) room ≡ true
+    pub served : Bytes trace → firstOf (checks s trace) ≡ 0 → {n : ℕ} {output′ : List ℕ} → n ≡ length (sent (s .keys) (strokesFrom trace 0)) → fits? (sentIn s trace) room ≡ true
         → output′ ≡ put 0 (codesBytes (sent (s .keys) (strokesFrom trace 0))) output → RepeatsPromised s trace output (record { number = 0; count = n }) output′
     unfolding listed sentIn written put onPart firstOf allFree
-    served h e f g =
+    served bytes h e f g =
         let z = last h f in
         let all : listed s trace room ≡ sentIn s trace = ap (λ (rs : List Reason). cond (allFree rs) (sentIn s trace) []) z in
-        record { number-is = ap firstOf (sym z); count-is = e ∙ ap length (sym all); output-is = g ∙ rw zero-add (ap (λ (cs : List Code). written (codesBytes cs) output) (sym all)) }
+        record {
+          number-is = ap firstOf (sym z);
+          count-is = e ∙ ap length (sym all);
+          output-is = g ∙ rw zero-add (ap (λ (cs : List Code). written (codesBytes cs) output) (sym all));
+          held = subst Held (sym all) (all-held (s .keys) (interval-least h) (strokesIn trace) (strokes-four trace bytes));
+        }
 
 -- the last test by a division
 pub room-enough : (cs : List Code) {n : ℕ} (room : ℕ) → n ≡ length cs → n ≤ room / 5 → fits? cs room ≡ true

@@ -12,7 +12,7 @@ use Rattle.calls.specs.Calls.{Reason, reason, firstOf, allFree}
 use Rattle.model.specs.Records.{recordsOf, all?, uncut?}
 use Rattle.traces.specs.declared.Repeats.{Repeats}
 use Rattle.traces.specs.Strokes.{strokesIn, stroke?, rising?}
-use Rattle.traces.specs.Codes.{Code, sent, codesBytes}
+use Rattle.traces.specs.Codes.{Code, Held, sent, codesBytes}
 
 -- 19: "too long"; here, that it is not: "a trace up to 60,000 bytes"
 abbrev pub traceable : List ℕ → Bool
@@ -39,8 +39,10 @@ reasons s trace room = checks s trace ++ (reason 25 (fits? (sentIn s trace) room
 unfoldable pub listed : Settings → List ℕ → ℕ → List Code
 listed s trace room = cond (allFree (reasons s trace room)) (sentIn s trace) []
 
--- the call's promise: its number, "return their number", and "the rest stays", all of it where the call is refused: "output untouched"
+-- the call's promise: its number, "return their number", and "the rest stays", all of it where the call is refused: "output untouched"; and that
+-- the four bytes that stand there for a tick hold it
 pub record RepeatsPromised (s : Settings) (trace output : List ℕ) (r : Repeats) (output′ : List ℕ) : Type 0 where
   pub number-is : r .number ≡ firstOf (reasons s trace (length output))
   pub count-is : r .count ≡ length (listed s trace (length output))
   pub output-is : output′ ≡ written (codesBytes (listed s trace (length output))) output
+  pub held : Held (listed s trace (length output))

@@ -1,11 +1,13 @@
 -- Document 02, P13, the codes sent: "A press sends its key at its tick, then, with repeat on, at 4 times the 241 number later and every 242
 -- number after, while the tick is strictly below that of the record that ends it". How many repeats that are is said by a division; that these
 -- are exactly the repeats below the end is a law (Claims).
-use Prim.Native.Nat.{ℕ, zero, suc, _+_, _*_, _-_, _/_, _%_}
+use mathlib.Core.Path.{_≡_}
+use Prim.Native.Nat.{ℕ, zero, suc, _+_, _*_, _-_, _/_, _%_, _<_}
 use mathlib.Core.Bool.{Bool, cond, _||_}
 use mathlib.Core.List.{List, [], _∷_, _++_}
 use lib.Dec.{eqb, ltb}
 use Rattle.model.specs.declared.Keys.{Keys}
+use Rattle.model.specs.Records.{numberIn}
 use Rattle.traces.specs.declared.Stroke.{Stroke}
 
 -- a code sent: its tick and its key
@@ -57,14 +59,18 @@ unfoldable pub sent : Keys → List Stroke → List Code
 sent k [] = []
 sent k (s ∷ ss) = sentAt k s ss ++ sent k ss
 
--- a number in n bytes, little-endian
-unfoldable pub bytesOf : ℕ → ℕ → List ℕ
-bytesOf zero v = []
-bytesOf (suc n) v = v % 256 ∷ bytesOf n (v / 256)
+-- "a four-byte little-endian tick": the fourth is all that is left, so that nothing of a tick is cut off; of every tick sent it is a byte (Held)
+unfoldable pub tickBytes : ℕ → List ℕ
+tickBytes t = t % 256 ∷ t / 256 % 256 ∷ t / 256 / 256 % 256 ∷ t / 256 / 256 / 256 ∷ []
+
+-- four bytes hold the tick of each code: there is no fifth, and read as in a body they are the tick
+abbrev pub Held : List Code → Type 0
+Held [] = Unit {0}
+Held (c ∷ cs) = ((c .tick < 4294967296) × (numberIn (tickBytes (c .tick)) ≡ c .tick)) × Held cs
 
 -- "tick and key as in a body, five bytes each"
 unfoldable pub codeBytes : Code → List ℕ
-codeBytes c = bytesOf 4 (c .tick) ++ (c .key ∷ [])
+codeBytes c = tickBytes (c .tick) ++ (c .key ∷ [])
 
 -- the output of some codes
 unfoldable pub codesBytes : List Code → List ℕ

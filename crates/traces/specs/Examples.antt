@@ -8,7 +8,7 @@ use lib.Dec.{eqb}
 use Rattle.model.specs.declared.Settings.{Settings}
 use Rattle.calls.specs.Calls.{firstOf}
 use Rattle.model.specs.State.{openedKeys, openedSettings, repeatWith, withStored}
-use Rattle.traces.specs.Codes.{Code, bytesOf}
+use Rattle.traces.specs.Codes.{Code, tickBytes}
 use Rattle.traces.specs.Call.{listed, reasons}
 
 -- a row: settings, trace, room of the output, the number, and the ticks sent
@@ -25,7 +25,7 @@ repeating on delay interval = withStored (openedSettings 1) 0 (repeatWith opened
 
 -- a record: kind, tick, key
 abbrev pub stroke : ℕ → ℕ → ℕ → List ℕ
-stroke kind tick key = 5 ∷ 0 ∷ kind ∷ 0 ∷ (bytesOf 4 tick ++ (key ∷ []))
+stroke kind tick key = 5 ∷ 0 ∷ kind ∷ 0 ∷ (tickBytes tick ++ (key ∷ []))
 
 -- under the opening's settings
 abbrev pub row : List ℕ → ℕ → ℕ → List ℕ → Row

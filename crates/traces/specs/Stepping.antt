@@ -1,6 +1,6 @@
 -- What the code hands on as it steps over a trace, nine bytes a stroke, once number 21 is ruled out. Not a rule.
 use mathlib.Core.Path.{_≡_}
-use Prim.Native.Nat.{ℕ, _+_, _*_, _≤_}
+use Prim.Native.Nat.{ℕ, _+_, _*_, _≤_, _<_}
 use mathlib.Core.Bool.{Bool, true, _&&_}
 use mathlib.Core.List.{List, _∷_}
 use lib.ListN.{length, drop}
@@ -39,6 +39,10 @@ pub record Counted (k : Keys) (trace : List ℕ) (at r : ℕ) : Type 0 where
   pub few : r ≤ 4294967296
   pub fits : at + 9 ≤ length trace
   pub next : Whole trace (at + 9)
+
+-- four bytes hold each of n ticks, an interval apart
+abbrev pub EachHeld : ℕ → ℕ → ℕ → Type 0
+EachHeld tick interval n = (j : ℕ) → j < n → tick + j * interval < 4294967296
 
 -- they were written: what is to be written from here on stands if what is to be written from the next stroke on does
 pub record Written (k : Keys) (trace : List ℕ) (at place r : ℕ) (output output′ : List ℕ) : Type 0 where

@@ -5,7 +5,7 @@ ghost use lib.ListN.{length};
 ghost use Rattle.model.specs.Bytes.{put};
 ghost use mathlib.Core.List.{[], _∷_};
 ghost use Rattle.traces.specs.Codes.{code, codesBytes, everyFrom, sentBy, sent};
-ghost use Rattle.traces.specs.Stepping.{strokesFrom, Whole, Written};
+ghost use Rattle.traces.specs.Stepping.{strokesFrom, EachHeld, Whole, Written};
 use crate::Stroke;
 use crate::codes::end_of;
 use crate::codes::first_repeat;
@@ -13,9 +13,9 @@ use crate::codes::repeat_count;
 use crate::strokes::stroke_at;
 use model::Keys;
 
-// "tick and key as in a body, five bytes each": one code, from `place` on.
+// "tick and key as in a body, five bytes each": one code, from `place` on, its tick one that four bytes hold.
 fn lay(output: &mut [u8], place: usize, tick: u64, key: u8)
-    requires { ⌜ place + 5 ≤ length (now output) ⌝ }
+    requires { ⌜ (tick < 4294967296) × (place + 5 ≤ length (now output)) ⌝ }
     ensures { λ _. ⌜ now (output .exit) ≡ put place (codesBytes (code tick key ∷ [])) (now (output .entry)) ⌝ }
 {
     let second = tick / 256;
@@ -24,7 +24,7 @@ fn lay(output: &mut [u8], place: usize, tick: u64, key: u8)
     output[place] = (tick % 256) as u8;
     output[place + 1] = (second % 256) as u8;
     output[place + 2] = (third % 256) as u8;
-    output[place + 3] = (fourth % 256) as u8;
+    output[place + 3] = fourth as u8;
     output[place + 4] = key;
 }
 
@@ -37,7 +37,7 @@ fn lay_every(
     first: u64,
     count: u64,
 ) -> usize
-    requires { ⌜ (first ≤ 4294968315) × ((count ≤ 4294967295) × (place + 5 * count ≤ length (now output))) ⌝ }
+    requires { ⌜ EachHeld first interval count × (place + 5 * count ≤ length (now output)) ⌝ }
     ensures { λ r. ⌜ (now (output .exit) ≡ put place (codesBytes (everyFrom key interval first count)) (now (output .entry))) × (r ≡ place + 5 * count) ⌝ }
 {
     let mut tick = first;

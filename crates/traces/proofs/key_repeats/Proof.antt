@@ -4,6 +4,8 @@ use native.Mathlib.Omega.{arith}
 use lib.ListN.{length}
 use Rattle.calls.specs.Calls.{firstOf}
 use Rattle.traces.specs.Call.{checks, sentIn}
+use Rattle.traces.specs.Claims.{Bytes}
+use Rattle.traces.proofs.Claimed.{each-byte}
 use Rattle.traces.proofs.Promises.{at-most, interval-least, refused, room-enough, room-short, served, too-small, whole}
 use borrow.Author.Needs.{needs}
 use Rattle.traces.proofs.key_repeats.Statement.{statement}
@@ -47,7 +49,8 @@ returns-3 c =
     let called = counted .before .before .before in
     let a = called .before .before .before .args in
     let passed : firstOf (checks (a .settings) (a .trace .now)) ≡ 0 = sym (called .call-number .ensures) ∙ omega (arith, counted .before .before .if1 .left) in
-    served (a .settings) (a .trace .now) (a .output .now) passed (counted .count-all .ensures)
+    let bytes : Bytes (a .trace .now) = each-byte (a .trace .now) (λ i. omega (arith, called .before .before .shared-slice-known .given i)) in
+    served (a .settings) (a .trace .now) (a .output .now) bytes passed (counted .count-all .ensures)
     (room-enough (sentIn (a .settings) (a .trace .now)) (length (a .output .now)) (counted .count-all .ensures) (omega (arith, wrote .before .before .if2 .left))) (wrote .write-all .ensures)
 
 pub key-repeats-spec : {M : Type 1} → statement M

@@ -1,7 +1,7 @@
 -- `lay`: the tick's four bytes, then the key.
 use native.Mathlib.Omega.{arith}
 use lib.ListN.{length-set}
-use Rattle.traces.specs.Codes.{bytesOf, codeBytes, codesBytes}
+use Rattle.traces.specs.Codes.{codeBytes, codesBytes, tickBytes}
 use Rattle.traces.proofs.Laying.{five-put}
 use borrow.Author.Needs.{needs}
 use Rattle.traces.proofs.writing.lay.Statement.{statement}
@@ -11,7 +11,7 @@ slice-write-output-5 : tie.Need-slice-write-output-5
 slice-write-output-5 c = simp length-set (omega arith)
 
 returns : tie.Need-returns
-unfolding codesBytes codeBytes bytesOf
+unfolding codesBytes codeBytes tickBytes
 returns c = let a = c .args in five-put (a .place) _ _ _ _ (a .key) (a .output .now) (omega arith)
 
 pub lay-spec : {M : Type 1} → statement M

@@ -1,7 +1,8 @@
--- `write_press`: the press, then its repeats.
+-- `write_press`: the press, then its repeats, which lie below an end of four bytes.
 use native.Mathlib.Omega.{arith}
 use Rattle.traces.proofs.Counting.{by-length}
 use Rattle.traces.proofs.Laying.{press-laid}
+use Rattle.traces.proofs.Claimed.{repeats-held}
 use borrow.Author.Needs.{needs}
 use Rattle.traces.proofs.writing.write_press.Statement.{statement}
 use Rattle.traces.proofs.writing.write_press.Tie as tie
@@ -11,7 +12,7 @@ lay-requires c κs =
     let counted = c .before .before .before in
     let start = counted .before .before in
     let a = start .args in
-    omega (arith, by-length (a .keys) (a .stroke) (a .end) (counted .repeat-count .ensures .0), start .pre .1)
+    (omega arith, omega (arith, by-length (a .keys) (a .stroke) (a .end) (counted .repeat-count .ensures .0), start .pre .1))
 
 lay-every-requires : tie.Need-lay-every-requires
 lay-every-requires c κs =
@@ -19,7 +20,10 @@ lay-every-requires c κs =
     let counted = first .before in
     let start = counted .before .before in
     let a = start .args in
-    (first .first-repeat .ensures .1, (counted .repeat-count .ensures .1, omega (arith, by-length (a .keys) (a .stroke) (a .end) (counted .repeat-count .ensures .0), start .pre .1)))
+    let each = repeats-held (a .keys) (start .pre .0) (a .stroke .tick) (a .end) (omega (arith, start .fits .end)) in (
+      λ j l. omega (arith, each j (omega (arith, counted .repeat-count .ensures .0)), first .first-repeat .ensures .0),
+      omega (arith, by-length (a .keys) (a .stroke) (a .end) (counted .repeat-count .ensures .0), start .pre .1),
+    )
 
 returns : tie.Need-returns
 returns c =
