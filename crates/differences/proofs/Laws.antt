@@ -1,7 +1,8 @@
--- One place more of the list and of the search, for the loops that look through the screens.
+-- One place more of the list and of the search, for the loops that look through the screens; and the second call's promise of its number and
+-- values, from the answer that the search gives.
 use mathlib.Core.Path.{_≡_, refl, sym, ap, _∙_}
 use mathlib.Core.Bool.{Bool, true, false, cond}
-use Prim.Native.Nat.{ℕ, suc, _+_, _-_, _≤_, _<_}
+use Prim.Native.Nat.{ℕ, zero, suc, _+_, _-_, _≤_, _<_}
 use native.Mathlib.Numerals.{add-one}
 use native.Mathlib.Omega.{arith}
 use mathlib.Core.List.{List, [], _∷_}
@@ -9,9 +10,10 @@ use lib.ListN.{length, getD}
 use lib.Dec.{eqb}
 use borrow.Author.Tests.{eq-eqb, lt-ltb, le-ltb}
 use Rattle.differences.specs.declared.Difference.{Difference}
-use Rattle.differences.specs.declared.First.the-variants.{At, Nothing}
+use Rattle.differences.specs.declared.First.{First}
+use Rattle.differences.specs.declared.First.the-variants.{At, Nothing, Refused}
 use Rattle.differences.specs.Differences.{recordAt, listed, differences, sought}
-use Rattle.differences.specs.Answers.{sized, foundAt, firstOf}
+use Rattle.differences.specs.Answers.{FirstPromised, sized, foundAt, firstOf, firstValues, headOf, nowhere, valuesOf}
 
 -- what of the 640 places is left to look through from p on: the list, and the place that the search finds
 abbrev pub listFrom : ℕ → List ℕ → List ℕ → List Difference
@@ -72,3 +74,25 @@ first-here p a b ha hb h e t =
 pub first-none : (p : ℕ) (a b : List ℕ) → length a ≡ 640 → length b ≡ 640 → 640 ≤ p → placeFrom p a b ≡ placeFrom 0 a b → Nothing ≡ firstOf a b
 first-none p a b ha hb h e =
     sym (ap (λ (x : Bool). cond x (At (recordAt a b p)) Nothing) (le-ltb p 640 h)) ∙ ap (foundAt a b) (sym (place-end p a b h) ∙ e) ∙ sym (first-of a b ha hb)
+
+-- the search finds the head of the list, over n places from p on
+head-found : (n p : ℕ) (a b : List ℕ) → p + n ≡ 640 → valuesOf (foundAt a b (sought n p a b)) ≡ headOf (listed n p a b)
+unfolding sought listed
+head-found zero p a b e = rw (le-ltb p 640 (omega (arith, e)))
+head-found (suc n) p a b e = go (eqb (getD a p 0) (getD b p 0)) (head-found n (suc p) a b (omega (arith, e)))
+  where
+    go : (t : Bool) → valuesOf (foundAt a b (sought n (suc p) a b)) ≡ headOf (listed n (suc p) a b)
+        → valuesOf (foundAt a b (cond t (sought n (suc p) a b) p)) ≡ headOf (cond t (listed n (suc p) a b) (recordAt a b p ∷ listed n (suc p) a b))
+    go true later = later
+    go false later = rw (lt-ltb p 640 (omega (arith, e)))
+
+values-first : (a b : List ℕ) → valuesOf (firstOf a b) ≡ firstValues a b
+unfolding firstOf firstValues differences
+values-first a b = go (sized a b)
+  where
+    go : (t : Bool) → valuesOf (cond t (foundAt a b (sought 640 0 a b)) (Refused 1)) ≡ cond t (headOf (listed 640 0 a b)) (record { number = 1; found = 0; difference = nowhere })
+    go true = head-found 640 0 a b refl
+    go false = refl
+
+pub first-promised : (a b : List ℕ) {r : First} → r ≡ firstOf a b → (r ≡ firstOf a b) × FirstPromised a b (valuesOf r)
+first-promised a b e = let f = ap valuesOf e in (e, record { found-is = f; values-are = f ∙ values-first a b })

@@ -2,7 +2,7 @@
 use mathlib.Core.Path.{_≡_}
 use Prim.Native.Nat.{ℕ}
 use mathlib.Core.Bool.{Bool, cond, _&&_}
-use mathlib.Core.List.{List, _++_}
+use mathlib.Core.List.{List, [], _∷_, _++_}
 use lib.ListN.{length, drop}
 use lib.Dec.{eqb, ltb}
 use Rattle.differences.specs.declared.Difference.{Difference}
@@ -50,3 +50,17 @@ abbrev pub valuesOf : First → FirstValues
 valuesOf (At d) = record { number = 0; found = 1; difference = d }
 valuesOf Nothing = record { number = 0; found = 0; difference = nowhere }
 valuesOf (Refused n) = record { number = n; found = 0; difference = nowhere }
+
+-- "only the first difference, or none", by the list that the first call writes: its head
+abbrev pub headOf : List Difference → FirstValues
+headOf [] = record { number = 0; found = 0; difference = nowhere }
+headOf (d ∷ ds) = record { number = 0; found = 1; difference = d }
+
+-- the second call's number and values without the enum: the list's head, or "1 in both calls"
+unfoldable pub firstValues : List ℕ → List ℕ → FirstValues
+firstValues a b = cond (sized a b) (headOf (differences a b)) (record { number = 1; found = 0; difference = nowhere })
+
+-- what the second call promises of its number and values: they are those of what the search finds, and of the list's head
+pub record FirstPromised (a b : List ℕ) (values : FirstValues) : Type 0 where
+  pub found-is : values ≡ valuesOf (firstOf a b)
+  pub values-are : values ≡ firstValues a b

@@ -5,7 +5,7 @@ mod search;
 
 ghost use mathlib.Core.Path.{_≡_};
 ghost use lib.ListN.{replicate};
-ghost use Rattle.differences.specs.Answers.{ComparePromised, compared, refusedBy, firstOf, valuesOf, nowhere};
+ghost use Rattle.differences.specs.Answers.{ComparePromised, FirstPromised, compared, refusedBy, firstOf, valuesOf, nowhere};
 use search::count;
 use search::record_at;
 use search::seek;
@@ -125,9 +125,10 @@ fn refused(number: u8) -> Compared
     Compared { number, count: 0 }
 }
 
-// Only the first difference: "search row by row from the left and stop at the first".
+// Only the first difference: "search row by row from the left and stop at the first". Promised by the enum, and by the paper's number and
+// values for its cases.
 pub fn first_difference(first: &[u8], second: &[u8]) -> First
-    ensures { λ r. ⌜ r ≡ firstOf (now (first .entry)) (now (second .entry)) ⌝ }
+    ensures { λ r. ⌜ (r ≡ firstOf (now (first .entry)) (now (second .entry))) × FirstPromised (now (first .entry)) (now (second .entry)) (valuesOf r) ⌝ }
 {
     if first.len() != 640 {
         return First::Refused(1);

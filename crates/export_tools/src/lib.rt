@@ -1,8 +1,7 @@
 // The calls for C and Rust that serve no message: the text of a key, the differences of two screens, the repeats of keys, a sequence written. Each promises what its
 // crate's own call does; c/px8.h says it for C.
-ghost use mathlib.Core.Path.{_≡_};
 ghost use Rattle.calls.specs.Calls.{KeyPromised};
-ghost use Rattle.differences.specs.Answers.{ComparePromised, firstOf, valuesOf};
+ghost use Rattle.differences.specs.Answers.{ComparePromised, FirstPromised};
 ghost use Rattle.traces.specs.Call.{RepeatsPromised};
 ghost use Rattle.writer.specs.Promised.{WritePromised};
 ghost use Rattle.writer.specs.Writing.{wantedBy};
@@ -33,7 +32,7 @@ pub extern "C" fn px8_compare(first: &[u8], second: &[u8], list: &mut [Differenc
 // Only the first of them, in numbers: an enum cannot be returned to C.
 #[no_mangle]
 pub extern "C" fn px8_first_difference(first: &[u8], second: &[u8]) -> FirstValues
-    ensures { λ r. ⌜ r ≡ valuesOf (firstOf (now (first .entry)) (now (second .entry))) ⌝ }
+    ensures { λ r. ⌜ FirstPromised (now (first .entry)) (now (second .entry)) r ⌝ }
 {
     let found = differences::first_difference(first, second);
     differences::values(found)

@@ -5,9 +5,9 @@ use Prim.Native.Nat.{_+_, _-_, _*_, _≤_}
 use native.Mathlib.Omega.{arith}
 use borrow.Author.Needs.{needs}
 use borrow.Author.Tests.{eq-eqb, ne-eqb}
-use Rattle.differences.specs.declared.First.the-variants.{At, Nothing}
+use Rattle.differences.specs.declared.First.the-variants.{At, Nothing, Refused}
 use Rattle.differences.specs.Answers.{firstOf, sized}
-use Rattle.differences.proofs.Laws.{placeFrom, place-same, moved, first-here, first-none}
+use Rattle.differences.proofs.Laws.{placeFrom, place-same, moved, first-here, first-none, first-promised}
 use Rattle.differences.proofs.first_difference.Statement.{statement}
 use Rattle.differences.proofs.first_difference.Tie as tie
 
@@ -25,11 +25,11 @@ abbrev μ-rows : tie.MeasureT-rows
 
 returns : tie.Need-returns Inv-loop μ-loop Inv-rows μ-rows
 unfolding firstOf sized
-returns c = simp (ne-eqb _ _ (c .if1 .taken))
+returns c = let a = c .before .before .before .args in first-promised (a .first .now) (a .second .now) {r = Refused 1} (simp (ne-eqb _ _ (c .if1 .taken)))
 
 returns-2 : tie.Need-returns-2 Inv-loop μ-loop Inv-rows μ-rows
 unfolding firstOf sized
-returns-2 c = simp (eq-eqb _ _ (c .before .if1 .left), ne-eqb _ _ (c .if2 .taken))
+returns-2 c = let a = c .before .before .before .before .args in first-promised (a .first .now) (a .second .now) {r = Refused 1} (simp (eq-eqb _ _ (c .before .if1 .left), ne-eqb _ _ (c .if2 .taken)))
 
 loop-holds : tie.Need-loop-holds Inv-loop μ-loop Inv-rows μ-rows
 loop-holds c =
@@ -57,8 +57,9 @@ rows-again c =
 returns-3 : tie.Need-returns-3 Inv-loop μ-loop Inv-rows μ-rows
 returns-3 c =
     let at = c .before in
-    let start = at .before .before .before in
-    at .rows .inv .1 .0 ∙ first-none (at .rows .row * 80) _ _ (at .before .before .if1 .left) (at .before .if2 .left) (omega (arith, c .rows-test .left)) (at .rows .inv .1 .1)
+    let sizes = at .before in
+    let a = sizes .before .before .before .before .args in
+    first-promised (a .first .now) (a .second .now) (at .rows .inv .1 .0 ∙ first-none (at .rows .row * 80) _ _ (sizes .before .if1 .left) (sizes .if2 .left) (omega (arith, c .rows-test .left)) (at .rows .inv .1 .1))
 
 returns-4 : tie.Need-returns-4 Inv-loop μ-loop Inv-rows μ-rows
 returns-4 c =
@@ -66,8 +67,9 @@ returns-4 c =
     let test = c .before in
     let row = at .before .before .rows .row in
     let sizes = at .before .before .before in
-    ap At (c .record-at .ensures)
-    ∙ first-here (row * 80 + at .loop .column) _ _ (sizes .before .if1 .left) (sizes .if2 .left) (omega (arith, at .before .rows-test .taken, c .before .before .before .before .loop-test .taken)) (at .loop .inv .1 .1) (ne-eqb _ _ (test .if3 .taken))
+    let a = sizes .before .before .before .before .args in
+    first-promised (a .first .now) (a .second .now) (ap At (c .record-at .ensures)
+    ∙ first-here (row * 80 + at .loop .column) _ _ (sizes .before .if1 .left) (sizes .if2 .left) (omega (arith, at .before .rows-test .taken, c .before .before .before .before .loop-test .taken)) (at .loop .inv .1 .1) (ne-eqb _ _ (test .if3 .taken)))
 
 pub first-difference-spec : {M : Type 1} → statement M
 first-difference-spec =

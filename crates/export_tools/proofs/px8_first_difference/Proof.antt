@@ -1,9 +1,14 @@
--- `px8_first_difference`: the values of what `first_difference` answers.
-use mathlib.Core.Path.{ap, _∙_}
+-- `px8_first_difference`: the values of what `first_difference` answers, which it promises.
+use mathlib.Core.Path.{_∙_}
 use borrow.Author.Needs.{needs}
-use Rattle.differences.specs.Answers.{valuesOf}
 use Rattle.export_tools.proofs.px8_first_difference.Statement.{statement}
 use Rattle.export_tools.proofs.px8_first_difference.Tie as tie
 
+returns : tie.Need-returns
+returns c =
+    let e = c .values .ensures in
+    let promised = c .before .first-difference .ensures .1 in
+    record { found-is = e ∙ promised .found-is; values-are = e ∙ promised .values-are }
+
 pub px8-first-difference-spec : {M : Type 1} → statement M
-px8-first-difference-spec = tie.close (tie.spec (λ c κs. search needs) (λ c κs. search needs) (λ c. c .values .ensures ∙ ap valuesOf (c .before .first-difference .ensures)))
+px8-first-difference-spec = tie.close (tie.spec (λ c κs. search needs) (λ c κs. search needs) returns)
