@@ -204,9 +204,12 @@ typedef struct px8_keys {
  * In mode 3 there is no screen 2: selected is 0, places[1] is 1, 1, 1 without a
  * flag; display is 1 and kind 3.
  *
- * Settings are sound when every field lies in its range. What the calls return
- * is always sound, or else exactly what was given to a refused call; so only a
- * caller that makes or alters settings can meet number 3.
+ * Settings are sound when every field lies in its range. Two things are judged
+ * that the customer's papers do not name, so that settings that mean the same
+ * are the same bytes: the bytes of `waiting` behind the first `held`, and the
+ * marks from a screen's last line on, are 0. What the calls return is always
+ * sound, or else exactly what was given to a refused call; so only a caller that
+ * makes or alters settings can meet number 3.
  *
  * held, waiting and count are the stream's. No sequence changes them, and a
  * message and a pack leave them. Only px8_key_text changes the texts, only px8_opening the
