@@ -16,6 +16,14 @@ pub enum Kind {
     Line,
     Short,
     Weight,
+    /// letters in their line
+    Letters,
+    /// a carriage return and digits
+    Return,
+    /// a cursor placing and digits
+    Placing,
+    /// letters over a line's end
+    End,
 }
 
 /// One line of the benchmark.
@@ -37,11 +45,15 @@ impl Case {
             Kind::Line => format!("line-{size}-mode-{mode}"),
             Kind::Short => format!("short-{size}-mode-{mode}"),
             Kind::Weight => format!("short-weight-{size}-mode-{mode}"),
+            Kind::Letters => format!("scale-letters-{size}-mode-{mode}"),
+            Kind::Return => format!("scale-return-{size}-mode-{mode}"),
+            Kind::Placing => format!("scale-placing-{size}-mode-{mode}"),
+            Kind::End => format!("scale-end-{size}-mode-{mode}"),
         }
     }
 
     /// Brings an opened terminal to the start: the mode, text on both
-    /// screens, screen 1 selected, and for lifts the last line.
+    /// screens, screen 1 selected, its cursor.
     pub fn start(&self) -> Vec<Vec<u8>> {
         let mode: &[u8] = match self.mode {
             0 => &[ESC, 208, 0, 24, 24],
@@ -56,7 +68,8 @@ impl Case {
             messages.push(random.text(FILLING));
         }
         messages.push(vec![ESC, 209, 0]);
-        messages.push(vec![ESC, 61, 31 + self.first_line() as u8, 32]);
+        let (line, column) = self.cursor();
+        messages.push(vec![ESC, 61, 31 + line as u8, 31 + column as u8]);
         messages
     }
 
@@ -67,15 +80,18 @@ impl Case {
             return None;
         }
         let mut bytes = Random(1).text(FILLING);
-        bytes.extend(format!("\x1b[{};1H", self.first_line()).bytes());
+        let (line, column) = self.cursor();
+        bytes.extend(format!("\x1b[{line};{column}H").bytes());
         Some(bytes)
     }
 
-    fn first_line(&self) -> usize {
-        if self.kind == Kind::Lifts {
-            LINES
-        } else {
-            1
+    /// The cursor's line and column at the start: for lifts on the last line.
+    pub fn cursor(&self) -> (usize, usize) {
+        match self.kind {
+            Kind::Lifts => (LINES, 1),
+            Kind::Letters | Kind::Return | Kind::Placing => (3, 5),
+            Kind::End => (3, if matches!(self.mode, 1 | 2) { 37 } else { 78 }),
+            _ => (1, 1),
         }
     }
 
@@ -84,8 +100,9 @@ impl Case {
         let mut random = Random(2 + self.size as u64);
         let mut message = |size: usize| match self.kind {
             Kind::Paint => Vec::new(),
-            Kind::Text | Kind::Short => random.text(size),
-            Kind::Weight => [vec![13], random.digits(size)].concat(),
+            Kind::Text | Kind::Short | Kind::Letters | Kind::End => random.text(size),
+            Kind::Weight | Kind::Return => [vec![13], random.digits(size)].concat(),
+            Kind::Placing => [random.placing(8), random.digits(size)].concat(),
             Kind::Mixed => random.mixed(size),
             Kind::Lifts => vec![10; size],
             Kind::Pieces => random.pieces(size),
@@ -120,16 +137,17 @@ impl Random {
         (0..size).map(|_| b'0' + self.below(10) as u8).collect()
     }
 
-    fn placing(&mut self) -> Vec<u8> {
-        vec![ESC, 61, 32 + self.below(LINES) as u8, 32 + self.below(30) as u8]
+    /// To one of the first lines, columns 1 to 30.
+    fn placing(&mut self, lines: usize) -> Vec<u8> {
+        vec![ESC, 61, 32 + self.below(lines) as u8, 32 + self.below(30) as u8]
     }
 
     /// An item of a weighing program, by its share in a hundred.
     fn item(&mut self) -> Vec<u8> {
         match self.below(100) {
-            0..=39 => [self.placing(), self.digits(6)].concat(),
+            0..=39 => [self.placing(LINES), self.digits(6)].concat(),
             40..=54 => self.digits(6),
-            55..=69 => [self.placing(), vec![ESC, 84]].concat(),
+            55..=69 => [self.placing(LINES), vec![ESC, 84]].concat(),
             70..=79 => vec![ESC, [150, 151, 212, 213, 215][self.below(5)]],
             80..=87 => vec![ESC, 209, self.below(2) as u8],
             88..=92 => [vec![ESC, 123], self.digits(6), vec![ESC, 125]].concat(),

@@ -30,8 +30,9 @@
 //!
 //! The lines of two screens side by side say their input in `screens`, those
 //! of a stream's pieces and closings in `streams`, those of packs in `packs`, those
-//! of short messages in `shorts`, those of traces of keys in `traces`, those of
-//! sequences written in `writes`.
+//! of short messages in `shorts` and, beside the program that repaints everything, in
+//! `scales`, those of traces of keys in `traces`, those of sequences written in
+//! `writes`.
 //!
 //! A run sends them often enough to last some milliseconds. Each run starts
 //! from the same settings and stores; within a run nothing is cleared. The
@@ -47,6 +48,7 @@
 
 mod input;
 mod packs;
+mod scales;
 mod screens;
 mod shorts;
 mod side;
@@ -84,6 +86,7 @@ fn main() -> ExitCode {
     streams::bench(&word);
     packs::bench(&word);
     shorts::bench(&word);
+    scales::bench(&word);
     traces::bench(&word);
     writes::bench(&word);
     ExitCode::SUCCESS

@@ -7,11 +7,12 @@
 //!
 //! A line is `bench NAME ours NS message NS ratio R repainting NS ratio R message R plain
 //! NS ratio R`: our short call; our message call on the same bytes, and the ratio of the
-//! short call to it; the plain Rust program that repaints all 640 places after each
-//! message (`tuned::message`), and the ratios of our short call and of our message call
-//! to it; plain Rust that paints less too (`tuned::message_short`), and the ratio of our
-//! short call to that. The four take turns in one process, who comes first changes from
-//! run to run, and after every run all have left the same settings and stores.
+//! short call to it; plain Rust made fast that repaints all 640 places after each message
+//! (`tuned::message`; the program written for that is measured in `scales`), and the ratios
+//! of our short call and of our message call to it; plain Rust that paints less too
+//! (`tuned::message_short`), and the ratio of our short call to that. The four take turns in
+//! one process, who comes first changes from run to run, and after every run all have left
+//! the same settings and stores.
 
 use crate::input::{Case, Kind};
 use crate::side::{Board, Calls, Plain, Side, Takes};

@@ -212,8 +212,8 @@ impl Calls for Plain {
 #[derive(Clone)]
 pub struct Side<C: Calls> {
     pub settings: C::Settings,
-    cells: [u8; 3840],
-    layer: [u8; 1280],
+    pub cells: [u8; 3840],
+    pub layer: [u8; 1280],
     shown: [u8; 640],
     dots: [u8; 3840],
     /// No message so far was refused, nor a sequence of one.
@@ -235,6 +235,22 @@ impl<C: Calls> Side<C> {
 
     pub fn message_short(&mut self, message: &[u8]) {
         let Side { settings, cells, layer, shown, dots, .. } = self;
+        let (after, clean) = C::message_short(*settings, message, cells, layer, shown, dots);
+        self.settings = after;
+        self.clean &= clean;
+    }
+
+    /// A message that finds these settings.
+    pub fn message_from(&mut self, settings: &C::Settings, message: &[u8]) {
+        let Side { cells, layer, shown, dots, .. } = self;
+        let (after, clean) = C::message(*settings, message, cells, layer, shown, dots);
+        self.settings = after;
+        self.clean &= clean;
+    }
+
+    /// A short one.
+    pub fn message_short_from(&mut self, settings: &C::Settings, message: &[u8]) {
+        let Side { cells, layer, shown, dots, .. } = self;
         let (after, clean) = C::message_short(*settings, message, cells, layer, shown, dots);
         self.settings = after;
         self.clean &= clean;
