@@ -20,7 +20,7 @@ use Rattle.calls.specs.Claims.{countAfter, waitsAfter}
 use Rattle.model.proofs.Tests.{differ}
 use Rattle.model.proofs.Gathering.{all-bytes, joined-last, joined-uncut}
 use Rattle.model.proofs.LineLaws.{front-padded, held-length, padded-held}
-use Rattle.model.proofs.Lined.{applied-lined}
+use Rattle.laws.proofs.Lined.{applied-lined}
 use Rattle.model.proofs.Events.{apply-append}
 use Rattle.calls.proofs.Printing.{bytes-asked}
 use Rattle.calls.proofs.CallLaws.{granted-leaves, granted-pack, granted-short, granted-quiet, granted-sound, after, refused-leaves}

@@ -30,7 +30,7 @@ use Rattle.model.proofs.Events.{AllLegal}
 use Rattle.model.proofs.ItemLaws.{kept-put, obeyed-item}
 use Rattle.model.proofs.Keep.{Kept, place-other, place-same}
 use Rattle.model.proofs.Steps.{columns-some, fits, kept-late-step, kept-down, kept-right, kept-stored, kept-toColumn}
-use Rattle.model.proofs.Views.{SameView, other-picture, own-picture, same-picture, same-top, view-refl, view-trans}
+use Rattle.laws.proofs.Views.{SameView, other-picture, own-picture, same-picture, same-top, view-refl, view-trans}
 
 not-true : (b : Bool) → not b ≡ true → b ≡ false
 not-true true e = sym e

@@ -6,7 +6,6 @@ pub mod Gathering
 pub mod LineLaws
 pub mod MarkLaws
 pub mod SoundLaws
-pub mod Lined
 pub mod Frames
 pub mod Keep
 pub mod Marking
@@ -14,13 +13,8 @@ pub mod Steps
 pub mod ItemLaws
 pub mod Following
 pub mod Events
-pub mod Lines
-pub mod Logical
 pub mod LateWrap
-pub mod Carried
 pub mod Places
-pub mod ShownPlace
-pub mod Views
 pub mod KeyLaws
 pub mod DotLaws
 pub mod DotsStay

@@ -24,7 +24,7 @@ use Rattle.calls.specs.Claims.{countAfter, waitsAfter}
 use Rattle.model.specs.Answers.{together}
 use Rattle.calls.proofs.CallLaws.{granted-answer, granted-number, granted-painted, granted-prints, answer-number, left-is, plain-record, refused-number}
 use Rattle.calls.proofs.LineAfter.{leaves, leaves-lined}
-use Rattle.model.proofs.Lined.{applied-lined, copies-lined, reads-lined}
+use Rattle.laws.proofs.Lined.{applied-lined, copies-lined, reads-lined}
 use Rattle.calls.proofs.Offsets.{further}
 use Rattle.calls.proofs.PieceServings.{itemsOf, later-counts, later-prints, later-state, piece-answer, piece-prints, piece-state, printsIn, stateOf, taking, taking-all, written-twice}
 use Rattle.calls.proofs.Printing.{printed-is}

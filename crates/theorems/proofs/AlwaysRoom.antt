@@ -22,7 +22,7 @@ use Rattle.theorems.specs.Streams.{met13, roomless}
 use Rattle.model.proofs.Tests.{differ, or-false}
 use Rattle.model.proofs.Gathering.{gathered-append}
 use Rattle.model.proofs.LineLaws.{remaining-length}
-use Rattle.model.proofs.Lined.{item-lined}
+use Rattle.laws.proofs.Lined.{item-lined}
 
 -- reading with always room
 abbrev readWithRoom : ℕ → List ℕ → State → Read

@@ -18,7 +18,7 @@ use Rattle.calls.specs.Claims.{countAfter, waitsAfter}
 use Rattle.calls.specs.Lists.{stands}
 use Rattle.theorems.specs.Streams.{met13, readsOver}
 use Rattle.model.specs.Answers.{together}
-use Rattle.model.proofs.Lined.{applied-lined, copies-lined}
+use Rattle.laws.proofs.Lined.{applied-lined, copies-lined}
 use Rattle.model.proofs.Events.{applied-append}
 use Rattle.calls.proofs.Printing.{printed-reads, prints-append, reads-granted}
 use Rattle.calls.proofs.CallLaws.{granted-answer, granted-leaves, granted-sound, after, refused-answer, refused-leaves, refused-prints}

@@ -20,7 +20,7 @@ use Rattle.calls.specs.Claims.{countAfter, waitsAfter}
 use Rattle.calls.specs.Lists.{Made, left, next, none, requests, stands}
 use Rattle.theorems.specs.Streams.{As, AsMessage, Cut, HoweverCut, Stream, Uncut, closes, cuts, ends, goes, met13, partsOf, readsOver, skips, summed}
 use Rattle.model.specs.Answers.{together}
-use Rattle.model.proofs.Lined.{applied-lined}
+use Rattle.laws.proofs.Lined.{applied-lined}
 use Rattle.model.proofs.Events.{good-all}
 use Rattle.calls.proofs.Printing.{reads-granted, part-is}
 use Rattle.calls.proofs.CallLaws.{granted-answer, granted-leaves, granted-prints, granted-sized, after, left-is, legal-in, message-granted, number-good, refused-leaves, refused-number, sized-served, state-served, is-granted, number-is}

@@ -8,18 +8,18 @@ use lib.ListN.{getD, length, set}
 use lib.Seq.{getD-set-other, getD-set-same}
 use lib.Dec.{eqb, leb, ltb}
 use borrow.Author.Tests.{eq-eqb, eqb-false, eqb-true, leb-false, leb-true, lt-ltb, ltb-true}
 use Rattle.model.specs.declared.Settings.{Settings}
 use Rattle.model.specs.State.{State}
 use Rattle.model.specs.Screens.{base, cellAt, columnsHere, columnsOf, here, lineAt, linesHere, placeOf, size, textRows}
 use Rattle.model.specs.Sound.{Good, Shaped, mode0, mode1, mode2, mode3}
 use Rattle.model.specs.Picture.{covered, halves, picture, pictureAt, sides, textAt, under, windowAt}
 use Rattle.model.specs.Rules.{shownAt, stored, emptyAt}
 use Rattle.model.proofs.Tests.{cond-at, differ}
 use Rattle.model.proofs.Places.{Shows, all, alone, left-half, left-side, picture-shows, right-half, right-side}
-use Rattle.model.proofs.ShownPlace.{shown-only, shown-there}
+use Rattle.laws.proofs.ShownPlace.{shown-only, shown-there}
 use Rattle.model.proofs.Events.{cell-inside}
 use Rattle.model.proofs.Keep.{chosen, within}
 use Rattle.model.proofs.Steps.{fits}
 
 -- a test between two ways, each of which is the same
 elim-both : (b : Bool) {x y u v : ℕ} → (b ≡ true → x ≡ u) → (b ≡ false → y ≡ v) → _≡_ {A = ℕ} (elim b [ true ↦ x | false ↦ y ]) (elim b [ true ↦ u | false ↦ v ])
