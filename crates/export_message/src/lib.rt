@@ -7,20 +7,23 @@ ghost use lib.ListN.{length};
 ghost use Rattle.calls.specs.Calls.{Promised, called, terminal};
 ghost use Rattle.calls.specs.Opening.{OpeningPromised, firstPart};
 use model::Answer;
-use model::Opened;
 use model::Settings;
 
+// The settings that stood are not looked at.
 #[no_mangle]
-pub extern "C" fn px8_opening(
+pub extern "C" fn px8_opening_l2(
+    settings: &mut Settings,
     rule: usize,
     cells: &mut [u8],
     layer: &mut [u8],
     shown: &mut [u8],
     dots: &mut [u8],
-) -> Opened
-    ensures { λ r. ⌜ OpeningPromised rule (now (cells .entry)) (now (layer .entry)) (now (dots .entry)) (now (shown .entry)) (r .settings) (r .number) (now (cells .exit)) (now (layer .exit)) (now (dots .exit)) (now (shown .exit)) ⌝ }
+) -> u8
+    ensures { λ r. ⌜ OpeningPromised rule (now (cells .entry)) (now (layer .entry)) (now (dots .entry)) (now (shown .entry)) (now (settings .exit)) r (now (cells .exit)) (now (layer .exit)) (now (dots .exit)) (now (shown .exit)) ⌝ }
 {
-    terminal::opening(rule, cells, layer, shown, dots)
+    let o = terminal::opening(rule, cells, layer, shown, dots);
+    *settings = o.settings;
+    o.number
 }
 
 #[no_mangle]
@@ -43,7 +46,7 @@ pub extern "C" fn px8_message_l2(
 
 // The length of the part that the printer call hands back: a reference cannot be returned to C.
 #[no_mangle]
-pub extern "C" fn px8_printed(buffer: &[u8], count: usize) -> usize
+pub extern "C" fn px8_printed_l2(buffer: &[u8], count: usize) -> usize
     ensures { λ r. ⌜ r ≡ length (firstPart count (now (buffer .entry))) ⌝ }
 {
     let part = terminal::printed(buffer, count);

@@ -1,8 +1,11 @@
 pub mod Locals
-pub mod Again
-pub mod Lend
+pub mod Handing
+pub mod Lending
+pub mod Calling
+pub mod Changing
+pub mod Looking
+pub mod Telling
+pub mod Opening
 pub mod Outcomes
 pub mod Params
 pub mod Prelude
-pub mod Both
-pub mod Shown
