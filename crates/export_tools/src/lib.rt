@@ -1,5 +1,5 @@
-// The calls for C and Rust that serve no message: the text of a key, the differences of two screens, the repeats of keys, a sequence written. Each promises what its
-// crate's own call does; c/px8.h says it for C.
+// The calls for C and Rust that serve no message: the text of a key, the differences of two screens, the repeats of keys, a sequence written; settings and answer lent,
+// slices as pointer and length. Each promises what its crate's own call does; c/px8.h says it for C.
 ghost use Rattle.calls.specs.Calls.{KeyPromised};
 ghost use Rattle.differences.specs.Answers.{ComparePromised, FirstPromised};
 ghost use Rattle.traces.specs.Call.{RepeatsPromised};
@@ -8,30 +8,48 @@ ghost use Rattle.writer.specs.Writing.{wantedBy};
 use differences::Compared;
 use differences::Difference;
 use differences::FirstValues;
-use model::Outcome;
+use model::Answer;
 use model::Settings;
 use traces::Repeats;
 use writer::Reached;
 
 // Document 02, P2: the text of a key, which row 8 shows under ESC 211,0 from the next message on.
 #[no_mangle]
-pub extern "C" fn px8_key_text(settings: Settings, number: usize, text: &[u8]) -> Outcome
-    ensures { λ r. ⌜ KeyPromised number (now (text .entry)) settings (r .answer) (r .settings) ⌝ }
+pub extern "C" fn px8_key_text_l2(
+    settings: &mut Settings,
+    answer: &mut Answer,
+    number: usize,
+    text: &[u8],
+)
+    ensures { λ _. ⌜ KeyPromised number (now (text .entry)) (now (settings .entry)) (now (answer .exit)) (now (settings .exit)) ⌝ }
 {
-    terminal::key(settings, number, text)
+    let o = terminal::key(*settings, number, text);
+    *settings = o.settings;
+    *answer = o.answer;
 }
 
 // Document 02, P4: a record for each place where two shown screens differ.
 #[no_mangle]
-pub extern "C" fn px8_compare(first: &[u8], second: &[u8], list: &mut [Difference]) -> Compared
-    ensures { λ r. ⌜ ComparePromised (now (first .entry)) (now (second .entry)) (now (list .entry)) r (now (list .exit)) ⌝ }
+pub extern "C" fn px8_compare_l2(
+    answer: &mut Compared,
+    first: &[u8],
+    second: &[u8],
+    list: &mut [Difference],
+)
+    ensures { λ _. ⌜ ComparePromised (now (first .entry)) (now (second .entry)) (now (list .entry)) (now (answer .exit)) (now (list .exit)) ⌝ }
 {
-    differences::compare(first, second, list)
+    *answer = differences::compare(first, second, list);
 }
 
-// Only the first of them, in numbers: an enum cannot be returned to C.
+// Only the first of them, in numbers: an enum cannot be handed to C.
 #[no_mangle]
-pub extern "C" fn px8_first_difference(first: &[u8], second: &[u8]) -> FirstValues
+pub extern "C" fn px8_first_difference_l2(answer: &mut FirstValues, first: &[u8], second: &[u8])
+    ensures { λ _. ⌜ FirstPromised (now (first .entry)) (now (second .entry)) (now (answer .exit)) ⌝ }
+{
+    *answer = first_values(first, second);
+}
+
+fn first_values(first: &[u8], second: &[u8]) -> FirstValues
     ensures { λ r. ⌜ FirstPromised (now (first .entry)) (now (second .entry)) r ⌝ }
 {
     let found = differences::first_difference(first, second);
@@ -40,22 +58,28 @@ pub extern "C" fn px8_first_difference(first: &[u8], second: &[u8]) -> FirstValu
 
 // Document 02, P13: the codes that a trace of presses and releases sends.
 #[no_mangle]
-pub extern "C" fn px8_key_repeats(settings: Settings, trace: &[u8], output: &mut [u8]) -> Repeats
-    ensures { λ r. ⌜ RepeatsPromised settings (now (trace .entry)) (now (output .entry)) r (now (output .exit)) ⌝ }
+pub extern "C" fn px8_key_repeats_l2(
+    settings: &Settings,
+    answer: &mut Repeats,
+    trace: &[u8],
+    output: &mut [u8],
+)
+    ensures { λ _. ⌜ RepeatsPromised (now (settings .entry)) (now (trace .entry)) (now (output .entry)) (now (answer .exit)) (now (output .exit)) ⌝ }
 {
-    traces::key_repeats(settings, trace, output)
+    *answer = traces::key_repeats(*settings, trace, output);
 }
 
 // Document 02, P7: a sequence written into an outgoing buffer from a place on, by its second byte and its parameters, since an enum cannot be handed over by C.
 #[no_mangle]
-pub extern "C" fn px8_write(
-    settings: Settings,
+pub extern "C" fn px8_write_l2(
+    settings: &Settings,
+    answer: &mut Reached,
     second: u8,
     parameters: &[u8],
     buffer: &mut [u8],
     place: usize,
-) -> Reached
-    ensures { λ r. ⌜ WritePromised settings (wantedBy settings second (now (parameters .entry))) (now (buffer .entry)) place (now (buffer .exit)) r ⌝ }
+)
+    ensures { λ _. ⌜ WritePromised (now (settings .entry)) (wantedBy (now (settings .entry)) second (now (parameters .entry))) (now (buffer .entry)) place (now (buffer .exit)) (now (answer .exit)) ⌝ }
 {
-    writer::write_bytes(settings, second, parameters, buffer, place)
+    *answer = writer::write_bytes(*settings, second, parameters, buffer, place);
 }

@@ -1,8 +1,8 @@
--- `px8_first_difference`: the values of what `first_difference` answers, which it promises.
+-- `first_values`: the values of what `first_difference` answers, which it promises.
 use mathlib.Core.Path.{_∙_}
 use borrow.Author.Needs.{needs}
-use Rattle.export_tools.proofs.px8_first_difference.Statement.{statement}
-use Rattle.export_tools.proofs.px8_first_difference.Tie as tie
+use Rattle.export_tools.proofs.first_values.Statement.{statement}
+use Rattle.export_tools.proofs.first_values.Tie as tie
 
 returns : tie.Need-returns
 returns c =
@@ -10,5 +10,5 @@ returns c =
     let promised = c .before .first-difference .ensures .1 in
     record { found-is = e ∙ promised .found-is; values-are = e ∙ promised .values-are }
 
-pub px8-first-difference-spec : {M : Type 1} → statement M
-px8-first-difference-spec = tie.close (tie.spec (λ c κs. search needs) (λ c κs. search needs) returns)
+pub first-values-spec : {M : Type 1} → statement M
+first-values-spec = tie.close (tie.spec (λ c κs. search needs) (λ c κs. search needs) returns)
