@@ -5,7 +5,7 @@
  * the late wrap, mode 3, packs, short messages and written sequences give what document 02
  * says of them, and refused calls leave every byte alone.
  *
- *   gcc -std=c99 -o abi abi.c libboard.a && ./abi
+ *   gcc -std=c99 -o abi abi.c libpx8.a && ./abi
  *
  * The last line is `N passed, M failed`; the exit status is 0 if M is 0.
  */
@@ -67,43 +67,6 @@ static int guards_stay(void)
            memcmp(at.after, copy.after, GUARD) == 0;
 }
 
-static px8_opened open_desk(void)
-{
-    return px8_opening(1, STORES);
-}
-
-static px8_opened open_late(void)
-{
-    return px8_opening(2, STORES);
-}
-
-static px8_outcome send_message(px8_settings settings, const uint8_t *message, size_t length)
-{
-    return px8_message(settings, message, length, STORES, at.printer, ROOM);
-}
-
-static px8_outcome send_short(px8_settings settings, const uint8_t *message, size_t length)
-{
-    return px8_message_short(settings, message, length, STORES, at.printer, ROOM);
-}
-
-static px8_outcome send_piece(px8_settings settings, const uint8_t *piece, size_t length)
-{
-    return px8_piece(settings, piece, length, STORES, at.printer, ROOM);
-}
-
-static px8_pack_outcome send_pack(px8_settings settings, const uint8_t *pack, size_t length)
-{
-    return px8_pack(settings, pack, length, STORES, at.printer, ROOM);
-}
-
-static px8_outcome close_stream(px8_settings settings)
-{
-    return px8_closing(settings, STORES);
-}
-
-/* ---- the opening ---- */
-
 static int all(const uint8_t *bytes, size_t length, uint8_t value)
 {
     size_t n;
@@ -113,6 +76,207 @@ static int all(const uint8_t *bytes, size_t length, uint8_t value)
     return 1;
 }
 
+/* ---- the calls, with what they leave handed back ---- */
+
+/* Settings and answer as they are lent, with bytes between them that nobody may write. */
+typedef struct loan {
+    uint8_t before[GUARD];
+    px8_settings settings;
+    uint8_t between[GUARD];
+    px8_pack_answer answer;
+    uint8_t after[GUARD];
+} loan;
+
+typedef struct result {
+    px8_settings settings;
+    px8_answer answer;
+} result;
+
+typedef struct pack_result {
+    px8_settings settings;
+    px8_answer answer;
+    uint32_t record;
+} pack_result;
+
+typedef struct opening_result {
+    px8_settings settings;
+    uint8_t number;
+} opening_result;
+
+#define LENT 0x5A
+
+static loan lent;
+
+/* What an answer holds before a call is not read, nor are the settings by an opening. */
+static void lend(const px8_settings *settings)
+{
+    memset(&lent, LENT, sizeof lent);
+    if (settings)
+        lent.settings = *settings;
+}
+
+static void check_lent(void)
+{
+    if (!all(lent.before, GUARD, LENT) || !all(lent.between, GUARD, LENT) || !all(lent.after, GUARD, LENT))
+        check(0, "written beside settings or answer");
+}
+
+static result taken_back(void)
+{
+    result r;
+    check_lent();
+    if (!all((const uint8_t *)&lent.answer.record, sizeof lent.answer.record, LENT))
+        check(0, "written behind an answer");
+    r.settings = lent.settings;
+    r.answer = lent.answer.answer;
+    return r;
+}
+
+/* The parameters of the four stores, as they are declared and as they are handed on. */
+#define STORE_PARAMETERS \
+    uint8_t *cells, size_t cells_length, uint8_t *layer, size_t layer_length, uint8_t *shown, \
+        size_t shown_length, uint8_t *dots, size_t dots_length
+#define STORE_ARGUMENTS cells, cells_length, layer, layer_length, shown, shown_length, dots, dots_length
+
+static opening_result call_opening(px8_size rule, STORE_PARAMETERS)
+{
+    opening_result r;
+    lend(NULL);
+    r.number = px8_opening(&lent.settings, rule, STORE_ARGUMENTS);
+    r.settings = taken_back().settings;
+    return r;
+}
+
+/* px8_message, px8_message_short and px8_piece take and give the same. */
+typedef void reading(px8_settings *, px8_answer *, const uint8_t *, px8_size, uint8_t *, px8_size, uint8_t *,
+                     px8_size, uint8_t *, px8_size, uint8_t *, px8_size, uint8_t *, px8_size);
+
+static result call_reading(reading *read, px8_settings settings, const uint8_t *bytes, size_t length,
+                           STORE_PARAMETERS, uint8_t *printer, size_t printer_length)
+{
+    lend(&settings);
+    read(&lent.settings, &lent.answer.answer, bytes, length, STORE_ARGUMENTS, printer, printer_length);
+    return taken_back();
+}
+
+static result call_message(px8_settings settings, const uint8_t *bytes, size_t length, STORE_PARAMETERS,
+                           uint8_t *printer, size_t printer_length)
+{
+    return call_reading(px8_message, settings, bytes, length, STORE_ARGUMENTS, printer, printer_length);
+}
+
+static result call_short(px8_settings settings, const uint8_t *bytes, size_t length, STORE_PARAMETERS,
+                         uint8_t *printer, size_t printer_length)
+{
+    return call_reading(px8_message_short, settings, bytes, length, STORE_ARGUMENTS, printer, printer_length);
+}
+
+static result call_piece(px8_settings settings, const uint8_t *bytes, size_t length, STORE_PARAMETERS,
+                         uint8_t *printer, size_t printer_length)
+{
+    return call_reading(px8_piece, settings, bytes, length, STORE_ARGUMENTS, printer, printer_length);
+}
+
+static result call_closing(px8_settings settings, STORE_PARAMETERS)
+{
+    lend(&settings);
+    px8_closing(&lent.settings, &lent.answer.answer, STORE_ARGUMENTS);
+    return taken_back();
+}
+
+static pack_result call_pack(px8_settings settings, const uint8_t *pack, size_t length, STORE_PARAMETERS,
+                             uint8_t *printer, size_t printer_length)
+{
+    pack_result r;
+    lend(&settings);
+    px8_pack(&lent.settings, &lent.answer, pack, length, STORE_ARGUMENTS, printer, printer_length);
+    check_lent();
+    r.settings = lent.settings;
+    r.answer = lent.answer.answer;
+    r.record = lent.answer.record;
+    return r;
+}
+
+static result call_key_text(px8_settings settings, px8_size number, const uint8_t *text, size_t length)
+{
+    lend(&settings);
+    px8_key_text(&lent.settings, &lent.answer.answer, number, text, length);
+    return taken_back();
+}
+
+static px8_compared call_compare(const uint8_t *first, size_t first_length, const uint8_t *second,
+                                 size_t second_length, px8_difference *list, size_t list_length)
+{
+    px8_compared answer;
+    memset(&answer, LENT, sizeof answer);
+    px8_compare(&answer, first, first_length, second, second_length, list, list_length);
+    return answer;
+}
+
+static px8_first call_first(const uint8_t *first, size_t first_length, const uint8_t *second,
+                            size_t second_length)
+{
+    px8_first answer;
+    memset(&answer, LENT, sizeof answer);
+    px8_first_difference(&answer, first, first_length, second, second_length);
+    return answer;
+}
+
+static px8_repeats call_repeats(px8_settings settings, const uint8_t *trace, size_t trace_length,
+                                uint8_t *output, size_t output_length)
+{
+    px8_repeats answer;
+    memset(&answer, LENT, sizeof answer);
+    px8_key_repeats(&settings, &answer, trace, trace_length, output, output_length);
+    return answer;
+}
+
+static px8_reached call_write(px8_settings settings, uint8_t second, const uint8_t *parameters,
+                              size_t parameters_length, uint8_t *buffer, size_t buffer_length, px8_size place)
+{
+    px8_reached answer;
+    memset(&answer, LENT, sizeof answer);
+    px8_write(&settings, &answer, second, parameters, parameters_length, buffer, buffer_length, place);
+    return answer;
+}
+
+static opening_result open_desk(void)
+{
+    return call_opening(1, STORES);
+}
+
+static opening_result open_late(void)
+{
+    return call_opening(2, STORES);
+}
+
+static result send_message(px8_settings settings, const uint8_t *message, size_t length)
+{
+    return call_message(settings, message, length, STORES, at.printer, ROOM);
+}
+
+static result send_short(px8_settings settings, const uint8_t *message, size_t length)
+{
+    return call_short(settings, message, length, STORES, at.printer, ROOM);
+}
+
+static result send_piece(px8_settings settings, const uint8_t *piece, size_t length)
+{
+    return call_piece(settings, piece, length, STORES, at.printer, ROOM);
+}
+
+static pack_result send_pack(px8_settings settings, const uint8_t *pack, size_t length)
+{
+    return call_pack(settings, pack, length, STORES, at.printer, ROOM);
+}
+
+static result close_stream(px8_settings settings)
+{
+    return call_closing(settings, STORES);
+}
+
+/* ---- the opening ---- */
+
 static void opening_settings(px8_settings s)
 {
     int screen;
@@ -121,7 +285,7 @@ static void opening_settings(px8_settings s)
     check(s.boundary == 32 && s.selected == 0, "opening: boundary and selected");
     for (screen = 0; screen < 2; screen++)
         check(s.places[screen].line == 1 && s.places[screen].column == 1 &&
-                  s.places[screen].top == 1 && s.places[screen].waiting == 0,
+                  s.places[screen].top == 1 && s.places[screen].late == 0,
               "opening: places");
     check(s.tracking == 1 && s.step == 1 && s.secret == 0, "opening: window and secret");
     check(s.cursor == 1 && s.display == 1 && s.kind == 0, "opening: cursor and display");
@@ -132,13 +296,13 @@ static void opening_settings(px8_settings s)
     check(all(s.patterns, PX8_PATTERNS, 0), "opening: patterns");
     check(all(s.waiting, PX8_WAITING_MOST, 0) && s.held == 0 && s.count == 0, "opening: stream");
     check(all(s.texts, PX8_TEXTS, PX8_BLANK), "opening: texts");
-    check(all(s.marks, PX8_LINE_MARKS, 0), "opening: marks");
+    check(all((const uint8_t *)s.marks, sizeof s.marks, 0), "opening: marks");
     check(s.rule == 1, "opening: rule");
 }
 
 static void opening(void)
 {
-    px8_opened opened;
+    opening_result opened;
     fill_desk();
     opened = open_desk();
     check(opened.number == PX8_SERVED, "opening: number");
@@ -153,13 +317,21 @@ static void opening(void)
 
 /* ---- every field of the settings ---- */
 
-/* Before the padding all bytes count; behind it there are the count, the texts, the
- * marks and the rule. */
+#define SAME(field) (memcmp(&one.field, &other.field, sizeof one.field) == 0)
+
+/* Field by field, since there are padding bytes. */
 static int same_settings(px8_settings one, px8_settings other)
 {
-    return memcmp(&one, &other, offsetof(px8_settings, waiting) + PX8_WAITING_MOST) == 0 && one.count == other.count &&
-           memcmp(one.texts, other.texts, PX8_TEXTS) == 0 &&
-           memcmp(one.marks, other.marks, PX8_LINE_MARKS) == 0 && one.rule == other.rule;
+    return SAME(mode) && SAME(lines1) && SAME(lines2) && SAME(columns1) && SAME(columns2) && SAME(boundary) &&
+           SAME(selected) && SAME(places) && SAME(tracking) && SAME(step) && SAME(secret) && SAME(cursor) &&
+           SAME(display) && SAME(kind) && SAME(keys) && SAME(patterns) && SAME(held) && SAME(waiting) &&
+           SAME(count) && SAME(texts) && SAME(marks) && SAME(rule);
+}
+
+/* Line 1 to 48 of screen 1 (0) or 2 (1) runs on. */
+static void run_on(px8_settings *s, int screen, int line)
+{
+    s->marks[PX8_MARK_AT(screen, line)] = 1;
 }
 
 /* Sends the bytes to a terminal just opened: the settings afterwards must be
@@ -167,7 +339,7 @@ static int same_settings(px8_settings one, px8_settings other)
 static void check_settings(px8_settings expected, const uint8_t *bytes, size_t length,
                            const char *what)
 {
-    px8_outcome outcome;
+    result outcome;
     fill_desk();
     outcome = send_message(open_desk().settings, bytes, length);
     check(outcome.answer.number == 0 && outcome.answer.refused == 0 &&
@@ -269,7 +441,7 @@ static void waiting(void)
     size_t length;
     px8_settings s;
     for (length = 1; length <= sizeof bytes; length++) {
-        px8_outcome outcome;
+        result outcome;
         fill_desk();
         s = open_desk().settings;
         outcome = send_piece(s, bytes, length);
@@ -291,12 +463,12 @@ static void texts(void)
     uint8_t text[PX8_KEY_TEXT];
     size_t key, n;
     px8_settings s = open_desk().settings;
-    px8_outcome outcome;
+    result outcome;
     fill_desk();
     for (key = 1; key <= PX8_KEYS; key++) {
         for (n = 0; n < PX8_KEY_TEXT; n++)
             text[n] = (uint8_t)(250 - 9 * key + n);
-        outcome = px8_key_text(s, key, text, PX8_KEY_TEXT);
+        outcome = call_key_text(s, key, text, PX8_KEY_TEXT);
         memcpy(s.texts + PX8_KEY_TEXT * (key - 1), text, PX8_KEY_TEXT);
         check(outcome.answer.number == PX8_SERVED && outcome.answer.taken == 0 &&
                   outcome.answer.accepted == 0 && outcome.answer.refused == 0 &&
@@ -321,7 +493,7 @@ static void marks(void)
             s.selected = (uint8_t)screen;
             s.tracking = 0;
             s.places[screen].line = (uint8_t)(line + 1);
-            s.marks[PX8_MARK_AT(screen, line)] = 1;
+            run_on(&s, screen, line);
             check_settings(s, bytes, sizeof bytes, "marks");
         }
 }
@@ -383,7 +555,7 @@ static int answers(px8_answer a, uint32_t taken, uint32_t accepted, uint32_t ref
            a.refused == refused && a.first == first && a.offset == offset && guards_stay();
 }
 
-static px8_outcome put_piece(px8_settings settings, const char *bytes)
+static result put_piece(px8_settings settings, const char *bytes)
 {
     return send_piece(settings, (const uint8_t *)bytes, strlen(bytes));
 }
@@ -391,7 +563,7 @@ static px8_outcome put_piece(px8_settings settings, const char *bytes)
 /* 27, 27 cut in two; what follows is printed. */
 static void stream_escapes(void)
 {
-    px8_outcome out;
+    result out;
     fill_desk();
     out = put_piece(open_desk().settings, "A\33");
     check(answers(out.answer, 2, 0, 0, 0, 0), "stream: ESC waits");
@@ -406,13 +578,13 @@ static void stream_escapes(void)
 static void stream_selects(void)
 {
     static const uint8_t message[] = {'A'}, second[] = {27, 209, 1}, open_end[] = {27, 209};
-    px8_outcome out;
+    result out;
     fill_desk();
     out = put_piece(open_desk().settings, "AAAAA\33\321");
     check(out.settings.count == 7 && out.settings.held == 2, "stream: 27, 209 waits");
     copy = at;
     {
-        const px8_outcome refused = send_message(out.settings, message, sizeof message);
+        const result refused = send_message(out.settings, message, sizeof message);
         check(refused.answer.number == PX8_BYTES_WAIT && refused.answer.taken == 0 &&
                   same_settings(refused.settings, out.settings) && memcmp(&at, &copy, sizeof at) == 0,
               "stream: message refused by 16");
@@ -435,7 +607,7 @@ static void stream_offsets(void)
     static uint8_t text[PX8_MESSAGE_MOST];
     static const uint8_t front[] = {27, 224, 224, 1, 2, 3}, rest[] = {4, 5, 6, 7, 8, 27, 99};
     static const uint8_t rows[] = {1, 2, 3, 4, 5, 6, 7, 8};
-    px8_outcome out;
+    result out;
     memset(text, 'A', sizeof text);
     fill_desk();
     out = send_piece(open_desk().settings, text, sizeof text);
@@ -452,11 +624,11 @@ static void stream_offsets(void)
 static void stream_copies(void)
 {
     static const uint8_t escape[] = {27, 80, 27}, copies[] = {80};
-    px8_outcome out;
+    result out;
     fill_desk();
     out = send_piece(open_desk().settings, escape, sizeof escape);
     check(answers(out.answer, 3, 1, 0, 0, 0) && out.answer.printed == PX8_COPY, "stream: a copy");
-    check(answers(px8_piece(out.settings, copies, 1, STORES, at.printer, PX8_COPY - 1).answer,
+    check(answers(call_piece(out.settings, copies, 1, STORES, at.printer, PX8_COPY - 1).answer,
                   1, 0, 1, PX8_NO_ROOM, 2),
           "stream: 13 at 2");
     fill_desk();
@@ -471,7 +643,7 @@ static void stream_copies(void)
 static void stream_messages(void)
 {
     static const uint8_t message[] = {'B', 27};
-    px8_outcome out;
+    result out;
     fill_desk();
     out = put_piece(open_desk().settings, "A");
     out = send_message(out.settings, message, sizeof message);
@@ -498,7 +670,7 @@ static void stream_paints(void)
 
 static px8_settings with_text(px8_settings settings, size_t key, const char *text)
 {
-    return px8_key_text(settings, key, (const uint8_t *)text, strlen(text)).settings;
+    return call_key_text(settings, key, (const uint8_t *)text, strlen(text)).settings;
 }
 
 /* A text is seen from the next message on, in row 8 and in a copy. */
@@ -507,7 +679,7 @@ static void key_line(void)
     static const uint8_t show[] = {27, 211, 0}, copies[] = {27, 80};
     const uint8_t *row_8 = at.shown + PX8_AT(8, 1);
     px8_settings settings;
-    px8_outcome out;
+    result out;
     fill_desk();
     settings = send_message(open_desk().settings, show, sizeof show).settings;
     settings = with_text(settings, 10, "AAAAAAAA");
@@ -551,7 +723,7 @@ static void key_line_windows(void)
     static const uint8_t ends[] = {27, 211, 0, 27, 209, 1, 27, 213, 27, 209, 0, 27, 210, 1, 1, '*'};
     static const uint8_t back[] = {27, 211, 1}, step[] = {27, 148, 8};
     static const uint8_t half[] = {27, 211, 0, 27, 208, 1, 16, 27, 61, 39, 32, 'A'};
-    px8_outcome out;
+    result out;
     fill_desk();
     out = send_message(open_desk().settings, steps, sizeof steps);
     check(out.settings.step == 7 && out.settings.places[0].top == 5, "key line: step and top");
@@ -569,7 +741,7 @@ static void key_line_windows(void)
 /* ---- packs ---- */
 
 /* A pack is served: taken, accepted, first refusal with its record and offset. */
-static px8_settings check_pack(px8_pack_outcome out, uint32_t taken, uint32_t accepted, uint8_t first,
+static px8_settings check_pack(pack_result out, uint32_t taken, uint32_t accepted, uint8_t first,
                                uint32_t record, uint32_t offset, const char *what)
 {
     const px8_answer a = out.answer;
@@ -585,12 +757,12 @@ static void packs(void)
     static const uint8_t copies[] = {2, 0, 1, 0, 27, 80, 0, 0, 1, 0, 3, 0, 1, 0, 'B', 27, 80};
     static const uint8_t own[] = {3, 0, 1, 0, 27, 209, 1, 2, 0, 1, 0, 27, 209,
                                   6, 0, 1, 0, 66, 27,  61, 99, 32, 67};
-    px8_pack_outcome out;
+    pack_result out;
     fill_desk();
     check_pack(send_pack(open_desk().settings, cut, sizeof cut), 2, 0, PX8_CUT, 1, 0, "pack: a cut sequence");
     check(at.cells[0] == 80 && at.shown[0] == 80, "pack: the next message");
     fill_desk();
-    out = px8_pack(open_desk().settings, copies, sizeof copies, STORES, at.printer, 2 * PX8_COPY - 1);
+    out = call_pack(open_desk().settings, copies, sizeof copies, STORES, at.printer, 2 * PX8_COPY - 1);
     check_pack(out, 5, 1, PX8_NO_ROOM, 3, 1, "pack: the room left over");
     check(out.answer.printed == PX8_COPY &&
               memcmp(at.printer + PX8_COPY, copy.printer + PX8_COPY, ROOM - PX8_COPY) == 0,
@@ -628,7 +800,7 @@ static void empty_packs(void)
  * rows 1 to 7 it paints. It has to be served, and row 8 to be painted whole. */
 static int painted(px8_settings settings, const uint8_t *bytes, size_t length)
 {
-    px8_outcome out;
+    result out;
     int n, count = 0;
     memset(at.shown, 'X', PX8_SHOWN);
     out = send_short(settings, bytes, length);
@@ -673,7 +845,7 @@ static void short_messages(void)
     check(PAINTED(open_at(9, 1, 10), "\r\n\n\n\n\n\n\n\n") == ROWS_1_TO_7, "short: a top that comes back");
     s = open_at(1, 80, 1);
     s.rule = 2;
-    s.places[0].waiting = 1;
+    s.places[0].late = 1;
     check(PAINTED(s, "A") == 1 && at.shown[PX8_AT(2, 1)] == 'A', "short: the late step");
     s = HOME;
     s.secret = 1;
@@ -710,7 +882,7 @@ static void short_as_message(void)
 {
     static const uint8_t bytes[] = {'3', '8', 27, 61, 33, 111, 'A', 'B', 27, 80, 27, 9, 8, 10, 13, 27, 210, 2, 2, 90, 27, 61, 33, 33, 'C'};
     static desk left;
-    px8_outcome one, other;
+    result one, other;
     size_t cut;
     for (cut = 0; cut <= sizeof bytes; cut++) {
         fill_desk();
@@ -744,7 +916,7 @@ static void stale_screens(void)
     s = send_message(s, NULL, 0).settings;
     check(memcmp(at.shown, "1234 ", 5) == 0 && all(at.shown + 4, PX8_SHOWN - 4, PX8_BLANK), "short: painted");
     s = send_message(s, key_line_on, sizeof key_line_on).settings;
-    s = px8_key_text(s, 1, text, PX8_KEY_TEXT).settings;
+    s = call_key_text(s, 1, text, PX8_KEY_TEXT).settings;
     check(all(at.shown + PX8_AT(PX8_ROWS, 1), PX8_WIDTH, PX8_BLANK), "short: a key text not seen yet");
     send_short(s, NULL, 0);
     check(memcmp(at.shown + PX8_AT(PX8_ROWS, 1), text, PX8_KEY_TEXT) == 0 && guards_stay(), "short: a key text");
@@ -753,12 +925,12 @@ static void stale_screens(void)
 /* ---- mode 3 ---- */
 
 /* Mode 3, then the bytes; just these two bytes of the dots are not 0. */
-static px8_outcome check_dots(const uint8_t *bytes, size_t length, size_t at1, uint8_t byte1, size_t at2,
+static result check_dots(const uint8_t *bytes, size_t length, size_t at1, uint8_t byte1, size_t at2,
                               uint8_t byte2, const char *what)
 {
     static const uint8_t mode[] = {27, 208, 3};
     static uint8_t expected[PX8_DOTS];
-    px8_outcome out;
+    result out;
     memset(expected, 0, sizeof expected);
     expected[at1] = byte1;
     expected[at2] = byte2;
@@ -828,7 +1000,7 @@ static void manual_line(void)
 {
     static const uint8_t bytes[] = {27, 208, 3, 'A', 27, 123, 27, 198, 1, 144, 0, 18, 0, 18, 0, 18, 170, 170, 2};
     static const uint8_t copies[] = {27, 80};
-    px8_outcome out;
+    result out;
     fill_desk();
     out = send_message(open_desk().settings, bytes, sizeof bytes);
     check(out.answer.refused == 0 && at.dots[1082] == 42 && all(at.dots + 1083, 47, 170) && at.dots[1130] == 128 &&
@@ -836,7 +1008,7 @@ static void manual_line(void)
           "dots: the manual's line");
     check(all(at.shown, PX8_SHOWN, PX8_BLANK) && at.cells[0] == 'A', "dots: secret hides text");
     copy = at;
-    check(px8_message(out.settings, copies, 2, STORES, at.printer, PX8_DOTS - 1).answer.first == PX8_NO_ROOM &&
+    check(call_message(out.settings, copies, 2, STORES, at.printer, PX8_DOTS - 1).answer.first == PX8_NO_ROOM &&
               memcmp(at.printer, copy.printer, ROOM) == 0,
           "dots: no room");
     out = send_message(out.settings, copies, 2);
@@ -863,16 +1035,17 @@ static px8_settings check_runs(size_t full, const char *bytes, size_t length, co
                                const char *what)
 {
     static uint8_t text[PX8_WIDTH * 8];
-    uint8_t expected[PX8_LINE_MARKS] = {0};
-    px8_outcome out;
+    px8_settings expected;
+    result out;
     memset(text, 'A', sizeof text);
-    for (; *runs; runs++)
-        expected[PX8_MARK_AT(0, *runs)] = 1;
     fill_desk();
-    out = send_message(open_desk().settings, text, PX8_WIDTH * full);
+    expected = open_desk().settings;
+    out = send_message(expected, text, PX8_WIDTH * full);
+    for (; *runs; runs++)
+        run_on(&expected, 0, *runs);
     out = send_message(out.settings, (const uint8_t *)bytes, length);
     check(out.answer.number == PX8_SERVED && out.answer.refused == 0 &&
-              memcmp(out.settings.marks, expected, sizeof expected) == 0 && guards_stay(),
+              memcmp(out.settings.marks, expected.marks, sizeof expected.marks) == 0 && guards_stay(),
           what);
     return out.settings;
 }
@@ -910,11 +1083,11 @@ static void long_lines(void)
 /* ---- late wrap ---- */
 
 /* By rule 2 a line of 80, or a byte in the last cell of the screen; then the bytes. */
-static px8_settings late(int at_the_end, const char *bytes, size_t length)
+static px8_settings late_after(int at_the_end, const char *bytes, size_t length)
 {
     static const uint8_t last[] = {27, 61, 55, 111, 'A'};
     static uint8_t full[PX8_WIDTH];
-    px8_outcome out;
+    result out;
     memset(full, 'A', sizeof full);
     fill_desk();
     out = at_the_end ? send_message(open_late().settings, last, sizeof last)
@@ -922,21 +1095,22 @@ static px8_settings late(int at_the_end, const char *bytes, size_t length)
     return send_message(out.settings, (const uint8_t *)bytes, length).settings;
 }
 
-/* Line, column and flag of screen 1, its one line that runs on (0: none), and whether
- * the cell of the line and column holds the code. */
-static void check_late(px8_settings s, int line, int column, int flag, int marked, int cell_line,
+/* Line and column of screen 1's cursor and whether it is late, its one line that runs on
+ * (0: none), and whether the cell of the line and column holds the code. */
+static void check_late(px8_settings s, int line, int column, int is_late, int marked, int cell_line,
                        int cell_column, int code, const char *what)
 {
-    uint8_t marks[PX8_LINE_MARKS] = {0};
+    px8_settings expected;
+    memset(&expected, 0, sizeof expected);
     if (marked)
-        marks[PX8_MARK_AT(0, marked)] = 1;
+        run_on(&expected, 0, marked);
     check(s.rule == 2 && s.places[0].line == line && s.places[0].column == column &&
-              s.places[0].waiting == flag && memcmp(s.marks, marks, sizeof marks) == 0 &&
+              s.places[0].late == is_late && memcmp(s.marks, expected.marks, sizeof s.marks) == 0 &&
               at.cells[PX8_WIDTH * (cell_line - 1) + cell_column - 1] == code && guards_stay(),
           what);
 }
 
-#define LATE(at_the_end, bytes) late(at_the_end, bytes, sizeof bytes - 1)
+#define LATE(at_the_end, bytes) late_after(at_the_end, bytes, sizeof bytes - 1)
 
 static void late_wrap(void)
 {
@@ -955,10 +1129,8 @@ static void late_wrap(void)
     check_late(LATE(1, "\33TB"), 24, 2, 0, 23, 24, 1, 'B', "late: lifted late");
     check_late(LATE(1, "\n"), 24, 80, 0, 0, 23, 80, 'A', "late: code 10 lifts");
     check_late(LATE(0, "\33\321\1\33\321\0B"), 2, 2, 0, 1, 2, 1, 'B', "late: 209 and back");
-    s = LATE(0, "\33\320\2\10\1#AB");
-    check(s.rule == 2 && s.places[0].line == 2 && s.places[0].column == 1 && s.places[0].waiting == 1 &&
-              s.marks[0] == 1 && s.marks[1] == 0 && at.cells[0] == 'A' && at.cells[1] == 'B',
-          "late: one column");
+    check_late(LATE(0, "\33\320\2\10\1#AB"), 2, 1, 1, 1, 1, 1, 'A', "late: one column");
+    check(at.cells[1] == 'B', "late: one column");
     for (screen = 0; screen < 2; screen++) {
         const uint8_t bytes[] = {27, 209, (uint8_t)screen, 27, 61, 34, 111, 'A'};
         fill_desk();
@@ -967,8 +1139,8 @@ static void late_wrap(void)
         expected.selected = (uint8_t)screen;
         expected.places[screen].line = 3;
         expected.places[screen].column = 80;
-        expected.places[screen].waiting = 1;
-        check(same_settings(s, expected), "late: the flag of each screen");
+        expected.places[screen].late = 1;
+        check(same_settings(s, expected), "late: of each screen");
     }
     expected = open_desk().settings;
     expected.rule = 2;
@@ -982,13 +1154,13 @@ static void printed(void)
     check(px8_printed(buffer, 3, 2) == 2, "printed: a part");
     check(px8_printed(buffer, 3, 3) == 3, "printed: all");
     check(px8_printed(buffer, 3, 4) == 0, "printed: beyond");
-    check(px8_printed(buffer, 3, (size_t)-1) == 0, "printed: far beyond");
+    check(px8_printed(buffer, 3, (px8_size)-1) == 0, "printed: far beyond");
     check(px8_printed(NULL, 0, 0) == 0 && px8_printed(NULL, 0, 1) == 0, "printed: no buffer");
 }
 
 /* ---- refused calls ---- */
 
-static void check_refused(px8_outcome outcome, px8_settings given, uint8_t number,
+static void check_refused(result outcome, px8_settings given, uint8_t number,
                           const char *what)
 {
     const px8_answer a = outcome.answer;
@@ -1000,31 +1172,31 @@ static void check_refused(px8_outcome outcome, px8_settings given, uint8_t numbe
 
 static void refused_openings(void)
 {
-    const size_t wrong[] = {0, 3, 255, 256, 257, 258, (size_t)1 << 32 | 2, (size_t)-1};
+    const px8_size wrong[] = {0, 3, 255, 256, 257, 258, (px8_size)1 << 32 | 2, (px8_size)-1};
     const px8_settings settings = open_desk().settings;
-    px8_opened opened;
+    opening_result opened;
     size_t n;
     fill_desk();
-    opened = px8_opening(2, at.cells, PX8_CELLS - 1, at.layer, PX8_LAYER, at.shown, PX8_SHOWN, at.dots,
+    opened = call_opening(2, at.cells, PX8_CELLS - 1, at.layer, PX8_LAYER, at.shown, PX8_SHOWN, at.dots,
                          PX8_DOTS);
     check(opened.number == PX8_STORE_SIZE &&
               same_settings(opened.settings, settings) &&
               memcmp(&at, &copy, sizeof at) == 0,
           "opening refused: cells");
-    opened = px8_opening(1, at.cells, PX8_CELLS, at.layer, PX8_LAYER + 1, at.shown, PX8_SHOWN, at.dots,
+    opened = call_opening(1, at.cells, PX8_CELLS, at.layer, PX8_LAYER + 1, at.shown, PX8_SHOWN, at.dots,
                          PX8_DOTS);
     check(opened.number == PX8_STORE_SIZE && memcmp(&at, &copy, sizeof at) == 0,
           "opening refused: layer");
-    opened = px8_opening(1, at.cells, PX8_CELLS, at.layer, PX8_LAYER, at.shown, PX8_SHOWN, at.dots,
+    opened = call_opening(1, at.cells, PX8_CELLS, at.layer, PX8_LAYER, at.shown, PX8_SHOWN, at.dots,
                          PX8_DOTS - 1);
     check(opened.number == PX8_STORE_SIZE && memcmp(&at, &copy, sizeof at) == 0,
           "opening refused: dots");
-    opened = px8_opening(3, NULL, 0, NULL, 0, NULL, 0, NULL, 0);
+    opened = call_opening(3, NULL, 0, NULL, 0, NULL, 0, NULL, 0);
     check(opened.number == PX8_STORE_SIZE &&
               same_settings(opened.settings, settings),
           "opening refused: null and 0");
     for (n = 0; n < sizeof wrong / sizeof wrong[0]; n++) {
-        opened = px8_opening(wrong[n], STORES);
+        opened = call_opening(wrong[n], STORES);
         check(opened.number == PX8_BAD_RULE && same_settings(opened.settings, settings) &&
                   memcmp(&at, &copy, sizeof at) == 0,
               "opening refused: rule");
@@ -1039,13 +1211,13 @@ static void refused_messages(void)
     unsound.places[1].top = 18;
     memset(long_message, 'x', sizeof long_message);
     fill_desk();
-    check_refused(px8_message(settings, long_message, 4, at.cells, PX8_CELLS, at.layer, PX8_LAYER,
+    check_refused(call_message(settings, long_message, 4, at.cells, PX8_CELLS, at.layer, PX8_LAYER,
                               at.shown, PX8_SHOWN - 1, at.dots, PX8_DOTS, at.printer, ROOM),
                   settings, PX8_STORE_SIZE, "refused: shown screen too short");
-    check_refused(px8_message(settings, long_message, 4, at.cells, PX8_CELLS, at.layer, PX8_LAYER,
+    check_refused(call_message(settings, long_message, 4, at.cells, PX8_CELLS, at.layer, PX8_LAYER,
                               at.shown, PX8_SHOWN, at.dots, PX8_DOTS + 1, at.printer, ROOM),
                   settings, PX8_STORE_SIZE, "refused: dots too long");
-    check_refused(px8_message(unsound, NULL, 0, NULL, 0, NULL, 0, NULL, 0, NULL, 0, NULL, 0), unsound,
+    check_refused(call_message(unsound, NULL, 0, NULL, 0, NULL, 0, NULL, 0, NULL, 0, NULL, 0), unsound,
                   PX8_STORE_SIZE, "refused: null and 0");
     check_refused(send_message(unsound, long_message, sizeof long_message), unsound, PX8_TOO_LONG,
                   "refused: message too long");
@@ -1094,7 +1266,7 @@ static void limit(void)
 {
     static const uint8_t two[] = {65, 66}, escape[] = {27}, copies[] = {80};
     const px8_settings settings = with_line(escape, 0, PX8_COUNT_MOST - 1);
-    px8_outcome out;
+    result out;
     fill_desk();
     check_refused(send_piece(settings, two, 2), settings, PX8_STREAM_TOO_LONG, "limit: 15");
     open_desk();
@@ -1116,23 +1288,23 @@ static void refused_streams(void)
     px8_settings unsound = full;
     unsound.step = 0;
     fill_desk();
-    check_refused(px8_piece(unsound, long_piece, sizeof long_piece, at.cells, PX8_CELLS, at.layer,
+    check_refused(call_piece(unsound, long_piece, sizeof long_piece, at.cells, PX8_CELLS, at.layer,
                             PX8_LAYER - 1, at.shown, PX8_SHOWN, at.dots, PX8_DOTS, at.printer, ROOM),
                   unsound, PX8_STORE_SIZE, "refused: piece, layer too short");
-    check_refused(px8_piece(unsound, NULL, 0, NULL, 0, NULL, 0, NULL, 0, NULL, 0, NULL, 0), unsound,
+    check_refused(call_piece(unsound, NULL, 0, NULL, 0, NULL, 0, NULL, 0, NULL, 0, NULL, 0), unsound,
                   PX8_STORE_SIZE, "refused: piece, null and 0");
     check_refused(send_piece(unsound, long_piece, sizeof long_piece), unsound, PX8_TOO_LONG,
                   "refused: piece too long");
     check_refused(send_piece(unsound, long_piece, 5), unsound, PX8_UNSOUND,
                   "refused: piece, settings not sound");
     check_refused(send_piece(full, long_piece, 5), full, PX8_STREAM_TOO_LONG, "refused: piece, 15");
-    check_refused(px8_closing(unsound, at.cells, PX8_CELLS + 1, at.layer, PX8_LAYER, at.shown, PX8_SHOWN,
+    check_refused(call_closing(unsound, at.cells, PX8_CELLS + 1, at.layer, PX8_LAYER, at.shown, PX8_SHOWN,
                               at.dots, PX8_DOTS),
                   unsound, PX8_STORE_SIZE, "refused: closing, cells too long");
-    check_refused(px8_closing(unsound, at.cells, PX8_CELLS, at.layer, PX8_LAYER, at.shown, PX8_SHOWN,
+    check_refused(call_closing(unsound, at.cells, PX8_CELLS, at.layer, PX8_LAYER, at.shown, PX8_SHOWN,
                               at.dots, PX8_DOTS - 1),
                   unsound, PX8_STORE_SIZE, "refused: closing, dots too short");
-    check_refused(px8_closing(full, NULL, 0, NULL, 0, NULL, 0, NULL, 0), full, PX8_STORE_SIZE,
+    check_refused(call_closing(full, NULL, 0, NULL, 0, NULL, 0, NULL, 0), full, PX8_STORE_SIZE,
                   "refused: closing, null and 0");
     check_refused(close_stream(unsound), unsound, PX8_UNSOUND, "refused: closing, settings not sound");
     check_refused(send_message(full, long_piece, sizeof long_piece), full, PX8_TOO_LONG,
@@ -1141,9 +1313,9 @@ static void refused_streams(void)
     check_refused(send_message(full, NULL, 0), full, PX8_BYTES_WAIT, "refused: an empty message by 16");
 }
 
-static void check_refused_pack(px8_pack_outcome out, px8_settings given, uint8_t number, const char *what)
+static void check_refused_pack(pack_result out, px8_settings given, uint8_t number, const char *what)
 {
-    px8_outcome plain;
+    result plain;
     plain.settings = out.settings;
     plain.answer = out.answer;
     check_refused(plain, given, number, what);
@@ -1160,10 +1332,10 @@ static void refused_shorts(void)
     unsound.step = 0;
     memset(long_message, 'x', sizeof long_message);
     fill_desk();
-    check_refused(px8_message_short(unsound, long_message, sizeof long_message, at.cells, PX8_CELLS, at.layer, PX8_LAYER,
+    check_refused(call_short(unsound, long_message, sizeof long_message, at.cells, PX8_CELLS, at.layer, PX8_LAYER,
                                     at.shown, PX8_SHOWN - 1, at.dots, PX8_DOTS, at.printer, ROOM),
                   unsound, PX8_STORE_SIZE, "refused: short message, shown screen too short");
-    check_refused(px8_message_short(unsound, NULL, 0, NULL, 0, NULL, 0, NULL, 0, NULL, 0, NULL, 0), unsound,
+    check_refused(call_short(unsound, NULL, 0, NULL, 0, NULL, 0, NULL, 0, NULL, 0, NULL, 0), unsound,
                   PX8_STORE_SIZE, "refused: short message, null and 0");
     check_refused(send_short(unsound, long_message, sizeof long_message), unsound, PX8_TOO_LONG,
                   "refused: short message too long");
@@ -1186,7 +1358,7 @@ static void refused_packs(void)
     pack[2] = 1;
     pack[3] = 1;
     fill_desk();
-    check_refused_pack(px8_pack(unsound, pack, sizeof pack, at.cells, PX8_CELLS, at.layer, PX8_LAYER, at.shown,
+    check_refused_pack(call_pack(unsound, pack, sizeof pack, at.cells, PX8_CELLS, at.layer, PX8_LAYER, at.shown,
                                 PX8_SHOWN, at.dots, PX8_DOTS - 1, at.printer, ROOM),
                        unsound, PX8_STORE_SIZE, "refused: pack, dots too short");
     check_refused_pack(send_pack(unsound, pack, sizeof pack), unsound, PX8_PACK_TOO_LONG, "refused: pack too long");
@@ -1202,24 +1374,24 @@ static void refused_packs(void)
     check_refused_pack(send_pack(waits, NULL, 0), waits, PX8_BYTES_WAIT, "refused: empty pack, bytes wait");
 }
 
-/* 3, then 17: a number as wide as size_t is judged whole. */
+/* 3, then 17: a number as wide as px8_size is judged whole. */
 static void refused_key_texts(void)
 {
     static const uint8_t text[] = "AAAAAAAAA";
-    const size_t wrong[] = {0, 11, 256, 257, (size_t)1 << 32 | 1, (size_t)-1};
+    const px8_size wrong[] = {0, 11, 256, 257, (px8_size)1 << 32 | 1, (px8_size)-1};
     const px8_settings settings = open_desk().settings;
     px8_settings unsound = settings;
     size_t n;
     unsound.step = 0;
     fill_desk();
     for (n = 0; n < sizeof wrong / sizeof wrong[0]; n++)
-        check_refused(px8_key_text(settings, wrong[n], text, 8), settings, PX8_BAD_KEY_TEXT,
+        check_refused(call_key_text(settings, wrong[n], text, 8), settings, PX8_BAD_KEY_TEXT,
                       "refused: key number");
-    check_refused(px8_key_text(settings, 1, text, 7), settings, PX8_BAD_KEY_TEXT, "refused: text of 7");
-    check_refused(px8_key_text(settings, 10, text, 9), settings, PX8_BAD_KEY_TEXT, "refused: text of 9");
-    check_refused(px8_key_text(settings, 5, NULL, 0), settings, PX8_BAD_KEY_TEXT, "refused: no text");
-    check_refused(px8_key_text(unsound, 0, text, 9), unsound, PX8_UNSOUND, "refused: 3 before 17");
-    check_refused(px8_key_text(unsound, 1, text, 8), unsound, PX8_UNSOUND, "refused: a text, not sound");
+    check_refused(call_key_text(settings, 1, text, 7), settings, PX8_BAD_KEY_TEXT, "refused: text of 7");
+    check_refused(call_key_text(settings, 10, text, 9), settings, PX8_BAD_KEY_TEXT, "refused: text of 9");
+    check_refused(call_key_text(settings, 5, NULL, 0), settings, PX8_BAD_KEY_TEXT, "refused: no text");
+    check_refused(call_key_text(unsound, 0, text, 9), unsound, PX8_UNSOUND, "refused: 3 before 17");
+    check_refused(call_key_text(unsound, 1, text, 8), unsound, PX8_UNSOUND, "refused: a text, not sound");
 }
 
 /* The key line's own limits of soundness; the least numbers of lines stay. */
@@ -1241,28 +1413,33 @@ static void unsound_key_lines(void)
     check_unsound(settings, "unsound: 7 lines with the key line");
 }
 
-/* A mark other than 0 or 1, on a screen's last line or past it. */
+/* A line that runs on and is a screen's last or past it; a mark other than 0 or 1. */
 static void unsound_marks(void)
 {
-    const struct { int at; uint8_t mark; } wrong[] = {
-        {PX8_MARK_AT(0, 1), 2},  {PX8_MARK_AT(0, 24), 1}, {PX8_MARK_AT(0, 25), 1}, {PX8_MARK_AT(0, 48), 1},
-        {PX8_MARK_AT(1, 5), 255}, {PX8_MARK_AT(1, 24), 1}, {PX8_MARK_AT(1, 48), 1}};
+    const struct { int screen, line; } wrong[] = {{0, 24}, {0, 25}, {0, 48}, {1, 24}, {1, 48}};
     size_t n;
     px8_settings settings;
     for (n = 0; n < sizeof wrong / sizeof wrong[0]; n++) {
         settings = open_desk().settings;
-        settings.marks[wrong[n].at] = wrong[n].mark;
+        run_on(&settings, wrong[n].screen, wrong[n].line);
         check_unsound(settings, "unsound: a mark");
     }
     settings = open_desk().settings;
-    settings.marks[PX8_MARK_AT(0, 23)] = settings.marks[PX8_MARK_AT(1, 23)] = 1;
+    settings.marks[PX8_MARK_AT(0, 1)] = 2;
+    check_unsound(settings, "unsound: a mark of 2");
+    settings = open_desk().settings;
+    settings.marks[PX8_MARK_AT(1, 5)] = 255;
+    check_unsound(settings, "unsound: a mark of 255");
+    settings = open_desk().settings;
+    run_on(&settings, 0, 23);
+    run_on(&settings, 1, 23);
     check(close_stream(settings).answer.number == PX8_SERVED, "sound: the line before the last");
 }
 
-/* A flag by rule 1, before the last column, or of 2; a rule that is none. */
-static void unsound_flags(void)
+/* Late by rule 1, before the last column, or by 2; a rule that is none. */
+static void unsound_late(void)
 {
-    const struct { uint8_t rule, column, flag; } wrong[] = {
+    const struct { uint8_t rule, column, late; } wrong[] = {
         {1, 80, 1}, {2, 79, 1}, {2, 1, 1}, {2, 80, 2}, {0, 1, 0}, {3, 1, 0}, {3, 80, 1}};
     px8_settings settings;
     size_t n;
@@ -1272,13 +1449,13 @@ static void unsound_flags(void)
             settings = open_desk().settings;
             settings.rule = wrong[n].rule;
             settings.places[screen].column = wrong[n].column;
-            settings.places[screen].waiting = wrong[n].flag;
-            check_unsound(settings, "unsound: rule or flag");
+            settings.places[screen].late = wrong[n].late;
+            check_unsound(settings, "unsound: rule or late");
         }
     settings = open_late().settings;
     settings.places[1].column = 80;
-    settings.places[1].waiting = 1;
-    check(close_stream(settings).answer.number == PX8_SERVED, "sound: a flag in the last column");
+    settings.places[1].late = 1;
+    check(close_stream(settings).answer.number == PX8_SERVED, "sound: late in the last column");
 }
 
 /* Mode 3 has one screen, type 3 and display 1; step and tracking are free. */
@@ -1317,13 +1494,13 @@ static void empty_buffers(void)
     px8_answer a;
     fill_desk();
     settings = open_desk().settings;
-    a = px8_message(settings, NULL, 0, STORES, NULL, 0).answer;
+    a = call_message(settings, NULL, 0, STORES, NULL, 0).answer;
     check(a.number == PX8_SERVED && a.taken == 0, "empty: message and printer buffer");
-    a = px8_message(settings, bytes, sizeof bytes, STORES, NULL, 0).answer;
+    a = call_message(settings, bytes, sizeof bytes, STORES, NULL, 0).answer;
     check(a.refused == 1 && a.first == PX8_NO_ROOM && a.printed == 0, "empty: a copy refused");
-    a = px8_message_short(settings, NULL, 0, STORES, NULL, 0).answer;
+    a = call_short(settings, NULL, 0, STORES, NULL, 0).answer;
     check(a.number == PX8_SERVED && a.taken == 0, "empty: short message and printer buffer");
-    a = px8_message_short(settings, bytes, sizeof bytes, STORES, NULL, 0).answer;
+    a = call_short(settings, bytes, sizeof bytes, STORES, NULL, 0).answer;
     check(a.refused == 1 && a.first == PX8_NO_ROOM && a.printed == 0, "empty: a short message's copy refused");
 }
 
@@ -1343,32 +1520,32 @@ static void compared(void)
     memset(other, 32, sizeof other);
     memset(list, 77, sizeof list);
     memcpy(before, list, sizeof list);
-    f = px8_first_difference(one, PX8_SHOWN, other, PX8_SHOWN);
+    f = call_first(one, PX8_SHOWN, other, PX8_SHOWN);
     check(f.number == PX8_SERVED && f.found == 0 && is_record(f.difference, 0, 0, 0, 0), "compare: none");
-    c = px8_compare(one, PX8_SHOWN, other, PX8_SHOWN, NULL, 0);
+    c = call_compare(one, PX8_SHOWN, other, PX8_SHOWN, NULL, 0);
     check(c.number == PX8_SERVED && c.count == 0, "compare: equal screens, an empty list");
-    c = px8_compare(one, PX8_SHOWN, one, PX8_SHOWN, list, 9);
+    c = call_compare(one, PX8_SHOWN, one, PX8_SHOWN, list, 9);
     check(c.number == PX8_SERVED && c.count == 0 && memcmp(list, before, sizeof list) == 0, "compare: a screen and itself");
     one[PX8_AT(1, 80)] = 1;
     other[PX8_AT(2, 1)] = 255;
     other[PX8_AT(8, 80)] = 65;
-    f = px8_first_difference(one, PX8_SHOWN, other, PX8_SHOWN);
+    f = call_first(one, PX8_SHOWN, other, PX8_SHOWN);
     check(f.number == PX8_SERVED && f.found == 1 && is_record(f.difference, 1, 80, 1, 32), "compare: the first");
-    c = px8_compare(one, PX8_SHOWN, other, PX8_SHOWN, list, 2);
+    c = call_compare(one, PX8_SHOWN, other, PX8_SHOWN, list, 2);
     check(c.number == PX8_LIST_SHORT && c.count == 0 && memcmp(list, before, sizeof list) == 0, "compare: refused, list too short");
-    c = px8_compare(one, PX8_SHOWN, other, PX8_SHOWN, list, 3);
+    c = call_compare(one, PX8_SHOWN, other, PX8_SHOWN, list, 3);
     check(c.number == PX8_SERVED && c.count == 3, "compare: a list just long enough");
     memcpy(list, before, sizeof list);
-    c = px8_compare(one, PX8_SHOWN, other, PX8_SHOWN, list, 9);
+    c = call_compare(one, PX8_SHOWN, other, PX8_SHOWN, list, 9);
     check(c.number == PX8_SERVED && c.count == 3, "compare: count");
     check(is_record(list[0], 1, 80, 1, 32) && is_record(list[1], 2, 1, 32, 255) && is_record(list[2], 8, 80, 32, 65), "compare: records");
     check(memcmp(list + 3, before + 3, sizeof list - 3 * sizeof list[0]) == 0, "compare: the list beyond stays");
     memcpy(list, before, sizeof list);
-    c = px8_compare(one, PX8_SHOWN - 1, other, PX8_SHOWN, list, 0);
+    c = call_compare(one, PX8_SHOWN - 1, other, PX8_SHOWN, list, 0);
     check(c.number == PX8_STORE_SIZE && c.count == 0, "compare: refused, 1 before 18");
-    c = px8_compare(one, PX8_SHOWN, other, PX8_SHOWN + 1, list, 9);
+    c = call_compare(one, PX8_SHOWN, other, PX8_SHOWN + 1, list, 9);
     check(c.number == PX8_STORE_SIZE && c.count == 0 && memcmp(list, before, sizeof list) == 0, "compare: refused, the second screen");
-    f = px8_first_difference(one, PX8_SHOWN, NULL, 0);
+    f = call_first(one, PX8_SHOWN, NULL, 0);
     check(f.number == PX8_STORE_SIZE && f.found == 0 && is_record(f.difference, 0, 0, 0, 0), "compare: first refused, null and 0");
 }
 
@@ -1379,11 +1556,11 @@ static const uint8_t held[] = {5, 0, 1, 0, 0,   0, 0, 0, 'A', 5, 0, 2, 0, 130,
                                0, 0, 0, 'B', 5, 0, 2, 0, 161, 0, 0, 0, 'A'};
 
 static void check_repeats(px8_settings settings, size_t length, size_t room, uint8_t number,
-                          uint64_t count, const char *what)
+                          px8_size count, const char *what)
 {
     px8_repeats r;
     fill_desk();
-    r = px8_key_repeats(settings, held, length, at.printer, room);
+    r = call_repeats(settings, held, length, at.printer, room);
     check(r.number == number && r.count == count &&
               memcmp(at.printer + PX8_CODE * count, copy.printer + PX8_CODE * count,
                      ROOM - PX8_CODE * count) == 0 &&
@@ -1410,23 +1587,23 @@ static void repeats(void)
     settings.keys.delay = 1;
     settings.keys.interval = 127;
     check_repeats(settings, 27, ROOM, PX8_SERVED, 3, "repeats: delay and interval");
-    check(px8_key_repeats(settings, long_trace, sizeof long_trace, NULL, 0).number ==
+    check(call_repeats(settings, long_trace, sizeof long_trace, NULL, 0).number ==
               PX8_TRACE_TOO_LONG, "repeats: too long");
-    check(px8_key_repeats(settings, long_trace, 4, NULL, 0).number == PX8_UNKNOWN_RECORD,
+    check(call_repeats(settings, long_trace, 4, NULL, 0).number == PX8_UNKNOWN_RECORD,
           "repeats: unknown record");
-    check(px8_key_repeats(settings, NULL, 0, NULL, 0).number == PX8_SERVED, "repeats: nothing");
+    check(call_repeats(settings, NULL, 0, NULL, 0).number == PX8_SERVED, "repeats: nothing");
 }
 
 /* ---- sequences written ---- */
 
 /* Into the printer buffer, which is filled anew: what was written, and nothing else. */
 static px8_reached check_written(px8_settings settings, uint8_t second, const uint8_t *parameters,
-                                 size_t length, size_t place, const char *what)
+                                 size_t length, px8_size place, const char *what)
 {
     px8_reached r;
     size_t end = place + 2 + length;
     fill_desk();
-    r = px8_write(settings, second, parameters, length, at.printer, ROOM, place);
+    r = call_write(settings, second, parameters, length, at.printer, ROOM, place);
     check(r.number == PX8_SERVED && r.parameter == 0 && r.place == end && at.printer[place] == 27 &&
               at.printer[place + 1] == second &&
               (length == 0 || memcmp(at.printer + place + 2, parameters, length) == 0) &&
@@ -1438,12 +1615,12 @@ static px8_reached check_written(px8_settings settings, uint8_t second, const ui
 
 /* Refused: no byte is altered, and the place stays. */
 static void check_unwritten(px8_settings settings, uint8_t second, const uint8_t *parameters,
-                            size_t length, size_t room, size_t place, uint8_t number,
+                            size_t length, size_t room, px8_size place, uint8_t number,
                             uint8_t parameter, const char *what)
 {
     px8_reached r;
     fill_desk();
-    r = px8_write(settings, second, parameters, length, at.printer, room, place);
+    r = call_write(settings, second, parameters, length, at.printer, room, place);
     check(r.number == number && r.parameter == parameter && r.place == place &&
               memcmp(&at, &copy, sizeof at) == 0,
           what);
@@ -1504,14 +1681,14 @@ static void write_order(px8_settings settings)
     check_unwritten(settings, 61, home, 2, 8, 5, PX8_NO_SPACE, 0, "write: a byte too few");
     check_unwritten(settings, 42, NULL, 0, 4, 4, PX8_NO_SPACE, 0, "write: at the end");
     check_unwritten(settings, 42, NULL, 0, 4, 5, PX8_NO_SPACE, 0, "write: past the end");
-    check_unwritten(settings, 42, NULL, 0, ROOM, SIZE_MAX, PX8_NO_SPACE, 0, "write: the greatest place");
-    check_unwritten(settings, 42, NULL, 0, ROOM, SIZE_MAX - 1, PX8_NO_SPACE, 0, "write: no sum that wraps");
+    check_unwritten(settings, 42, NULL, 0, ROOM, (px8_size)-1, PX8_NO_SPACE, 0, "write: the greatest place");
+    check_unwritten(settings, 42, NULL, 0, ROOM, (px8_size)-2, PX8_NO_SPACE, 0, "write: no sum that wraps");
     check_unwritten(settings, 61, below, 2, 0, 9, PX8_OUT_OF_RANGE, 1, "write: 11 before 22");
     check_unwritten(settings, 61, below, 1, 0, 9, PX8_CUT, 0, "write: 12 before 22");
     check_unwritten(settings, 1, NULL, 0, 0, 9, PX8_NOT_LISTED, 0, "write: 10 before 22");
     check_unwritten(unsound, 61, below, 2, 0, 9, PX8_UNSOUND, 0, "write: 3 before 11 and 22");
-    check(px8_write(settings, 42, NULL, 0, NULL, 0, 0).number == PX8_NO_SPACE, "write: no buffer");
-    check(px8_write(settings, 42, NULL, 0, at.printer, 4, 2).place == 4, "write: just enough");
+    check(call_write(settings, 42, NULL, 0, NULL, 0, 0).number == PX8_NO_SPACE, "write: no buffer");
+    check(call_write(settings, 42, NULL, 0, at.printer, 4, 2).place == 4, "write: just enough");
 }
 
 static void written(void)
@@ -1526,11 +1703,11 @@ static void written(void)
     every_sequence(settings);
     mode_settings(settings);
     write_order(settings);
-    r = px8_write(settings, 37, escape, 1, at.printer, ROOM, 0);
-    r = px8_write(settings, 42, NULL, 0, at.printer, ROOM, r.place);
-    r = px8_write(settings, 209, NULL, 0, at.printer, ROOM, r.place);
+    r = call_write(settings, 37, escape, 1, at.printer, ROOM, 0);
+    r = call_write(settings, 42, NULL, 0, at.printer, ROOM, r.place);
+    r = call_write(settings, 209, NULL, 0, at.printer, ROOM, r.place);
     check(r.place == sizeof both && memcmp(at.printer, both, sizeof both) == 0, "write: one behind another");
-    a = px8_message(settings, both, sizeof both, STORES, NULL, 0).answer;
+    a = call_message(settings, both, sizeof both, STORES, NULL, 0).answer;
     check(a.accepted == 3 && a.refused == 0, "write: read back");
     check_written(settings, 209, zero, 1, 9, "write: 209 with its byte");
     check_written(settings, 198, wild, 11, 0, "write: 198 is not judged in mode 0");
@@ -1592,7 +1769,7 @@ int main(void)
     refused_key_texts();
     unsound_key_lines();
     unsound_marks();
-    unsound_flags();
+    unsound_late();
     unsound_mode_3();
     empty_buffers();
     compared();

@@ -1,7 +1,7 @@
 /*
  * A small weighing bay: the load on screen 1, the day's tally on screen 2.
  *
- *   gcc -std=c99 -o bay bay.c libboard.a && ./bay
+ *   gcc -std=c99 -o bay bay.c libpx8.a && ./bay
  *
  * The load is drawn part by part, as a scale sends it, each part in a short message with
  * its own cursor placing. Sequences are written by px8_write, not spelled by hand. After
@@ -49,9 +49,10 @@ static void add_text(message *to, const char *text)
 static void add_sequence(const bay *at, message *to, uint8_t second, const uint8_t *parameters,
                          size_t count)
 {
-    const px8_reached reached = px8_write(at->settings, second, parameters, count, to->bytes,
-                                          sizeof to->bytes, to->length);
-    to->length = reached.place;
+    px8_reached reached;
+    px8_write(&at->settings, &reached, second, parameters, count, to->bytes, sizeof to->bytes,
+              to->length);
+    to->length = (size_t)reached.place;
     if (reached.number != PX8_SERVED)
         printf("sequence %u not written: number %u, parameter %u\n", (unsigned)second,
                (unsigned)reached.number, (unsigned)reached.parameter);
@@ -106,26 +107,24 @@ static void show_lines(const uint8_t *shown)
 
 /* A board would send these bytes to its printer as they are. Here each row
  * stands between bars, without its 13 and 10. */
-static void show_copy(const uint8_t *copy, size_t length)
+static void show_copy(const uint8_t *copy, px8_size length)
 {
-    size_t row;
+    px8_size row;
     for (row = 0; row + PX8_COPY_ROW <= length; row += PX8_COPY_ROW)
         printf("printer |%.*s|\n", PX8_WIDTH, (const char *)copy + row);
 }
 
 /* px8_message and px8_message_short take and give the same. */
-typedef px8_outcome call(px8_settings, const uint8_t *, size_t, uint8_t *, size_t, uint8_t *, size_t,
-                         uint8_t *, size_t, uint8_t *, size_t, uint8_t *, size_t);
+typedef void call(px8_settings *, px8_answer *, const uint8_t *, px8_size, uint8_t *, px8_size,
+                  uint8_t *, px8_size, uint8_t *, px8_size, uint8_t *, px8_size, uint8_t *, px8_size);
 
-/* Sends the message by one of them, keeps what it leaves and shows it. */
+/* Sends the message by one of them, and shows what it leaves. */
 static void send_by(call *read, bay *at, const char *title, message *sent)
 {
-    const px8_outcome outcome =
-        read(at->settings, sent->bytes, sent->length, at->cells, sizeof at->cells, at->layer,
-             sizeof at->layer, at->shown, sizeof at->shown, at->dots, sizeof at->dots, at->printer,
-             sizeof at->printer);
-    const px8_answer answer = outcome.answer;
-    at->settings = outcome.settings;
+    px8_answer answer;
+    read(&at->settings, &answer, sent->bytes, sent->length, at->cells, sizeof at->cells, at->layer,
+         sizeof at->layer, at->shown, sizeof at->shown, at->dots, sizeof at->dots, at->printer,
+         sizeof at->printer);
     sent->length = 0;
     printf("%s\n", title);
     printf("answer %u taken %lu accepted %lu refused %lu first %u at %lu\n",
@@ -151,21 +150,17 @@ static void send_part(bay *at, const char *title, message *sent)
 
 static int open_bay(bay *at)
 {
-    const px8_opened opened = px8_opening(1, at->cells, sizeof at->cells, at->layer,
-                                          sizeof at->layer, at->shown, sizeof at->shown,
-                                          at->dots, sizeof at->dots);
-    at->settings = opened.settings;
-    return opened.number == PX8_SERVED;
+    return px8_opening(&at->settings, 1, at->cells, sizeof at->cells, at->layer, sizeof at->layer,
+                       at->shown, sizeof at->shown, at->dots, sizeof at->dots) == PX8_SERVED;
 }
 
 /* The text of a key, PX8_KEY_TEXT letters; it is seen from the next message on. */
 static void name_key(bay *at, size_t key, const char *text)
 {
-    const px8_outcome outcome =
-        px8_key_text(at->settings, key, (const uint8_t *)text, strlen(text));
-    at->settings = outcome.settings;
-    if (outcome.answer.number != PX8_SERVED)
-        printf("key %lu refused by %u\n", (unsigned long)key, (unsigned)outcome.answer.number);
+    px8_answer answer;
+    px8_key_text(&at->settings, &answer, key, (const uint8_t *)text, strlen(text));
+    if (answer.number != PX8_SERVED)
+        printf("key %lu refused by %u\n", (unsigned long)key, (unsigned)answer.number);
 }
 
 static void draw_tally(bay *at, message *next, const char *loads, const char *sum)

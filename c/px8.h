@@ -23,17 +23,18 @@
  *   px8_first_difference   only the first of them
  *
  * What the caller keeps. The library allocates nothing, keeps no state of its
- * own and does no input or output. Settings are a plain value that goes in and
- * comes back; the four stores (cells, layer, shown screen, dots) and the printer
- * buffer are the caller's memory, lent for the time of one call. A call's
- * results depend on its arguments and on the lent bytes alone, so several
- * terminals, threads or interrupt levels can use the library at once if each
- * has its own settings and stores.
+ * own and does no input or output. Settings, the four stores (cells, layer, shown
+ * screen, dots), the printer buffer and the answer are the caller's memory, lent
+ * for the time of one call: every call takes pointers and numbers and returns at
+ * most a number. A call's results depend on its arguments and on the lent bytes
+ * alone, so several terminals, threads or interrupt levels can use the library at
+ * once if each has its own settings and stores. What an answer held before is not
+ * read, nor are the settings by px8_opening.
  *
- * A list of calls. Open once; then hand each message, short message, piece, closing
+ * A list of calls. Open once; then lend each message, short message, piece, closing
  * and pack the settings and the four stores just as the call before left them; a key
- * text, which has no store, the settings. Nobody else
- * should write them meanwhile. Settings, cells, layer and dots can be saved and
+ * text, which has no store, the settings. Nobody else should write them meanwhile.
+ * Settings, cells, layer and dots can be saved and
  * taken up again later without an opening, in the middle of a stream too: they are
  * all that stands, and the next message, piece, closing or pack with a
  * record that is served paints the shown screen from them. A short message needs the
@@ -45,13 +46,16 @@
  * it is cut, it comes to the same as if it had come in one. Many messages that an
  * office sends together are a pack, for px8_pack.
  *
- * Linking. libboard.a is made for x86-64 and its C calling convention. Of the
- * C library it needs at most memcpy, memmove, memset, memcmp and bcmp.
+ * Linking. libpx8.a is made for x86-64 and its C calling convention. Of the
+ * C library it needs at most memcpy, memmove, memset, memcmp and bcmp. Its symbols
+ * carry the number of the layout below, so that a program that was compiled with a
+ * header of another layout does not link.
  *
- * Not checked, since C cannot tell: a pointer that is null or dangling
- * although its length is not 0; a length larger than the buffer; buffers that
- * overlap each other, the message, the piece, the pack or the parameters. Each of
- * these is undefined behaviour.
+ * Not checked, since C cannot tell: a pointer to settings or to an answer that is
+ * null; a pointer that is null or dangling although its length is not 0; a length
+ * larger than the buffer; settings, answer, buffers, message, piece, pack, text,
+ * trace or parameters of one call that overlap each other (only what is read alone
+ * may: the two screens that are compared). Each of these is undefined behaviour.
  * Every other input is answered, by what it asks for or by a number. A null
  * pointer with length 0 is an empty buffer.
  *
@@ -66,6 +70,28 @@
 #ifdef __cplusplus
 extern "C" {
 #endif
+
+/* ---- version and layout ---- */
+
+#define PX8_VERSION "2.0"
+#define PX8_LAYOUT 2 /* another number where a structure or a call is laid out otherwise */
+
+/* The symbols in the archive: the call's name and the layout's number. */
+#define px8_opening px8_opening_l2
+#define px8_message px8_message_l2
+#define px8_message_short px8_message_short_l2
+#define px8_piece px8_piece_l2
+#define px8_closing px8_closing_l2
+#define px8_pack px8_pack_l2
+#define px8_key_text px8_key_text_l2
+#define px8_printed px8_printed_l2
+#define px8_compare px8_compare_l2
+#define px8_first_difference px8_first_difference_l2
+#define px8_key_repeats px8_key_repeats_l2
+#define px8_write px8_write_l2
+
+/* Lengths, counts and places: 64 bits wide on every processor. */
+typedef uint64_t px8_size;
 
 /* ---- sizes ---- */
 
@@ -173,8 +199,8 @@ typedef struct px8_place {
     uint8_t line;   /* cursor line, 1 to the screen's lines */
     uint8_t column; /* cursor column, 1 to the screen's columns */
     uint8_t top;    /* the window's first line, 1 to lines - H + 1 */
-    uint8_t waiting; /* 1 the cursor waits in the last column (see "late wrap" below),
-                     * only there and only by rule 2; else 0 */
+    uint8_t late;   /* 1 the cursor is late (see "late wrap" below): only in the last
+                     * column and only by rule 2; else 0 */
 } px8_place;
 
 /* The keyboard's settings. They are stored for the board to act on; of what the
@@ -201,13 +227,13 @@ typedef struct px8_keys {
  *   2     equal, 8 to 48                         m         79 - m       8        7
  *   3     8 and 0                                80        0            8
  *
- * In mode 3 there is no screen 2: selected is 0, places[1] is 1, 1, 1 without a
- * flag; display is 1 and kind 3.
+ * In mode 3 there is no screen 2: selected is 0, places[1] is 1, 1, 1, not
+ * late; display is 1 and kind 3.
  *
  * Settings are sound when every field lies in its range. Two things are judged
  * that the customer's papers do not name, so that settings that mean the same
  * are the same bytes: the bytes of `waiting` behind the first `held`, and the
- * marks from a screen's last line on, are 0. What the calls return is always
+ * marks from a screen's last line on, are 0. What the calls leave is always
  * sound, or else exactly what was given to a refused call; so only a caller that
  * makes or alters settings can meet number 3.
  *
@@ -252,7 +278,7 @@ typedef struct px8_settings {
 
 /*
  * The opening settings: mode 0, 24 and 24 lines, 80 and 80 columns, boundary
- * 32, screen 1 selected (0), both places 1, 1, 1 without a flag, tracking 1, step 1, secret
+ * 32, screen 1 selected (0), both places 1, 1, 1, not late, tracking 1, step 1, secret
  * 0, cursor 1, display 1, kind 0; LEDs 0, charset U, strings 1, repeat 1,
  * delay 32, interval 16, shift 0, arrows 0; patterns 0; held 0, waiting 0,
  * count 0; texts 32; marks 0; the rule as given.
@@ -313,7 +339,7 @@ typedef struct px8_settings {
  *   ESC 208 0 n1 n2     mode 0, ESC 208 1 n1 mode 1, ESC 208 2 n1 m p mode 2 with
  *                         boundary p: blanks all cells, no marks, places 1, 1, 1,
  *                         screen 1 selected, step 1, tracking on, no line runs on,
- *                         no flag, no dots
+ *                         no cursor late, no dots
  *   ESC 208 3           mode 3: the same, and cursor type 3, key display 1
  *   ESC 209 n           selects screen 1 (0) or 2 (1)
  *   ESC 210 x y p       marks row x, 1 to 8, column y, 1 to 80, with code p
@@ -347,12 +373,12 @@ typedef struct px8_settings {
  * PX8_DOTS bytes as they are.
  *
  * Late wrap. By rule 1 a byte printed in the last column goes to the next line at
- * once. By rule 2 the cursor waits there, and its screen's flag says so: the next
+ * once. By rule 2 the cursor stays there and is late, as its place says: the next
  * printed character (ESC 37's too) first goes to the next line, lifts the screen there
- * if need be and marks the line left. Codes 8, 10, 12, 13 and an accepted 42 or 61
- * clear the flag, 61 also where it comes to the last column again; 8 then goes one
- * column back and 10 down in the last column. An accepted 208 clears both flags and
- * keeps the rule. Everything else keeps it: 84 and 89, which blank the byte just
+ * if need be and marks the line left. By codes 8, 10, 12, 13 and an accepted 42 or 61
+ * it is late no more, 61 also where it comes to the last column again; 8 then goes one
+ * column back and 10 down in the last column. By an accepted 208 neither is, and the
+ * rule is kept. Everything else leaves it late: 84 and 89, which blank the byte just
  * stored; 144, 145, windows that move, 209, refused sequences.
  *
  * Long lines. By rule 1 printing in the last column marks the line that it leaves as
@@ -420,26 +446,15 @@ typedef struct px8_answer {
     uint32_t offset;   /* where its ESC stands, counted from 0: in the message, also of
                         * a pack, or for a piece and a closing in the stream; 0 if
                         * there is none */
-    size_t printed;    /* bytes of printed copies: PX8_COPY each, in mode 3 PX8_DOTS */
+    px8_size printed;  /* bytes of printed copies: PX8_COPY each, in mode 3 PX8_DOTS */
 } px8_answer;
 
-typedef struct px8_outcome {
-    px8_settings settings;
-    px8_answer answer;
-} px8_outcome;
-
-/* What px8_pack returns; there are padding bytes after `record`. */
-typedef struct px8_pack_outcome {
-    px8_settings settings;
+/* The answer to a pack; there are padding bytes after `record`. */
+typedef struct px8_pack_answer {
     px8_answer answer; /* the counts of all messages together; `offset` is in the body
                         * of the record below */
     uint32_t record;   /* the record of the first refusal, from 1; 0 if there is none */
-} px8_pack_outcome;
-
-typedef struct px8_opened {
-    px8_settings settings;
-    uint8_t number; /* PX8_SERVED, PX8_STORE_SIZE or PX8_BAD_RULE */
-} px8_opened;
+} px8_pack_answer;
 
 /* A place where two shown screens differ. */
 typedef struct px8_difference {
@@ -449,26 +464,28 @@ typedef struct px8_difference {
     uint8_t second; /* the second screen's; never the same */
 } px8_difference;
 
+/* The answer of px8_compare; there are padding bytes after `number`. */
 typedef struct px8_compared {
     uint8_t number; /* PX8_SERVED, PX8_STORE_SIZE or PX8_LIST_SHORT */
-    size_t count;   /* records written, 0 to 640; 0 if refused */
+    px8_size count; /* records written, 0 to 640; 0 if refused */
 } px8_compared;
 
+/* The answer of px8_first_difference. */
 typedef struct px8_first {
     uint8_t number;            /* PX8_SERVED or PX8_STORE_SIZE */
     uint8_t found;             /* 1 if the screens differ, else 0; 0 if refused */
     px8_difference difference; /* the first; four zeros if found is 0 */
 } px8_first;
 
-/* What px8_key_repeats returns; there are padding bytes after `number`. */
+/* The answer of px8_key_repeats; there are padding bytes after `number`. */
 typedef struct px8_repeats {
     uint8_t number; /* PX8_SERVED, or why the call was refused: 3, 19, 20, 21, 24, 25 */
-    uint64_t count; /* how many codes were sent and written; 0 if refused */
+    px8_size count; /* how many codes were sent and written; 0 if refused */
 } px8_repeats;
 
-/* What px8_write returns; there are padding bytes after `parameter`. */
+/* The answer of px8_write; there are padding bytes after `parameter`. */
 typedef struct px8_reached {
-    size_t place;      /* behind what was written; if refused, the place given */
+    px8_size place;    /* behind what was written; if refused, the place given */
     uint8_t number;    /* PX8_SERVED, or why nothing was written: 3, 10, 11, 12, 22 */
     uint8_t parameter; /* the first bad parameter, from 1, if it is 11; else 0 */
 } px8_reached;
@@ -477,19 +494,20 @@ typedef struct px8_reached {
 
 /*
  * Opens a terminal by rule 1 or 2: blanks (32) all cells and the shown screen,
- * zeroes the layer and the dots, and returns the opening settings with number 0. By
+ * zeroes the layer and the dots, gives the opening settings, and returns 0. By
  * rule 1 a byte in the last column goes to the next line at once, by rule 2 late (see
  * "late wrap" above); the settings carry the rule from then on.
  *
- * Refused with 1 unless the lengths are PX8_CELLS, PX8_LAYER, PX8_SHOWN and
- * PX8_DOTS, else with 23 for any other rule. A refused opening alters no byte; the
- * settings that it returns are the opening settings by rule 1 all the same.
+ * Refused with 1 (PX8_STORE_SIZE) unless the lengths are PX8_CELLS, PX8_LAYER,
+ * PX8_SHOWN and PX8_DOTS, else with 23 (PX8_BAD_RULE) for any other rule. A refused
+ * opening alters no byte of the stores; the settings that it gives are the opening
+ * settings by rule 1 all the same.
  */
-px8_opened px8_opening(size_t rule,
-                       uint8_t *cells, size_t cells_length,
-                       uint8_t *layer, size_t layer_length,
-                       uint8_t *shown, size_t shown_length,
-                       uint8_t *dots, size_t dots_length);
+uint8_t px8_opening(px8_settings *settings, px8_size rule,
+                    uint8_t *cells, px8_size cells_length,
+                    uint8_t *layer, px8_size layer_length,
+                    uint8_t *shown, px8_size shown_length,
+                    uint8_t *dots, px8_size dots_length);
 
 /*
  * Reads a message of up to PX8_MESSAGE_MOST bytes (it may be empty), brings
@@ -509,20 +527,20 @@ px8_opened px8_opening(size_t rule,
  * skipped alone and what follows is obeyed: after a refused cursor placing the
  * text is printed at the old cursor. Look at answer.refused too.
  *
- * A refused call (answer.number 1, 2, 3 or 16) changes nothing: it returns the
- * settings as they were given, all counts 0, first, parameter, offset and printed 0,
+ * A refused call (answer.number 1, 2, 3 or 16) changes nothing: it leaves the
+ * settings as they were, all counts 0, first, parameter, offset and printed 0,
  * and no byte of the stores or of the printer buffer is altered, the shown
  * screen included. The message itself is never altered. 16 says that bytes of a
  * stream wait: go on with the stream or close it first. While a stream is open
  * and none waits a message is served, and leaves the stream's count.
  */
-px8_outcome px8_message(px8_settings settings,
-                        const uint8_t *message, size_t message_length,
-                        uint8_t *cells, size_t cells_length,
-                        uint8_t *layer, size_t layer_length,
-                        uint8_t *shown, size_t shown_length,
-                        uint8_t *dots, size_t dots_length,
-                        uint8_t *printer, size_t printer_length);
+void px8_message(px8_settings *settings, px8_answer *answer,
+                 const uint8_t *message, px8_size message_length,
+                 uint8_t *cells, px8_size cells_length,
+                 uint8_t *layer, px8_size layer_length,
+                 uint8_t *shown, px8_size shown_length,
+                 uint8_t *dots, px8_size dots_length,
+                 uint8_t *printer, px8_size printer_length);
 
 /*
  * Reads a message as px8_message does, answer, settings, cells, layer, dots, printed
@@ -539,19 +557,19 @@ px8_outcome px8_message(px8_settings settings,
  * px8_message does; from any other, what was not painted there stays so until one of
  * these calls.
  */
-px8_outcome px8_message_short(px8_settings settings,
-                              const uint8_t *message, size_t message_length,
-                              uint8_t *cells, size_t cells_length,
-                              uint8_t *layer, size_t layer_length,
-                              uint8_t *shown, size_t shown_length,
-                              uint8_t *dots, size_t dots_length,
-                              uint8_t *printer, size_t printer_length);
+void px8_message_short(px8_settings *settings, px8_answer *answer,
+                       const uint8_t *message, px8_size message_length,
+                       uint8_t *cells, px8_size cells_length,
+                       uint8_t *layer, px8_size layer_length,
+                       uint8_t *shown, px8_size shown_length,
+                       uint8_t *dots, px8_size dots_length,
+                       uint8_t *printer, px8_size printer_length);
 
 /*
  * Reads the next piece of a stream: up to PX8_MESSAGE_MOST bytes (it may be
  * empty), cut from the line anywhere, inside a sequence too. The bytes that wait
  * in the settings are read before it. What is unfinished at its end, 27, 209
- * included, is not judged and waits in the settings that come back; the piece
+ * included, is not judged and waits in the settings; the piece
  * takes all its bytes all the same, and the count grows by them. Everything else
  * is as with a message: cells, layer, dots, settings and printed copies, and the shown
  * screen is painted, a piece that finishes nothing included. answer.offset
@@ -564,13 +582,13 @@ px8_outcome px8_message_short(px8_settings settings,
  * A refused call (answer.number 1, 2, 3 or 15) changes nothing, as with a
  * message; the stream stands where it stood. After 15 closing still works.
  */
-px8_outcome px8_piece(px8_settings settings,
-                      const uint8_t *piece, size_t piece_length,
-                      uint8_t *cells, size_t cells_length,
-                      uint8_t *layer, size_t layer_length,
-                      uint8_t *shown, size_t shown_length,
-                      uint8_t *dots, size_t dots_length,
-                      uint8_t *printer, size_t printer_length);
+void px8_piece(px8_settings *settings, px8_answer *answer,
+               const uint8_t *piece, px8_size piece_length,
+               uint8_t *cells, px8_size cells_length,
+               uint8_t *layer, px8_size layer_length,
+               uint8_t *shown, px8_size shown_length,
+               uint8_t *dots, px8_size dots_length,
+               uint8_t *printer, px8_size printer_length);
 
 /*
  * Ends the stream. 27, 209 that waits then means 27, 209, 0 (one sequence
@@ -582,11 +600,11 @@ px8_outcome px8_piece(px8_settings settings,
  *
  * A refused call (answer.number 1 or 3) changes nothing, as with a message.
  */
-px8_outcome px8_closing(px8_settings settings,
-                        uint8_t *cells, size_t cells_length,
-                        uint8_t *layer, size_t layer_length,
-                        uint8_t *shown, size_t shown_length,
-                        uint8_t *dots, size_t dots_length);
+void px8_closing(px8_settings *settings, px8_answer *answer,
+                 uint8_t *cells, px8_size cells_length,
+                 uint8_t *layer, px8_size layer_length,
+                 uint8_t *shown, px8_size shown_length,
+                 uint8_t *dots, px8_size dots_length);
 
 /*
  * Reads the messages of a pack of up to PX8_PACK_MOST bytes, one after the other. A
@@ -600,16 +618,16 @@ px8_outcome px8_closing(px8_settings settings,
  * The answer has the counts of all messages together and the first refusal, record
  * says in which record it is.
  *
- * A refused call (answer.number 1, 19, 20, 21, 2, 3 or 16) changes nothing, as with a
+ * A refused call (answer->answer.number 1, 19, 20, 21, 2, 3 or 16) changes nothing, as with a
  * message: no message of it is read before the whole pack was looked through.
  */
-px8_pack_outcome px8_pack(px8_settings settings,
-                          const uint8_t *pack, size_t pack_length,
-                          uint8_t *cells, size_t cells_length,
-                          uint8_t *layer, size_t layer_length,
-                          uint8_t *shown, size_t shown_length,
-                          uint8_t *dots, size_t dots_length,
-                          uint8_t *printer, size_t printer_length);
+void px8_pack(px8_settings *settings, px8_pack_answer *answer,
+              const uint8_t *pack, px8_size pack_length,
+              uint8_t *cells, px8_size cells_length,
+              uint8_t *layer, px8_size layer_length,
+              uint8_t *shown, px8_size shown_length,
+              uint8_t *dots, px8_size dots_length,
+              uint8_t *printer, px8_size printer_length);
 
 /*
  * Sets the text of a key, number 1 to PX8_KEYS, to these PX8_KEY_TEXT codes, which
@@ -617,17 +635,17 @@ px8_pack_outcome px8_pack(px8_settings settings,
  * next message, short or not, piece, closing or pack with a record on, and in the
  * copies that these print. It is served whatever the display is, and while bytes of a stream wait.
  *
- * A refused call (answer.number 3 or 17) returns the settings as they were given.
+ * A refused call (answer.number 3 or 17) leaves the settings as they were.
  */
-px8_outcome px8_key_text(px8_settings settings, size_t number,
-                         const uint8_t *text, size_t text_length);
+void px8_key_text(px8_settings *settings, px8_answer *answer, px8_size number,
+                  const uint8_t *text, px8_size text_length);
 
 /*
  * The part of a printer buffer to send on: its first `count` bytes, with
  * answer.printed for the count. Returned is that part's length: count, or 0 if
  * count is larger than the length. It refuses nothing and writes nothing.
  */
-size_t px8_printed(const uint8_t *buffer, size_t length, size_t count);
+px8_size px8_printed(const uint8_t *buffer, px8_size length, px8_size count);
 
 /*
  * Compares two shown screens: writes a record for each place that differs, each
@@ -639,17 +657,19 @@ size_t px8_printed(const uint8_t *buffer, size_t length, size_t count);
  * more places differ than list_length. A refused call counts 0, and no record
  * of the list is altered.
  */
-px8_compared px8_compare(const uint8_t *first, size_t first_length,
-                         const uint8_t *second, size_t second_length,
-                         px8_difference *list, size_t list_length);
+void px8_compare(px8_compared *answer,
+                 const uint8_t *first, px8_size first_length,
+                 const uint8_t *second, px8_size second_length,
+                 px8_difference *list, px8_size list_length);
 
 /*
  * Only the first difference, by rows from the left; found is 0 exactly when
  * the screens are equal or the call is refused. Refused with 1 unless both
  * lengths are PX8_SHOWN.
  */
-px8_first px8_first_difference(const uint8_t *first, size_t first_length,
-                               const uint8_t *second, size_t second_length);
+void px8_first_difference(px8_first *answer,
+                          const uint8_t *first, px8_size first_length,
+                          const uint8_t *second, px8_size second_length);
 
 /*
  * Works out which codes a trace of presses and releases sends under the key
@@ -671,15 +691,15 @@ px8_first px8_first_difference(const uint8_t *first, size_t first_length,
  *
  * A refused call writes nothing and has the count 0.
  */
-px8_repeats px8_key_repeats(px8_settings settings,
-                            const uint8_t *trace, size_t trace_length,
-                            uint8_t *output, size_t output_length);
+void px8_key_repeats(const px8_settings *settings, px8_repeats *answer,
+                     const uint8_t *trace, px8_size trace_length,
+                     uint8_t *output, px8_size output_length);
 
 /*
  * Writes a sequence, given by its second byte and its parameters as sent (see "what a
  * message holds"), into the buffer from the place on: ESC, the second byte, the
  * parameters, and no other byte. Several follow one behind another when each call is
- * given the place that the one before returned, from 0 on; the place is then how much
+ * given the place that the one before reached, from 0 on; the place is then how much
  * of the buffer is to be sent. PX8_SEQUENCE_MOST bytes hold any sequence.
  *
  * What is written is read back as that one sequence by whoever has these settings, a copy
@@ -696,11 +716,11 @@ px8_repeats px8_key_repeats(px8_settings settings,
  * where the buffer has no space. Each call judges by the settings given, not by what
  * the sequences written before would change: after ESC 208 give settings of its mode.
  *
- * A refused call alters no byte of the buffer and returns the place given.
+ * A refused call alters no byte of the buffer, and its answer has the place given.
  */
-px8_reached px8_write(px8_settings settings, uint8_t second,
-                      const uint8_t *parameters, size_t parameters_length,
-                      uint8_t *buffer, size_t buffer_length, size_t place);
+void px8_write(const px8_settings *settings, px8_reached *answer, uint8_t second,
+               const uint8_t *parameters, px8_size parameters_length,
+               uint8_t *buffer, px8_size buffer_length, px8_size place);
 
 #ifdef __cplusplus
 }
@@ -719,7 +739,7 @@ PX8_HOLDS(sizeof(px8_place) == 4);
 PX8_HOLDS(offsetof(px8_place, line) == 0);
 PX8_HOLDS(offsetof(px8_place, column) == 1);
 PX8_HOLDS(offsetof(px8_place, top) == 2);
-PX8_HOLDS(offsetof(px8_place, waiting) == 3);
+PX8_HOLDS(offsetof(px8_place, late) == 3);
 
 PX8_HOLDS(sizeof(px8_keys) == 21);
 PX8_HOLDS(offsetof(px8_keys, leds) == 0);
@@ -755,7 +775,7 @@ PX8_HOLDS(offsetof(px8_settings, texts) == 308);
 PX8_HOLDS(offsetof(px8_settings, marks) == 388);
 PX8_HOLDS(offsetof(px8_settings, rule) == 484);
 
-PX8_HOLDS(sizeof(size_t) == 8);
+PX8_HOLDS(sizeof(px8_size) == 8);
 PX8_HOLDS(sizeof(px8_answer) == 32);
 PX8_HOLDS(offsetof(px8_answer, number) == 0);
 PX8_HOLDS(offsetof(px8_answer, taken) == 4);
@@ -766,14 +786,9 @@ PX8_HOLDS(offsetof(px8_answer, parameter) == 17);
 PX8_HOLDS(offsetof(px8_answer, offset) == 20);
 PX8_HOLDS(offsetof(px8_answer, printed) == 24);
 
-PX8_HOLDS(sizeof(px8_outcome) == 520);
-PX8_HOLDS(offsetof(px8_outcome, settings) == 0);
-PX8_HOLDS(offsetof(px8_outcome, answer) == 488);
-
-PX8_HOLDS(sizeof(px8_pack_outcome) == 528);
-PX8_HOLDS(offsetof(px8_pack_outcome, settings) == 0);
-PX8_HOLDS(offsetof(px8_pack_outcome, answer) == 488);
-PX8_HOLDS(offsetof(px8_pack_outcome, record) == 520);
+PX8_HOLDS(sizeof(px8_pack_answer) == 40);
+PX8_HOLDS(offsetof(px8_pack_answer, answer) == 0);
+PX8_HOLDS(offsetof(px8_pack_answer, record) == 32);
 
 PX8_HOLDS(sizeof(px8_difference) == 4);
 PX8_HOLDS(offsetof(px8_difference, row) == 0);
@@ -789,10 +804,6 @@ PX8_HOLDS(sizeof(px8_first) == 6);
 PX8_HOLDS(offsetof(px8_first, number) == 0);
 PX8_HOLDS(offsetof(px8_first, found) == 1);
 PX8_HOLDS(offsetof(px8_first, difference) == 2);
-
-PX8_HOLDS(sizeof(px8_opened) == 492);
-PX8_HOLDS(offsetof(px8_opened, settings) == 0);
-PX8_HOLDS(offsetof(px8_opened, number) == 488);
 
 PX8_HOLDS(sizeof(px8_repeats) == 16);
 PX8_HOLDS(offsetof(px8_repeats, number) == 0);

@@ -2,7 +2,7 @@
  * A weighing bay at a serial line: it takes the bytes in whatever parts they
  * come, shows them at once, and closes the stream when the line ends.
  *
- *   gcc -std=c99 -o serial serial.c libboard.a && ./serial < serial.in
+ *   gcc -std=c99 -o serial serial.c libpx8.a && ./serial < serial.in
  *   stty -F /dev/ttyS0 raw 9600 && ./serial < /dev/ttyS0
  *
  * An argument says how many bytes to take at most at a time, 1 to 64. However the
@@ -47,51 +47,50 @@ typedef struct total {
 } total;
 
 /* Adds a call's answer; false if the whole call was refused. */
-static int add(total *to, px8_answer answer)
+static int add(total *to, const px8_answer *answer)
 {
-    if (answer.number != PX8_SERVED) {
-        fprintf(stderr, "refused %u\n", (unsigned)answer.number);
+    if (answer->number != PX8_SERVED) {
+        fprintf(stderr, "refused %u\n", (unsigned)answer->number);
         return 0;
     }
-    if (to->refused == 0 && answer.refused != 0) {
-        to->first = answer.first;
-        to->parameter = answer.parameter;
-        to->offset = to->closed + answer.offset;
+    if (to->refused == 0 && answer->refused != 0) {
+        to->first = answer->first;
+        to->parameter = answer->parameter;
+        to->offset = to->closed + answer->offset;
     }
-    to->taken += answer.taken;
-    to->accepted += answer.accepted;
-    to->refused += answer.refused;
+    to->taken += answer->taken;
+    to->accepted += answer->accepted;
+    to->refused += answer->refused;
     return 1;
 }
 
 /* A board would send these bytes to its printer as they are. Here each row
  * stands between bars, without its 13 and 10. (A copy of mode 3 has no rows of text;
  * the line that is stored beside this program has none.) */
-static void send_copies(const uint8_t *copies, size_t length)
+static void send_copies(const uint8_t *copies, px8_size length)
 {
-    size_t row;
+    px8_size row;
     for (row = 0; row + PX8_COPY_ROW <= length; row += PX8_COPY_ROW)
         printf("printer |%.*s|\n", PX8_WIDTH, (const char *)copies + row);
 }
 
 static int take_part(bay *at, total *to, const uint8_t *part, size_t length)
 {
-    const px8_outcome outcome =
-        px8_piece(at->settings, part, length, at->cells, sizeof at->cells, at->layer,
-                  sizeof at->layer, at->shown, sizeof at->shown, at->dots, sizeof at->dots,
-                  at->printer, sizeof at->printer);
-    at->settings = outcome.settings;
-    send_copies(at->printer, px8_printed(at->printer, sizeof at->printer, outcome.answer.printed));
-    return add(to, outcome.answer);
+    px8_answer answer;
+    px8_piece(&at->settings, &answer, part, length, at->cells, sizeof at->cells, at->layer,
+              sizeof at->layer, at->shown, sizeof at->shown, at->dots, sizeof at->dots, at->printer,
+              sizeof at->printer);
+    send_copies(at->printer, px8_printed(at->printer, sizeof at->printer, answer.printed));
+    return add(to, &answer);
 }
 
 static int close_stream(bay *at, total *to)
 {
-    const px8_outcome outcome = px8_closing(at->settings, at->cells, sizeof at->cells, at->layer,
-                                            sizeof at->layer, at->shown, sizeof at->shown, at->dots,
-                                            sizeof at->dots);
-    const int served = add(to, outcome.answer);
-    at->settings = outcome.settings;
+    px8_answer answer;
+    int served;
+    px8_closing(&at->settings, &answer, at->cells, sizeof at->cells, at->layer, sizeof at->layer,
+                at->shown, sizeof at->shown, at->dots, sizeof at->dots);
+    served = add(to, &answer);
     to->closed = to->taken;
     return served;
 }
@@ -132,11 +131,10 @@ int main(int words, char **word)
     static bay here;
     static total line;
     const long most = words > 1 ? atol(word[1]) : PART;
-    const px8_opened opened = px8_opening(1, here.cells, sizeof here.cells, here.layer,
-                                          sizeof here.layer, here.shown, sizeof here.shown,
-                                          here.dots, sizeof here.dots);
-    here.settings = opened.settings;
-    if (most < 1 || most > PART || opened.number != PX8_SERVED)
+    if (most < 1 || most > PART)
+        return 2;
+    if (px8_opening(&here.settings, 1, here.cells, sizeof here.cells, here.layer, sizeof here.layer,
+                    here.shown, sizeof here.shown, here.dots, sizeof here.dots) != PX8_SERVED)
         return 2;
     if (!take_line(&here, &line, (size_t)most))
         return 1;

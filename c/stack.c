@@ -17,11 +17,16 @@
 
 static uint8_t cells[PX8_CELLS], layer[PX8_LAYER], shown[PX8_SHOWN], dots[PX8_DOTS], printer[PX8_DOTS];
 static px8_settings settings;
+static px8_answer answer;
+
+/* the four stores, and with the printer buffer */
+#define STORES cells, sizeof cells, layer, sizeof layer, shown, sizeof shown, dots, sizeof dots
+#define BUFFERS STORES, printer, sizeof printer
 
 static void *nothing(void *unused) { return unused; }
 
 static void *opening(void *unused) {
-    settings = px8_opening(2, cells, sizeof cells, layer, sizeof layer, shown, sizeof shown, dots, sizeof dots).settings;
+    if (px8_opening(&settings, 2, STORES) != PX8_SERVED) abort();
     return unused;
 }
 
@@ -29,7 +34,8 @@ static void *opening(void *unused) {
 static void *message(void *unused) {
     static const uint8_t bytes[] = {'3', '8', ',', 27, 61, 55, 32, 10, 27, 80, 27, 208, 2, 10, 20, 35, 27, 210, 1, 1, 90, 27, 80,
                                     27, 224, 230, 1, 2, 3, 4, 5, 6, 7, 8, 27, 208, 1, 16, 'A', 27, 144, 0, 2};
-    settings = px8_message(settings, bytes, sizeof bytes, cells, sizeof cells, layer, sizeof layer, shown, sizeof shown, dots, sizeof dots, printer, sizeof printer).settings;
+    px8_message(&settings, &answer, bytes, sizeof bytes, BUFFERS);
+    if (answer.number != PX8_SERVED) abort();
     return unused;
 }
 
@@ -38,11 +44,10 @@ static void *short_message(void *unused) {
     static const uint8_t few[] = {'3', '8', ',', '5', 27, 37, '0'};
     static const uint8_t bytes[] = {27, 208, 0, 24, 24, '3', '8', ',', 27, 61, 55, 32, 10, 27, 80, 27, 208, 2, 10, 20, 35, 27, 210, 1, 1, 90, 27, 80,
                                     27, 224, 230, 1, 2, 3, 4, 5, 6, 7, 8, 27, 208, 1, 16, 'A', 27, 144, 0, 2};
-    px8_outcome out = px8_message_short(settings, few, sizeof few, cells, sizeof cells, layer, sizeof layer, shown, sizeof shown, dots, sizeof dots, printer, sizeof printer);
-    if (out.answer.number != PX8_SERVED) abort();
-    out = px8_message_short(out.settings, bytes, sizeof bytes, cells, sizeof cells, layer, sizeof layer, shown, sizeof shown, dots, sizeof dots, printer, sizeof printer);
-    if (out.answer.refused != 0) abort();
-    settings = out.settings;
+    px8_message_short(&settings, &answer, few, sizeof few, BUFFERS);
+    if (answer.number != PX8_SERVED) abort();
+    px8_message_short(&settings, &answer, bytes, sizeof bytes, BUFFERS);
+    if (answer.number != PX8_SERVED || answer.refused != 0) abort();
     return unused;
 }
 
@@ -50,16 +55,15 @@ static void *short_message(void *unused) {
 static void *drawing(void *unused) {
     static const uint8_t bytes[] = {27, 208, 3, 'A', 27, 198, 1, 144, 0, 18, 0, 18, 0, 60, 170, 170, 3, 27, 199, 1, 63, 1, 223, 27, 80,
                                     27, 208, 1, 16};
-    const px8_outcome out = px8_message(settings, bytes, sizeof bytes, cells, sizeof cells, layer, sizeof layer, shown, sizeof shown, dots, sizeof dots, printer, sizeof printer);
-    if (out.answer.printed != PX8_DOTS || out.answer.refused != 0) abort();
-    settings = out.settings;
+    px8_message(&settings, &answer, bytes, sizeof bytes, BUFFERS);
+    if (answer.printed != PX8_DOTS || answer.refused != 0) abort();
     return unused;
 }
 
 /* the start of a line, cut inside a sequence */
 static void *piece(void *unused) {
     static const uint8_t bytes[] = {'3', '8', ',', 27, 61, 55, 32, 10, 27, 80, 27, 208, 2};
-    settings = px8_piece(settings, bytes, sizeof bytes, cells, sizeof cells, layer, sizeof layer, shown, sizeof shown, dots, sizeof dots, printer, sizeof printer).settings;
+    px8_piece(&settings, &answer, bytes, sizeof bytes, BUFFERS);
     if (settings.held != 3) abort();
     return unused;
 }
@@ -69,13 +73,13 @@ static void *next(void *unused) {
     static const uint8_t bytes[] = {10, 20, 35, 27, 210, 1, 1, 90, 27, 80, 27, 224, 230, 1, 2, 3, 4, 5, 6, 7, 8, 'A', 27, 61, 55, 32, 10,
                                     'L', 'O', 'A', 'D', ' ', 'k', 'g', ' ', '3', '8', ',', '5', '0', '0', 27, 208, 1, 16, 27, 210, 1, 1, 90,
                                     27, 80, 27, 144, 0, 2, 'A', 10, 27, 198, 1, 2, 3, 4, 5, 6, 7, 8, 9, 10};
-    settings = px8_piece(settings, bytes, sizeof bytes, cells, sizeof cells, layer, sizeof layer, shown, sizeof shown, dots, sizeof dots, printer, sizeof printer).settings;
+    px8_piece(&settings, &answer, bytes, sizeof bytes, BUFFERS);
     if (settings.held != PX8_WAITING_MOST) abort();
     return unused;
 }
 
 static void *closing(void *unused) {
-    settings = px8_closing(settings, cells, sizeof cells, layer, sizeof layer, shown, sizeof shown, dots, sizeof dots).settings;
+    px8_closing(&settings, &answer, STORES);
     if (settings.held != 0) abort();
     return unused;
 }
@@ -84,17 +88,16 @@ static void *closing(void *unused) {
 static void *pack(void *unused) {
     static const uint8_t bytes[] = {5, 0, 1, 0, '3', '8', 27, 80, 10, 0, 0, 1, 0, 13, 0, 1, 0, 27, 208, 2, 10, 20, 35, 27, 210, 1, 1, 90, 27, 80,
                                     11, 0, 1, 0, 27, 224, 230, 1, 2, 3, 4, 5, 6, 7, 8, 1, 0, 1, 0, 'A'};
-    const px8_pack_outcome out = px8_pack(settings, bytes, sizeof bytes, cells, sizeof cells, layer, sizeof layer, shown, sizeof shown, dots, sizeof dots, printer, sizeof printer);
-    if (out.answer.number != PX8_SERVED || out.answer.printed != 2 * PX8_COPY) abort();
-    settings = out.settings;
+    static px8_pack_answer all;
+    px8_pack(&settings, &all, bytes, sizeof bytes, BUFFERS);
+    if (all.answer.number != PX8_SERVED || all.answer.printed != 2 * PX8_COPY) abort();
     return unused;
 }
 
 static void *key_text(void *unused) {
     static const uint8_t text[PX8_KEY_TEXT] = {'T', 'A', 'R', 'E', ' ', ' ', ' ', ' '};
-    const px8_outcome out = px8_key_text(settings, PX8_KEYS, text, sizeof text);
-    if (out.answer.number != PX8_SERVED) abort();
-    settings = out.settings;
+    px8_key_text(&settings, &answer, PX8_KEYS, text, sizeof text);
+    if (answer.number != PX8_SERVED) abort();
     return unused;
 }
 
@@ -102,22 +105,28 @@ static void *key_text(void *unused) {
 static void *compare(void *unused) {
     static px8_difference list[PX8_PLACES];
     static uint8_t other[PX8_SHOWN];
+    static px8_compared compared;
     memset(shown, 32, sizeof shown);
-    if (px8_compare(shown, sizeof shown, other, sizeof other, list, PX8_PLACES).count != PX8_PLACES) abort();
+    px8_compare(&compared, shown, sizeof shown, other, sizeof other, list, PX8_PLACES);
+    if (compared.count != PX8_PLACES) abort();
     return unused;
 }
 
 /* a press with repeats and its release */
 static void *repeats(void *unused) {
     static const uint8_t trace[] = {5, 0, 1, 0, 0, 0, 0, 0, 65, 5, 0, 2, 0, 0, 1, 0, 0, 65};
-    px8_key_repeats(settings, trace, sizeof trace, printer, sizeof printer);
+    static px8_repeats codes;
+    px8_key_repeats(&settings, &codes, trace, sizeof trace, printer, sizeof printer);
+    if (codes.number != PX8_SERVED) abort();
     return unused;
 }
 
 /* the longest sequence */
 static void *writing(void *unused) {
     static const uint8_t bytes[] = {1, 144, 0, 18, 0, 18, 0, 60, 170, 170, 3};
-    if (px8_write(settings, 198, bytes, sizeof bytes, printer, sizeof printer, 0).place != PX8_SEQUENCE_MOST) abort();
+    static px8_reached reached;
+    px8_write(&settings, &reached, 198, bytes, sizeof bytes, printer, sizeof printer, 0);
+    if (reached.place != PX8_SEQUENCE_MOST) abort();
     return unused;
 }
 

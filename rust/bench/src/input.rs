@@ -24,6 +24,8 @@ pub enum Kind {
     Placing,
     /// letters over a line's end
     End,
+    /// digits with codes 8 and 10 between
+    Codes,
 }
 
 /// One line of the benchmark.
@@ -49,6 +51,7 @@ impl Case {
             Kind::Return => format!("scale-return-{size}-mode-{mode}"),
             Kind::Placing => format!("scale-placing-{size}-mode-{mode}"),
             Kind::End => format!("scale-end-{size}-mode-{mode}"),
+            Kind::Codes => format!("scale-codes-{size}-mode-{mode}"),
         }
     }
 
@@ -89,7 +92,7 @@ impl Case {
     pub fn cursor(&self) -> (usize, usize) {
         match self.kind {
             Kind::Lifts => (LINES, 1),
-            Kind::Letters | Kind::Return | Kind::Placing => (3, 5),
+            Kind::Letters | Kind::Return | Kind::Placing | Kind::Codes => (3, 5),
             Kind::End => (3, if matches!(self.mode, 1 | 2) { 37 } else { 78 }),
             _ => (1, 1),
         }
@@ -103,6 +106,10 @@ impl Case {
             Kind::Text | Kind::Short | Kind::Letters | Kind::End => random.text(size),
             Kind::Weight | Kind::Return => [vec![13], random.digits(size)].concat(),
             Kind::Placing => [random.placing(8), random.digits(size)].concat(),
+            Kind::Codes => {
+                let digits = random.digits(size);
+                [&digits[..3], &[8], &digits[3..4], &[10], &digits[4..]].concat()
+            }
             Kind::Mixed => random.mixed(size),
             Kind::Lifts => vec![10; size],
             Kind::Pieces => random.pieces(size),

@@ -34,7 +34,8 @@
 //! `scales`, those of traces of keys in `traces`, those of sequences written in
 //! `writes`.
 //!
-//! A run sends them often enough to last some milliseconds. Each run starts
+//! Settings and answers are lent on both sides; the stores lie behind each other, each
+//! aligned to 64 bytes. A run sends them often enough to last some milliseconds. Each run starts
 //! from the same settings and stores; within a run nothing is cleared. The
 //! sides take turns, and the best of the runs counts for each. At the end of
 //! every run ours and the plain side must have left the same settings and
@@ -46,6 +47,8 @@
 //! `paint`, `text`, `lifts` and `pieces` in mode 0: it knows no sequence of
 //! `mixed`, nor modes 1 and 2. Its runs are as long in time, not in messages.
 
+#[path = "../../difference/src/from_board.rs"]
+mod from_board;
 mod input;
 mod packs;
 mod scales;

@@ -4,13 +4,16 @@
 //! repaints everything too. In every mode with text on both screens and an empty layer:
 //!
 //! - `scale-letters-N`: N letters in their line, from line 3, column 5
-//! - `scale-return-6`: a carriage return and 6 digits, from there
-//! - `scale-placing-6`: 27,61,l,c and 6 digits, from there; l 1 to 8, c 1 to 30
+//! - `scale-return-N`: a carriage return and N digits, from there
+//! - `scale-placing-N`: 27,61,l,c and N digits, from there; l 1 to 8, c 1 to 30
 //! - `scale-end-5`: 5 letters over a line's end, of which 3 are the last of line 3
+//! - `scale-codes-6`: 3 digits, one back, a digit, one line down, 2 digits, from line 3,
+//!   column 5
 //!
 //! Nothing lifts and no window moves. Each of the 64 messages finds the cursor where the
-//! first one does. A line is `bench NAME short NS message NS repainting NS short/repainting
-//! R message/repainting R tuned NS short/tuned R message/tuned R`. The four take turns in
+//! first one does: on every side it is put back before the call. A line is `bench NAME short
+//! NS message NS short/message R repainting NS short/repainting R message/repainting R
+//! tuned NS short/tuned R message/tuned R`. The four take turns in
 //! one process, who comes first changes from run to run, the time is the median of the
 //! runs, and after every run all show the same and have left the same cells, layer and
 //! cursor.
@@ -22,13 +25,15 @@ use repainting::{Answer, Terminal};
 use std::time::Duration;
 
 fn all_cases() -> Vec<Case> {
-    let letters = [1, 5, 20].map(|size| (Kind::Letters, size));
-    let others = [(Kind::Return, 6), (Kind::Placing, 6), (Kind::End, 5)];
-    let inputs = letters.into_iter().chain(others);
+    let letters = [1, 5, 10, 20].map(|size| (Kind::Letters, size));
+    let returns = [1, 6, 12].map(|size| (Kind::Return, size));
+    let placings = [1, 6, 12].map(|size| (Kind::Placing, size));
+    let others = [(Kind::End, 5), (Kind::Codes, 6)];
+    let inputs = letters.into_iter().chain(returns).chain(placings).chain(others);
     inputs.flat_map(|(kind, size)| (0..4).map(move |mode| Case { kind, size, mode })).collect()
 }
 
-/// A side that takes each message with the settings of the start.
+/// A side that takes each message with the cursors of the start.
 #[derive(Clone)]
 struct Again<C: Calls, const SHORT: bool> {
     side: Side<C>,
@@ -44,10 +49,11 @@ impl<C: Calls, const SHORT: bool> Again<C, SHORT> {
 
 impl<C: Calls, const SHORT: bool> Takes for Again<C, SHORT> {
     fn message(&mut self, message: &[u8]) {
+        C::put_back(&mut self.side.settings, &self.start);
         if SHORT {
-            self.side.message_short_from(&self.start, message);
+            self.side.message_short(message);
         } else {
-            self.side.message_from(&self.start, message);
+            self.side.message(message);
         }
     }
 
@@ -85,8 +91,8 @@ impl Repainting {
         let places = ours.settings.places.map(|place| [place.line, place.column, place.top].map(usize::from));
         self.clean
             && self.shown() == ours.shown()
-            && *cells == ours.cells
-            && *layer == ours.layer
+            && *cells == ours.stores.cells
+            && *layer == ours.stores.layer
             && screens.map(|screen| [screen.line, screen.column, screen.top]) == places
     }
 }
@@ -111,6 +117,7 @@ pub fn bench(word: &str) {
     for case in all_cases().iter().filter(|case| case.name().contains(word)) {
         let [short, message, repainting, tuned] = measure(case);
         print!("bench {} short {short:.1} message {message:.1}", case.name());
+        print!(" short/message {:.2}", short / message);
         for (name, time) in [("repainting", repainting), ("tuned", tuned)] {
             print!(" {name} {time:.1} short/{name} {:.2} message/{name} {:.2}", short / time, message / time);
         }
@@ -161,6 +168,7 @@ fn run_of<T: Takes + Clone>(side: &mut T, messages: &[Vec<u8>], rounds: usize) -
 #[cfg(test)]
 mod tests {
     use super::*;
+    use crate::side::Stores;
 
     #[test]
     fn the_four_show_and_leave_the_same() {
@@ -175,11 +183,9 @@ mod tests {
             let mut ours = Again::<Board, false>::start(&case).side;
             let mut repainting = Repainting::start(&case).terminal;
             for message in case.messages() {
-                let (mut shown, mut dots) = ([0; px8::SHOWN], [0; px8::DOTS]);
-                let Side { settings, cells, layer, .. } = &mut ours;
-                let (after, answer) =
-                    px8::message(*settings, &message, cells, layer, &mut shown, &mut dots, &mut []);
-                *settings = after;
+                let Side { settings, stores, .. } = &mut ours;
+                let Stores { cells, layer, shown, dots } = stores;
+                let answer = px8::message(settings, &message, cells, layer, shown, dots, &mut []);
                 let expected = Answer {
                     number: answer.number,
                     taken: answer.taken as usize,
@@ -190,7 +196,7 @@ mod tests {
                     parameter: answer.parameter,
                 };
                 assert_eq!(repainting.message(&message), expected, "{}", case.name());
-                assert_eq!(repainting.shown, shown, "{}", case.name());
+                assert_eq!(repainting.shown, *shown, "{}", case.name());
             }
         }
     }

@@ -1,7 +1,8 @@
 //! The sides: what each takes and shows. Ours and the plain one have the same
-//! stores, and the calls of one implementation.
+//! stores, and the calls of one implementation; settings are lent on both.
 
-use std::fmt::Debug;
+use crate::from_board::settings_from_board;
+use reference::{Answer, Settings};
 
 /// A side that takes messages, and has all 640 places ready after each.
 pub trait Takes {
@@ -10,61 +11,42 @@ pub trait Takes {
     fn shown(&self) -> &[u8];
 }
 
-/// The calls of one implementation, on its own type of settings.
+/// The calls of one implementation, on its own type of settings. Each call says whether it
+/// was served with no refusal.
 pub trait Calls: Clone {
-    type Settings: Copy + Debug;
+    type Settings: Copy;
 
-    fn opening(cells: &mut [u8], layer: &mut [u8], shown: &mut [u8], dots: &mut [u8]) -> Self::Settings;
+    /// The same settings for all, to compare them.
+    fn plain(settings: &Self::Settings) -> Settings;
 
-    /// The settings afterwards, and whether the message was taken whole with
-    /// no refusal.
-    fn message(
-        settings: Self::Settings,
-        message: &[u8],
-        cells: &mut [u8],
-        layer: &mut [u8],
-        shown: &mut [u8],
-        dots: &mut [u8],
-    ) -> (Self::Settings, bool);
+    /// Puts the cursors back to where they are in `start`.
+    fn put_back(settings: &mut Self::Settings, start: &Self::Settings);
 
-    /// A short message, as a message.
-    fn message_short(
-        settings: Self::Settings,
-        message: &[u8],
-        cells: &mut [u8],
-        layer: &mut [u8],
-        shown: &mut [u8],
-        dots: &mut [u8],
-    ) -> (Self::Settings, bool);
+    /// Puts the stream back to where it is in `start`.
+    fn wait_again(settings: &mut Self::Settings, start: &Self::Settings);
 
-    /// A piece, as a message.
-    fn piece(
-        settings: Self::Settings,
-        piece: &[u8],
-        cells: &mut [u8],
-        layer: &mut [u8],
-        shown: &mut [u8],
-        dots: &mut [u8],
-    ) -> (Self::Settings, bool);
+    fn opening(stores: &mut Stores) -> Self::Settings;
 
-    /// A pack, as a message.
-    fn pack(
-        settings: Self::Settings,
-        pack: &[u8],
-        cells: &mut [u8],
-        layer: &mut [u8],
-        shown: &mut [u8],
-        dots: &mut [u8],
-    ) -> (Self::Settings, bool);
+    fn message(settings: &mut Self::Settings, message: &[u8], stores: &mut Stores) -> bool;
 
-    /// A closing, as an empty message.
-    fn closing(
-        settings: Self::Settings,
-        cells: &mut [u8],
-        layer: &mut [u8],
-        shown: &mut [u8],
-        dots: &mut [u8],
-    ) -> (Self::Settings, bool);
+    fn message_short(settings: &mut Self::Settings, message: &[u8], stores: &mut Stores) -> bool;
+
+    fn piece(settings: &mut Self::Settings, piece: &[u8], stores: &mut Stores) -> bool;
+
+    fn pack(settings: &mut Self::Settings, pack: &[u8], stores: &mut Stores) -> bool;
+
+    fn closing(settings: &mut Self::Settings, stores: &mut Stores) -> bool;
+}
+
+/// The four stores behind each other, each aligned to 64 bytes and not all to the same
+/// offset of a page: there a load can wait for a store that has nothing to do with it.
+#[derive(Clone, PartialEq)]
+#[repr(C, align(64))]
+pub struct Stores {
+    pub cells: [u8; 3840],
+    pub layer: [u8; 1280],
+    pub shown: [u8; 640],
+    pub dots: [u8; 3840],
 }
 
 /// The proved library.
@@ -74,67 +56,46 @@ pub struct Board;
 impl Calls for Board {
     type Settings = px8::Settings;
 
-    fn opening(cells: &mut [u8], layer: &mut [u8], shown: &mut [u8], dots: &mut [u8]) -> px8::Settings {
+    fn plain(settings: &px8::Settings) -> Settings {
+        settings_from_board(settings)
+    }
+
+    fn put_back(settings: &mut px8::Settings, start: &px8::Settings) {
+        settings.places = start.places;
+    }
+
+    fn wait_again(settings: &mut px8::Settings, start: &px8::Settings) {
+        (settings.held, settings.waiting, settings.count) = (start.held, start.waiting, start.count);
+    }
+
+    fn opening(stores: &mut Stores) -> px8::Settings {
+        let Stores { cells, layer, shown, dots } = stores;
         px8::opening(1, cells, layer, shown, dots).0
     }
 
-    fn message(
-        settings: px8::Settings,
-        message: &[u8],
-        cells: &mut [u8],
-        layer: &mut [u8],
-        shown: &mut [u8],
-        dots: &mut [u8],
-    ) -> (px8::Settings, bool) {
-        let (after, answer) = px8::message(settings, message, cells, layer, shown, dots, &mut []);
-        (after, answer.number == 0 && answer.refused == 0)
+    fn message(settings: &mut px8::Settings, message: &[u8], stores: &mut Stores) -> bool {
+        let Stores { cells, layer, shown, dots } = stores;
+        px8::message(settings, message, cells, layer, shown, dots, &mut []).is_clean()
     }
 
-    fn message_short(
-        settings: px8::Settings,
-        message: &[u8],
-        cells: &mut [u8],
-        layer: &mut [u8],
-        shown: &mut [u8],
-        dots: &mut [u8],
-    ) -> (px8::Settings, bool) {
-        let (after, answer) = px8::message_short(settings, message, cells, layer, shown, dots, &mut []);
-        (after, answer.number == 0 && answer.refused == 0)
+    fn message_short(settings: &mut px8::Settings, message: &[u8], stores: &mut Stores) -> bool {
+        let Stores { cells, layer, shown, dots } = stores;
+        px8::message_short(settings, message, cells, layer, shown, dots, &mut []).is_clean()
     }
 
-    fn piece(
-        settings: px8::Settings,
-        piece: &[u8],
-        cells: &mut [u8],
-        layer: &mut [u8],
-        shown: &mut [u8],
-        dots: &mut [u8],
-    ) -> (px8::Settings, bool) {
-        let (after, answer) = px8::piece(settings, piece, cells, layer, shown, dots, &mut []);
-        (after, answer.number == 0 && answer.refused == 0)
+    fn piece(settings: &mut px8::Settings, piece: &[u8], stores: &mut Stores) -> bool {
+        let Stores { cells, layer, shown, dots } = stores;
+        px8::piece(settings, piece, cells, layer, shown, dots, &mut []).is_clean()
     }
 
-    fn pack(
-        settings: px8::Settings,
-        pack: &[u8],
-        cells: &mut [u8],
-        layer: &mut [u8],
-        shown: &mut [u8],
-        dots: &mut [u8],
-    ) -> (px8::Settings, bool) {
-        let (after, answer, _) = px8::pack(settings, pack, cells, layer, shown, dots, &mut []);
-        (after, answer.number == 0 && answer.refused == 0)
+    fn pack(settings: &mut px8::Settings, pack: &[u8], stores: &mut Stores) -> bool {
+        let Stores { cells, layer, shown, dots } = stores;
+        px8::pack(settings, pack, cells, layer, shown, dots, &mut []).0.is_clean()
     }
 
-    fn closing(
-        settings: px8::Settings,
-        cells: &mut [u8],
-        layer: &mut [u8],
-        shown: &mut [u8],
-        dots: &mut [u8],
-    ) -> (px8::Settings, bool) {
-        let (after, answer) = px8::closing(settings, cells, layer, shown, dots);
-        (after, answer.number == 0 && answer.refused == 0)
+    fn closing(settings: &mut px8::Settings, stores: &mut Stores) -> bool {
+        let Stores { cells, layer, shown, dots } = stores;
+        px8::closing(settings, cells, layer, shown, dots).is_clean()
     }
 }
 
@@ -142,80 +103,61 @@ impl Calls for Board {
 #[derive(Clone)]
 pub struct Plain;
 
-impl Calls for Plain {
-    type Settings = tuned::Settings;
+fn is_clean(answer: Answer) -> bool {
+    answer.number == 0 && answer.refused == 0
+}
 
-    fn opening(cells: &mut [u8], layer: &mut [u8], shown: &mut [u8], dots: &mut [u8]) -> tuned::Settings {
+impl Calls for Plain {
+    type Settings = Settings;
+
+    fn plain(settings: &Settings) -> Settings {
+        *settings
+    }
+
+    fn put_back(settings: &mut Settings, start: &Settings) {
+        settings.places = start.places;
+    }
+
+    fn wait_again(settings: &mut Settings, start: &Settings) {
+        (settings.held, settings.waiting, settings.count) = (start.held, start.waiting, start.count);
+    }
+
+    fn opening(stores: &mut Stores) -> Settings {
+        let Stores { cells, layer, shown, dots } = stores;
         tuned::opening(1, cells, layer, shown, dots).0
     }
 
-    fn message(
-        settings: tuned::Settings,
-        message: &[u8],
-        cells: &mut [u8],
-        layer: &mut [u8],
-        shown: &mut [u8],
-        dots: &mut [u8],
-    ) -> (tuned::Settings, bool) {
-        let (after, answer) = tuned::message(settings, message, cells, layer, shown, dots, &mut []);
-        (after, answer.number == 0 && answer.refused == 0)
+    fn message(settings: &mut Settings, message: &[u8], stores: &mut Stores) -> bool {
+        let Stores { cells, layer, shown, dots } = stores;
+        is_clean(tuned::message(settings, message, cells, layer, shown, dots, &mut []))
     }
 
-    fn message_short(
-        settings: tuned::Settings,
-        message: &[u8],
-        cells: &mut [u8],
-        layer: &mut [u8],
-        shown: &mut [u8],
-        dots: &mut [u8],
-    ) -> (tuned::Settings, bool) {
-        let (after, answer) = tuned::message_short(settings, message, cells, layer, shown, dots, &mut []);
-        (after, answer.number == 0 && answer.refused == 0)
+    fn message_short(settings: &mut Settings, message: &[u8], stores: &mut Stores) -> bool {
+        let Stores { cells, layer, shown, dots } = stores;
+        is_clean(tuned::message_short(settings, message, cells, layer, shown, dots, &mut []))
     }
 
-    fn piece(
-        settings: tuned::Settings,
-        piece: &[u8],
-        cells: &mut [u8],
-        layer: &mut [u8],
-        shown: &mut [u8],
-        dots: &mut [u8],
-    ) -> (tuned::Settings, bool) {
-        let (after, answer) = tuned::piece(settings, piece, cells, layer, shown, dots, &mut []);
-        (after, answer.number == 0 && answer.refused == 0)
+    fn piece(settings: &mut Settings, piece: &[u8], stores: &mut Stores) -> bool {
+        let Stores { cells, layer, shown, dots } = stores;
+        is_clean(tuned::piece(settings, piece, cells, layer, shown, dots, &mut []))
     }
 
-    fn pack(
-        settings: tuned::Settings,
-        pack: &[u8],
-        cells: &mut [u8],
-        layer: &mut [u8],
-        shown: &mut [u8],
-        dots: &mut [u8],
-    ) -> (tuned::Settings, bool) {
-        let (after, answer, _) = tuned::pack(settings, pack, cells, layer, shown, dots, &mut []);
-        (after, answer.number == 0 && answer.refused == 0)
+    fn pack(settings: &mut Settings, pack: &[u8], stores: &mut Stores) -> bool {
+        let Stores { cells, layer, shown, dots } = stores;
+        is_clean(tuned::pack(settings, pack, cells, layer, shown, dots, &mut []).0)
     }
 
-    fn closing(
-        settings: tuned::Settings,
-        cells: &mut [u8],
-        layer: &mut [u8],
-        shown: &mut [u8],
-        dots: &mut [u8],
-    ) -> (tuned::Settings, bool) {
-        let (after, answer) = tuned::closing(settings, cells, layer, shown, dots);
-        (after, answer.number == 0 && answer.refused == 0)
+    fn closing(settings: &mut Settings, stores: &mut Stores) -> bool {
+        let Stores { cells, layer, shown, dots } = stores;
+        is_clean(tuned::closing(settings, cells, layer, shown, dots))
     }
 }
 
 #[derive(Clone)]
+#[repr(C)]
 pub struct Side<C: Calls> {
+    pub stores: Stores,
     pub settings: C::Settings,
-    pub cells: [u8; 3840],
-    pub layer: [u8; 1280],
-    shown: [u8; 640],
-    dots: [u8; 3840],
     /// No message so far was refused, nor a sequence of one.
     clean: bool,
 }
@@ -223,10 +165,9 @@ pub struct Side<C: Calls> {
 impl<C: Calls> Side<C> {
     /// Opened, and brought to the start by these messages.
     pub fn start(messages: &[Vec<u8>]) -> Side<C> {
-        let (mut cells, mut layer) = ([0; 3840], [0; 1280]);
-        let (mut shown, mut dots) = ([0; 640], [0; 3840]);
-        let settings = C::opening(&mut cells, &mut layer, &mut shown, &mut dots);
-        let mut side = Side { settings, cells, layer, shown, dots, clean: true };
+        let mut stores = Stores { cells: [0; 3840], layer: [0; 1280], shown: [0; 640], dots: [0; 3840] };
+        let settings = C::opening(&mut stores);
+        let mut side = Side { stores, settings, clean: true };
         for message in messages {
             side.message(message);
         }
@@ -234,76 +175,38 @@ impl<C: Calls> Side<C> {
     }
 
     pub fn message_short(&mut self, message: &[u8]) {
-        let Side { settings, cells, layer, shown, dots, .. } = self;
-        let (after, clean) = C::message_short(*settings, message, cells, layer, shown, dots);
-        self.settings = after;
-        self.clean &= clean;
-    }
-
-    /// A message that finds these settings.
-    pub fn message_from(&mut self, settings: &C::Settings, message: &[u8]) {
-        let Side { cells, layer, shown, dots, .. } = self;
-        let (after, clean) = C::message(*settings, message, cells, layer, shown, dots);
-        self.settings = after;
-        self.clean &= clean;
-    }
-
-    /// A short one.
-    pub fn message_short_from(&mut self, settings: &C::Settings, message: &[u8]) {
-        let Side { cells, layer, shown, dots, .. } = self;
-        let (after, clean) = C::message_short(*settings, message, cells, layer, shown, dots);
-        self.settings = after;
-        self.clean &= clean;
+        self.clean &= C::message_short(&mut self.settings, message, &mut self.stores);
     }
 
     pub fn piece(&mut self, piece: &[u8]) {
-        let Side { settings, cells, layer, shown, dots, .. } = self;
-        let (after, clean) = C::piece(*settings, piece, cells, layer, shown, dots);
-        self.settings = after;
-        self.clean &= clean;
+        self.clean &= C::piece(&mut self.settings, piece, &mut self.stores);
     }
 
     pub fn pack(&mut self, pack: &[u8]) {
-        let Side { settings, cells, layer, shown, dots, .. } = self;
-        let (after, clean) = C::pack(*settings, pack, cells, layer, shown, dots);
-        self.settings = after;
-        self.clean &= clean;
+        self.clean &= C::pack(&mut self.settings, pack, &mut self.stores);
     }
 
-    /// Closes the stream that these settings hold.
-    pub fn closing(&mut self, settings: &C::Settings) {
-        let Side { cells, layer, shown, dots, .. } = self;
-        let (after, clean) = C::closing(*settings, cells, layer, shown, dots);
-        self.settings = after;
-        self.clean &= clean;
+    pub fn closing(&mut self) {
+        self.clean &= C::closing(&mut self.settings, &mut self.stores);
     }
 
-    /// Whether both did the same work: the input is meant to be accepted
-    /// whole. Settings are compared by their text, field by field.
+    /// Whether both did the same work: the input is meant to be accepted whole.
     pub fn same_as<D: Calls>(&self, other: &Side<D>) -> bool {
-        self.same_stores(other) && format!("{:?}", self.settings) == format!("{:?}", other.settings)
+        self.same_stores(other) && C::plain(&self.settings) == D::plain(&other.settings)
     }
 
     /// The same but for the settings.
     pub fn same_stores<D: Calls>(&self, other: &Side<D>) -> bool {
-        self.clean
-            && other.clean
-            && self.cells == other.cells
-            && self.layer == other.layer
-            && self.shown == other.shown
-            && self.dots == other.dots
+        self.clean && other.clean && self.stores == other.stores
     }
 }
 
 impl<C: Calls> Takes for Side<C> {
     fn message(&mut self, message: &[u8]) {
-        let Side { settings, cells, layer, shown, dots, .. } = self;
-        let (after, clean) = C::message(*settings, message, cells, layer, shown, dots);
-        self.settings = after;
-        self.clean &= clean;
+        self.clean &= C::message(&mut self.settings, message, &mut self.stores);
     }
 
     fn shown(&self) -> &[u8] {
-        &self.shown
+        &self.stores.shown
     }
 }

@@ -105,7 +105,10 @@ impl<C: Calls> Takes for Streaming<C> {
     fn message(&mut self, part: &[u8]) {
         match self.call {
             Call::Piece => self.side.piece(part),
-            Call::Closing => self.side.closing(&self.given),
+            Call::Closing => {
+                C::wait_again(&mut self.side.settings, &self.given);
+                self.side.closing();
+            }
         }
     }
 

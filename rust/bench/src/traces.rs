@@ -51,11 +51,11 @@ fn measure(case: &Case) -> [f64; 2] {
     given.keys.interval = 1;
     plain_given.keys.interval = 1;
     let ours = |output: &mut [u8]| {
-        let repeats = px8::key_repeats(black_box(given), black_box(&case.trace), output);
+        let repeats = px8::key_repeats(black_box(&given), black_box(&case.trace), output);
         (repeats.number, repeats.count as usize)
     };
     let plain = |output: &mut [u8]| {
-        tuned::repeats::key_repeats(black_box(plain_given), black_box(&case.trace), output)
+        tuned::repeats::key_repeats(black_box(&plain_given), black_box(&case.trace), output)
     };
     let mut rounds = 1;
     while timed(&plain, case.room, rounds).0 < SHORTEST_RUN {

@@ -62,22 +62,22 @@ type Side<'a> = &'a dyn Fn(&mut [u8]) -> (usize, u8);
 fn measure(case: &Case) -> [f64; 2] {
     let (mut cells, mut layer) = ([0; px8::CELLS], [0; px8::LAYER]);
     let (mut shown, mut dots) = ([0; px8::SHOWN], [0; px8::DOTS]);
-    let opened = px8::opening(1, &mut cells, &mut layer, &mut shown, &mut dots).0;
-    let given = px8::message(opened, case.mode, &mut cells, &mut layer, &mut shown, &mut dots, &mut []).0;
-    let opened = tuned::opening(1, &mut cells, &mut layer, &mut shown, &mut dots).0;
-    let plain_given =
-        tuned::message(opened, case.mode, &mut cells, &mut layer, &mut shown, &mut dots, &mut []).0;
+    let mut given = px8::opening(1, &mut cells, &mut layer, &mut shown, &mut dots).0;
+    let set = px8::message(&mut given, case.mode, &mut cells, &mut layer, &mut shown, &mut dots, &mut []);
+    let mut plain_given = tuned::opening(1, &mut cells, &mut layer, &mut shown, &mut dots).0;
+    tuned::message(&mut plain_given, case.mode, &mut cells, &mut layer, &mut shown, &mut dots, &mut []);
+    assert!(set.is_clean(), "{}", case.name);
     let ours = |buffer: &mut [u8]| {
         case.sequences.iter().fold((0, 0), |(place, _), (second, parameters)| {
-            let reached = px8::write(black_box(given), *second, parameters, buffer, place);
+            let reached = px8::write(black_box(&given), *second, parameters, buffer, place);
             (reached.place, reached.number)
         })
     };
     // a plain function of another crate would be drawn into the loop
-    let write = black_box(tuned::writes::write as fn(_, u8, &[u8], &mut [u8], usize) -> _);
+    let write = black_box(tuned::writes::write as fn(&_, u8, &[u8], &mut [u8], usize) -> _);
     let plain = |buffer: &mut [u8]| {
         case.sequences.iter().fold((0, 0), |(place, _), (second, parameters)| {
-            let (place, number, _) = write(black_box(plain_given), *second, parameters, buffer, place);
+            let (place, number, _) = write(black_box(&plain_given), *second, parameters, buffer, place);
             (place, number)
         })
     };

@@ -118,15 +118,34 @@ pub const REFERENCE: Functions = Functions {
     printed: reference::printed,
 };
 
+/// The tuned version's settings are lent: here they go in and come back.
 pub const TUNED: Functions = Functions {
     name: "tuned",
     opening: tuned::opening,
-    message: tuned::message,
-    message_short: tuned::message_short,
-    piece: tuned::piece,
-    closing: tuned::closing,
-    pack: tuned::pack,
-    key_text: tuned::key_text,
+    message: |mut settings, message, cells, layer, shown, dots, printer| {
+        let answer = tuned::message(&mut settings, message, cells, layer, shown, dots, printer);
+        (settings, answer)
+    },
+    message_short: |mut settings, message, cells, layer, shown, dots, printer| {
+        let answer = tuned::message_short(&mut settings, message, cells, layer, shown, dots, printer);
+        (settings, answer)
+    },
+    piece: |mut settings, piece, cells, layer, shown, dots, printer| {
+        let answer = tuned::piece(&mut settings, piece, cells, layer, shown, dots, printer);
+        (settings, answer)
+    },
+    closing: |mut settings, cells, layer, shown, dots| {
+        let answer = tuned::closing(&mut settings, cells, layer, shown, dots);
+        (settings, answer)
+    },
+    pack: |mut settings, pack, cells, layer, shown, dots, printer| {
+        let (answer, record) = tuned::pack(&mut settings, pack, cells, layer, shown, dots, printer);
+        (settings, answer, record)
+    },
+    key_text: |mut settings, number, text| {
+        let answer = tuned::key_text(&mut settings, number, text);
+        (settings, answer)
+    },
     printed: tuned::printed,
 };
 

@@ -1,13 +1,16 @@
 //! The proved library behind `compare::Terminal`, so that it is compared
 //! with the reference like any other implementation.
 
+mod from_board;
+
 use compare::screens::Screens;
 use compare::traces::Repeats;
 use compare::vectors::{play, play_on, recording, Case};
 use compare::writes::{Reached, Writes};
 use compare::Terminal;
+pub use from_board::settings_from_board;
 use reference::differences::Record;
-use reference::{Answer, Keys, Place, Settings};
+use reference::{Answer, Place, Settings};
 
 /// The archive's calls. The types of both sides have the same fields;
 /// they are carried over one by one, so that no layout is taken on trust.
@@ -40,9 +43,9 @@ impl Terminal for Board {
         dots: &mut [u8],
         printer: &mut [u8],
     ) -> (Settings, Answer) {
-        let given = settings_to_board(&settings);
-        let (after, answer) = px8::message(given, message, cells, layer, shown, dots, printer);
-        (settings_from_board(&after), answer_from_board(&answer))
+        let mut lent = settings_to_board(&settings);
+        let answer = px8::message(&mut lent, message, cells, layer, shown, dots, printer);
+        (settings_from_board(&lent), answer_from_board(&answer))
     }
 
     fn message_short(
@@ -55,9 +58,9 @@ impl Terminal for Board {
         dots: &mut [u8],
         printer: &mut [u8],
     ) -> (Settings, Answer) {
-        let given = settings_to_board(&settings);
-        let (after, answer) = px8::message_short(given, message, cells, layer, shown, dots, printer);
-        (settings_from_board(&after), answer_from_board(&answer))
+        let mut lent = settings_to_board(&settings);
+        let answer = px8::message_short(&mut lent, message, cells, layer, shown, dots, printer);
+        (settings_from_board(&lent), answer_from_board(&answer))
     }
 
     fn piece(
@@ -70,9 +73,9 @@ impl Terminal for Board {
         dots: &mut [u8],
         printer: &mut [u8],
     ) -> (Settings, Answer) {
-        let given = settings_to_board(&settings);
-        let (after, answer) = px8::piece(given, piece, cells, layer, shown, dots, printer);
-        (settings_from_board(&after), answer_from_board(&answer))
+        let mut lent = settings_to_board(&settings);
+        let answer = px8::piece(&mut lent, piece, cells, layer, shown, dots, printer);
+        (settings_from_board(&lent), answer_from_board(&answer))
     }
 
     fn closing(
@@ -83,8 +86,9 @@ impl Terminal for Board {
         shown: &mut [u8],
         dots: &mut [u8],
     ) -> (Settings, Answer) {
-        let (after, answer) = px8::closing(settings_to_board(&settings), cells, layer, shown, dots);
-        (settings_from_board(&after), answer_from_board(&answer))
+        let mut lent = settings_to_board(&settings);
+        let answer = px8::closing(&mut lent, cells, layer, shown, dots);
+        (settings_from_board(&lent), answer_from_board(&answer))
     }
 
     fn pack(
@@ -97,18 +101,19 @@ impl Terminal for Board {
         dots: &mut [u8],
         printer: &mut [u8],
     ) -> (Settings, Answer, u32) {
-        let given = settings_to_board(&settings);
-        let (after, answer, record) = px8::pack(given, pack, cells, layer, shown, dots, printer);
-        (settings_from_board(&after), answer_from_board(&answer), record)
+        let mut lent = settings_to_board(&settings);
+        let (answer, record) = px8::pack(&mut lent, pack, cells, layer, shown, dots, printer);
+        (settings_from_board(&lent), answer_from_board(&answer), record)
     }
 
     fn key_text(&mut self, settings: Settings, number: usize, text: &[u8]) -> (Settings, Answer) {
-        let (after, answer) = px8::key_text(settings_to_board(&settings), number, text);
-        (settings_from_board(&after), answer_from_board(&answer))
+        let mut lent = settings_to_board(&settings);
+        let answer = px8::key_text(&mut lent, number, text);
+        (settings_from_board(&lent), answer_from_board(&answer))
     }
 
     fn printed<'a>(&mut self, buffer: &'a [u8], count: usize) -> &'a [u8] {
-        px8::printed(buffer, count)
+        px8::printed(buffer, count as u64)
     }
 }
 
@@ -151,7 +156,7 @@ impl Repeats for Board {
     }
 
     fn key_repeats(&mut self, settings: Settings, trace: &[u8], output: &mut [u8]) -> (u8, usize) {
-        let repeats = px8::key_repeats(settings_to_board(&settings), trace, output);
+        let repeats = px8::key_repeats(&settings_to_board(&settings), trace, output);
         (repeats.number, repeats.count as usize)
     }
 }
@@ -169,7 +174,7 @@ impl Writes for Board {
         buffer: &mut [u8],
         place: usize,
     ) -> Reached {
-        let reached = px8::write(settings_to_board(&settings), second, parameters, buffer, place);
+        let reached = px8::write(&settings_to_board(&settings), second, parameters, buffer, place);
         (reached.place, reached.number, reached.parameter)
     }
 }
@@ -203,7 +208,7 @@ impl Writes for NamedBoard {
 }
 
 pub fn settings_to_board(s: &Settings) -> px8::Settings {
-    let place = |p: Place| px8::Place { line: p.line, column: p.column, top: p.top, waiting: p.waiting };
+    let place = |p: Place| px8::Place { line: p.line, column: p.column, top: p.top, late: p.waiting };
     let keys = &s.keys;
     px8::Settings {
         mode: s.mode,
@@ -240,44 +245,6 @@ pub fn settings_to_board(s: &Settings) -> px8::Settings {
     }
 }
 
-pub fn settings_from_board(s: &px8::Settings) -> Settings {
-    let place = |p: px8::Place| Place { line: p.line, column: p.column, top: p.top, waiting: p.waiting };
-    let keys = &s.keys;
-    Settings {
-        mode: s.mode,
-        lines1: s.lines1,
-        lines2: s.lines2,
-        columns1: s.columns1,
-        columns2: s.columns2,
-        boundary: s.boundary,
-        selected: s.selected,
-        places: s.places.map(place),
-        tracking: s.tracking,
-        step: s.step,
-        secret: s.secret,
-        cursor: s.cursor,
-        display: s.display,
-        kind: s.kind,
-        keys: Keys {
-            leds: keys.leds,
-            charset: keys.charset,
-            strings: keys.strings,
-            repeat: keys.repeat,
-            delay: keys.delay,
-            interval: keys.interval,
-            shift: keys.shift,
-            arrows: keys.arrows,
-        },
-        patterns: s.patterns,
-        waiting: s.waiting,
-        held: s.held,
-        count: s.count,
-        texts: s.texts,
-        marks: s.marks,
-        rule: s.rule,
-    }
-}
-
 pub fn answer_from_board(answer: &px8::Answer) -> Answer {
     Answer {
         number: answer.number,
@@ -287,7 +254,7 @@ pub fn answer_from_board(answer: &px8::Answer) -> Answer {
         first: answer.first,
         offset: answer.offset,
         parameter: answer.parameter,
-        printed: answer.printed,
+        printed: answer.printed as usize,
     }
 }
 

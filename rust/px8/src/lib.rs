@@ -1,5 +1,5 @@
 //! The terminal of a weighing bay for Rust programs: a safe layer over the
-//! proved library's archive, `libboard.a`.
+//! proved library's archive, `libpx8.a`.
 //!
 //! [`Terminal`] owns its stores and is what most programs want; [`Stream`]
 //! takes a serial line into it through [`std::io::Write`], cut at any byte.

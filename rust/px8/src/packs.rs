@@ -1,31 +1,33 @@
 //! Many messages in one call (document 02, P6): the boundary to the archive, with
 //! the unsafe code that it needs, and what a terminal gives back.
 
+use crate::calls::read;
 use crate::types::{Answer, Refusal, Settings};
 
 #[repr(C)]
-struct PackOutcome {
-    settings: Settings,
+struct PackAnswer {
     answer: Answer,
     record: u32,
 }
 
 extern "C" {
+    #[link_name = "px8_pack_l2"]
     fn px8_pack(
-        settings: Settings,
+        settings: *mut Settings,
+        answer: *mut PackAnswer,
         pack: *const u8,
-        pack_length: usize,
+        pack_length: u64,
         cells: *mut u8,
-        cells_length: usize,
+        cells_length: u64,
         layer: *mut u8,
-        layer_length: usize,
+        layer_length: u64,
         shown: *mut u8,
-        shown_length: usize,
+        shown_length: u64,
         dots: *mut u8,
-        dots_length: usize,
+        dots_length: u64,
         printer: *mut u8,
-        printer_length: usize,
-    ) -> PackOutcome;
+        printer_length: u64,
+    );
 }
 
 /// The pack call: messages as records, one behind the other, as if each had come in
@@ -36,44 +38,27 @@ extern "C" {
 /// ```
 /// let (mut cells, mut layer) = ([0; px8::CELLS], [0; px8::LAYER]);
 /// let (mut shown, mut dots) = ([0; px8::SHOWN], [0; px8::DOTS]);
-/// let (settings, _) = px8::opening(1, &mut cells, &mut layer, &mut shown, &mut dots);
+/// let (mut settings, _) = px8::opening(1, &mut cells, &mut layer, &mut shown, &mut dots);
 /// let pack = [1, 0, 1, 0, 27, 1, 0, 1, 0, 80];
-/// let (after, answer, record) =
-///     px8::pack(settings, &pack, &mut cells, &mut layer, &mut shown, &mut dots, &mut []);
+/// let (answer, record) =
+///     px8::pack(&mut settings, &pack, &mut cells, &mut layer, &mut shown, &mut dots, &mut []);
 /// assert_eq!(answer.to_string(), "answer 0 taken 2 accepted 0 refused 1 first 12 at 0");
-/// assert_eq!((record, shown[0], after.places[0].column), (1, 80, 2));
+/// assert_eq!((record, shown[0], settings.places[0].column), (1, 80, 2));
 /// ```
 #[inline]
 pub fn pack(
-    settings: Settings,
+    settings: &mut Settings,
     pack: &[u8],
     cells: &mut [u8],
     layer: &mut [u8],
     shown: &mut [u8],
     dots: &mut [u8],
     printer: &mut [u8],
-) -> (Settings, Answer, u32) {
-    // SAFETY: each pointer goes with its own length, and exclusive borrows overlap
-    // neither each other nor the pack, which is only read. Any settings may be given,
-    // and the call keeps no pointer.
-    let outcome = unsafe {
-        px8_pack(
-            settings,
-            pack.as_ptr(),
-            pack.len(),
-            cells.as_mut_ptr(),
-            cells.len(),
-            layer.as_mut_ptr(),
-            layer.len(),
-            shown.as_mut_ptr(),
-            shown.len(),
-            dots.as_mut_ptr(),
-            dots.len(),
-            printer.as_mut_ptr(),
-            printer.len(),
-        )
-    };
-    (outcome.settings, outcome.answer, outcome.record)
+) -> (Answer, u32) {
+    // SAFETY: a call of the archive, with its answer.
+    let PackAnswer { answer, record } =
+        unsafe { read(px8_pack, settings, pack, cells, layer, shown, dots, printer) };
+    (answer, record)
 }
 
 /// These messages as a pack: for each the length in two bytes, the low one first,
@@ -127,8 +112,7 @@ mod tests {
 
     #[test]
     fn results_are_laid_out_as_in_the_header() {
-        assert_eq!((size_of::<PackOutcome>(), align_of::<PackOutcome>()), (528, 8));
-        assert_eq!((offset_of!(PackOutcome, settings), offset_of!(PackOutcome, answer)), (0, 488));
-        assert_eq!(offset_of!(PackOutcome, record), 520);
+        assert_eq!((size_of::<PackAnswer>(), align_of::<PackAnswer>()), (40, 8));
+        assert_eq!((offset_of!(PackAnswer, answer), offset_of!(PackAnswer, record)), (0, 32));
     }
 }

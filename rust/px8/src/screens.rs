@@ -2,11 +2,12 @@
 //! archive, with the unsafe code that it needs.
 
 use crate::types::{Difference, SHOWN};
+use std::mem::MaybeUninit;
 
 #[repr(C)]
 struct Compared {
     number: u8,
-    count: usize,
+    count: u64,
 }
 
 #[repr(C)]
@@ -17,21 +18,25 @@ struct First {
 }
 
 extern "C" {
+    #[link_name = "px8_compare_l2"]
     fn px8_compare(
+        answer: *mut Compared,
         first: *const u8,
-        first_length: usize,
+        first_length: u64,
         second: *const u8,
-        second_length: usize,
+        second_length: u64,
         list: *mut Difference,
-        list_length: usize,
-    ) -> Compared;
+        list_length: u64,
+    );
 
+    #[link_name = "px8_first_difference_l2"]
     fn px8_first_difference(
+        answer: *mut First,
         first: *const u8,
-        first_length: usize,
+        first_length: u64,
         second: *const u8,
-        second_length: usize,
-    ) -> First;
+        second_length: u64,
+    );
 }
 
 /// Writes a record for each place that differs, by rows, from the list's
@@ -50,13 +55,24 @@ extern "C" {
 /// assert_eq!(px8::compare(&one, &other[1..], &mut []), Err(px8::STORE_SIZE));
 /// ```
 pub fn compare(first: &[u8], second: &[u8], list: &mut [Difference]) -> Result<usize, u8> {
+    let mut answer = MaybeUninit::uninit();
     // SAFETY: each pointer goes with its own length, an exclusive borrow
-    // overlaps no other, and any bytes make a record. The call keeps no pointer.
+    // overlaps no other, and any bytes make a record. The answer is written whole, and the
+    // call keeps no pointer.
     let compared = unsafe {
-        px8_compare(first.as_ptr(), first.len(), second.as_ptr(), second.len(), list.as_mut_ptr(), list.len())
+        px8_compare(
+            answer.as_mut_ptr(),
+            first.as_ptr(),
+            first.len() as u64,
+            second.as_ptr(),
+            second.len() as u64,
+            list.as_mut_ptr(),
+            list.len() as u64,
+        );
+        answer.assume_init()
     };
     match compared.number {
-        0 => Ok(compared.count),
+        0 => Ok(compared.count as usize),
         number => Err(number),
     }
 }
@@ -73,8 +89,19 @@ pub fn compare(first: &[u8], second: &[u8], list: &mut [Difference]) -> Result<u
 /// assert_eq!(px8::first_difference(&one[1..], &other), Err(px8::STORE_SIZE));
 /// ```
 pub fn first_difference(first: &[u8], second: &[u8]) -> Result<Option<Difference>, u8> {
-    // SAFETY: each pointer goes with its own length, and is only read.
-    let answer = unsafe { px8_first_difference(first.as_ptr(), first.len(), second.as_ptr(), second.len()) };
+    let mut answer = MaybeUninit::uninit();
+    // SAFETY: each pointer goes with its own length, and is only read. The answer is
+    // written whole.
+    let answer = unsafe {
+        px8_first_difference(
+            answer.as_mut_ptr(),
+            first.as_ptr(),
+            first.len() as u64,
+            second.as_ptr(),
+            second.len() as u64,
+        );
+        answer.assume_init()
+    };
     match (answer.number, answer.found) {
         (0, 0) => Ok(None),
         (0, _) => Ok(Some(answer.difference)),

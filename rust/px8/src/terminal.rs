@@ -42,16 +42,16 @@ impl Terminal {
 
     /// A terminal as the opening call by this rule leaves it; or the number by
     /// which the opening is refused, [`BAD_RULE`](crate::BAD_RULE). By rule 2 the
-    /// cursor waits in the last column until the next character is printed.
+    /// cursor stays in the last column, late, until the next character is printed.
     ///
     /// ```
     /// let mut terminal = px8::Terminal::open_with(2)?;
     /// terminal.message(&[b'x'; 80]);
     /// let place = terminal.settings().places[0];
-    /// assert_eq!((place.line, place.column, place.waiting), (1, 80, 1));
+    /// assert_eq!((place.line, place.column, place.late), (1, 80, 1));
     /// terminal.message(b"yz");
     /// let place = terminal.settings().places[0];
-    /// assert_eq!((place.line, place.column, place.waiting), (2, 3, 0));
+    /// assert_eq!((place.line, place.column, place.late), (2, 3, 0));
     ///
     /// assert_eq!(px8::Terminal::open_with(3), Err(px8::BAD_RULE));
     /// # Ok::<(), u8>(())
@@ -115,7 +115,7 @@ impl Terminal {
     pub fn message_with_room(&mut self, message: &[u8], room: usize) -> Reply {
         let mut printer = vec![0; room];
         let answer = self.message_into(message, &mut printer).0;
-        printer.truncate(answer.printed);
+        printer.truncate(answer.printed as usize);
         Reply { answer, printed: printer }
     }
 
@@ -123,8 +123,7 @@ impl Terminal {
     /// and the part of the buffer that holds copies. Nothing is allocated.
     pub fn message_into<'a>(&mut self, message: &[u8], printer: &'a mut [u8]) -> (Answer, &'a [u8]) {
         let Terminal { settings, cells, layer, shown, dots } = self;
-        let (after, answer) = calls::message(*settings, message, cells, layer, shown, dots, printer);
-        self.settings = after;
+        let answer = calls::message(settings, message, cells, layer, shown, dots, printer);
         (answer, calls::printed(printer, answer.printed))
     }
 
@@ -157,7 +156,7 @@ impl Terminal {
     pub fn message_short_with_room(&mut self, message: &[u8], room: usize) -> Reply {
         let mut printer = vec![0; room];
         let answer = self.message_short_into(message, &mut printer).0;
-        printer.truncate(answer.printed);
+        printer.truncate(answer.printed as usize);
         Reply { answer, printed: printer }
     }
 
@@ -171,8 +170,7 @@ impl Terminal {
     /// ```
     pub fn message_short_into<'a>(&mut self, message: &[u8], printer: &'a mut [u8]) -> (Answer, &'a [u8]) {
         let Terminal { settings, cells, layer, shown, dots } = self;
-        let (after, answer) = calls::message_short(*settings, message, cells, layer, shown, dots, printer);
-        self.settings = after;
+        let answer = calls::message_short(settings, message, cells, layer, shown, dots, printer);
         (answer, calls::printed(printer, answer.printed))
     }
 
@@ -204,7 +202,7 @@ impl Terminal {
     pub fn piece_with_room(&mut self, piece: &[u8], room: usize) -> Reply {
         let mut printer = vec![0; room];
         let answer = self.piece_into(piece, &mut printer).0;
-        printer.truncate(answer.printed);
+        printer.truncate(answer.printed as usize);
         Reply { answer, printed: printer }
     }
 
@@ -221,8 +219,7 @@ impl Terminal {
     /// ```
     pub fn piece_into<'a>(&mut self, piece: &[u8], printer: &'a mut [u8]) -> (Answer, &'a [u8]) {
         let Terminal { settings, cells, layer, shown, dots } = self;
-        let (after, answer) = calls::piece(*settings, piece, cells, layer, shown, dots, printer);
-        self.settings = after;
+        let answer = calls::piece(settings, piece, cells, layer, shown, dots, printer);
         (answer, calls::printed(printer, answer.printed))
     }
 
@@ -240,9 +237,7 @@ impl Terminal {
     /// ```
     pub fn closing(&mut self) -> Answer {
         let Terminal { settings, cells, layer, shown, dots } = self;
-        let (after, answer) = calls::closing(*settings, cells, layer, shown, dots);
-        self.settings = after;
-        answer
+        calls::closing(settings, cells, layer, shown, dots)
     }
 
     /// Reads many messages in one call, with printer room for every copy that they
@@ -277,9 +272,8 @@ impl Terminal {
     pub fn pack_with_room(&mut self, pack: &[u8], room: usize) -> PackReply {
         let mut printer = vec![0; room];
         let Terminal { settings, cells, layer, shown, dots } = self;
-        let (after, answer, record) = packs::pack(*settings, pack, cells, layer, shown, dots, &mut printer);
-        self.settings = after;
-        printer.truncate(answer.printed);
+        let (answer, record) = packs::pack(settings, pack, cells, layer, shown, dots, &mut printer);
+        printer.truncate(answer.printed as usize);
         PackReply { answer, record, printed: printer }
     }
 
@@ -298,9 +292,7 @@ impl Terminal {
     /// assert_eq!(terminal.key_text(11, b"PRINT   ").number, px8::BAD_KEY_TEXT);
     /// ```
     pub fn key_text(&mut self, number: usize, text: &[u8]) -> Answer {
-        let (after, answer) = calls::key_text(self.settings, number, text);
-        self.settings = after;
-        answer
+        calls::key_text(&mut self.settings, number, text)
     }
 
     /// The stream as something to write to, from where it stands.
@@ -351,7 +343,7 @@ impl Terminal {
     /// ```
     pub fn key_repeats(&self, trace: &[u8], codes_most: usize) -> Result<Vec<(u32, u8)>, u8> {
         let mut output = vec![0; 5 * codes_most];
-        let repeats = calls::key_repeats(self.settings, trace, &mut output);
+        let repeats = calls::key_repeats(&self.settings, trace, &mut output);
         if repeats.number != crate::SERVED {
             return Err(repeats.number);
         }

@@ -103,9 +103,9 @@ pub struct Place {
     pub column: u8,
     /// The window's first line, 1 to lines − H + 1.
     pub top: u8,
-    /// 1 while the cursor waits in the last column, where the next printed
+    /// 1 while the cursor is late: in the last column, where the next printed
     /// character first goes to the next line; only by rule 2. Else 0.
-    pub waiting: u8,
+    pub late: u8,
 }
 
 /// The keyboard's settings: stored for the board. Of what the library does
@@ -155,8 +155,7 @@ pub struct Settings {
     pub boundary: u8,
     /// 0 is screen 1, 1 is screen 2 (209). Mode 3 has screen 1 alone.
     pub selected: u8,
-    /// Of screen 1 and of screen 2; in mode 3 the second is 1, 1, 1 without a
-    /// flag.
+    /// Of screen 1 and of screen 2; in mode 3 the second is 1, 1, 1, not late.
     pub places: [Place; 2],
     /// 1 where the window follows the cursor (149, sent the other way round).
     pub tracking: u8,
@@ -281,7 +280,7 @@ pub struct Answer {
     /// and a closing in the stream. 0 if there is none.
     pub offset: u32,
     /// Bytes of printed copies, [`COPY`] each, in mode 3 [`DOTS`].
-    pub printed: usize,
+    pub printed: u64,
 }
 
 /// What [`key_repeats`](crate::key_repeats) gives back.

@@ -4,12 +4,12 @@
 use crate::sequence::{Sequence, PARAMETERS_MOST};
 use crate::types::{in_range_words, Settings, NO_SPACE, OUT_OF_RANGE, SERVED, UNSOUND};
 use std::fmt;
+use std::mem::MaybeUninit;
 
 /// ESC, the second byte and the most parameters.
 const SEQUENCE_MOST: usize = 2 + PARAMETERS_MOST;
 
 /// What [`write()`] gives back.
-#[repr(C)]
 #[derive(Clone, Copy, Debug, PartialEq, Eq)]
 pub struct Reached {
     /// The place behind what was written; where the call was refused, as given.
@@ -20,16 +20,26 @@ pub struct Reached {
     pub parameter: u8,
 }
 
+/// The same as the archive gives it.
+#[repr(C)]
+struct ReachedAnswer {
+    place: u64,
+    number: u8,
+    parameter: u8,
+}
+
 extern "C" {
+    #[link_name = "px8_write_l2"]
     fn px8_write(
-        settings: Settings,
+        settings: *const Settings,
+        answer: *mut ReachedAnswer,
         second: u8,
         parameters: *const u8,
-        parameters_length: usize,
+        parameters_length: u64,
         buffer: *mut u8,
-        buffer_length: usize,
-        place: usize,
-    ) -> Reached;
+        buffer_length: u64,
+        place: u64,
+    );
 }
 
 /// The writing call: a sequence, by its second byte and its parameters as sent, into the
@@ -42,29 +52,34 @@ extern "C" {
 /// ```
 /// let settings = *px8::Terminal::open().settings();
 /// let mut buffer = [7; 8];
-/// let reached = px8::write(settings, 61, &[43, 32], &mut buffer, 1);
+/// let reached = px8::write(&settings, 61, &[43, 32], &mut buffer, 1);
 /// assert_eq!((reached.number, reached.place), (px8::SERVED, 5));
 /// assert_eq!(buffer, [7, 27, 61, 43, 32, 7, 7, 7]);
-/// let reached = px8::write(settings, 61, &[56, 32], &mut buffer, 5);
+/// let reached = px8::write(&settings, 61, &[56, 32], &mut buffer, 5);
 /// assert_eq!((reached.number, reached.parameter, reached.place), (px8::OUT_OF_RANGE, 1, 5));
-/// assert_eq!(px8::write(settings, 61, &[43, 32], &mut buffer, 5).number, px8::NO_SPACE);
+/// assert_eq!(px8::write(&settings, 61, &[43, 32], &mut buffer, 5).number, px8::NO_SPACE);
 /// ```
 #[inline]
-pub fn write(settings: Settings, second: u8, parameters: &[u8], buffer: &mut [u8], place: usize) -> Reached {
+pub fn write(settings: &Settings, second: u8, parameters: &[u8], buffer: &mut [u8], place: usize) -> Reached {
+    let mut answer = MaybeUninit::uninit();
     // SAFETY: each pointer goes with its own length, and an exclusive borrow does not
-    // overlap the parameters, which are only read. Any settings and any place may be
-    // given, and the call keeps no pointer.
-    unsafe {
+    // overlap the settings and the parameters, which are only read. Any settings and any
+    // place may be given, the answer is written whole, and the call keeps no pointer.
+    let ReachedAnswer { place, number, parameter } = unsafe {
         px8_write(
             settings,
+            answer.as_mut_ptr(),
             second,
             parameters.as_ptr(),
-            parameters.len(),
+            parameters.len() as u64,
             buffer.as_mut_ptr(),
-            buffer.len(),
-            place,
-        )
-    }
+            buffer.len() as u64,
+            place as u64,
+        );
+        answer.assume_init()
+    };
+    // the place given, or one in the buffer
+    Reached { place: place as usize, number, parameter }
 }
 
 /// Something that a [`Writer`] can write to: a `Vec<u8>`, its own or lent, that grows, or
@@ -190,7 +205,7 @@ impl<B: Outgoing> Writer<B> {
     pub fn write(&mut self, settings: &Settings, sequence: Sequence) -> Result<(), Unwritten> {
         let parameters = sequence.sent();
         let buffer = self.buffer.opened(self.place);
-        let reached = write(*settings, sequence.second(), parameters.as_slice(), buffer, self.place);
+        let reached = write(settings, sequence.second(), parameters.as_slice(), buffer, self.place);
         self.place = reached.place;
         self.buffer.reached(reached.place);
         match reached {
@@ -264,9 +279,8 @@ mod tests {
 
     #[test]
     fn the_result_is_laid_out_as_in_the_header() {
-        assert_eq!((size_of::<Reached>(), align_of::<Reached>()), (16, 8));
-        let offsets =
-            [offset_of!(Reached, place), offset_of!(Reached, number), offset_of!(Reached, parameter)];
-        assert_eq!(offsets, [0, 8, 9]);
+        assert_eq!((size_of::<ReachedAnswer>(), align_of::<ReachedAnswer>()), (16, 8));
+        assert_eq!((offset_of!(ReachedAnswer, place), offset_of!(ReachedAnswer, number)), (0, 8));
+        assert_eq!(offset_of!(ReachedAnswer, parameter), 9);
     }
 }

@@ -23,7 +23,7 @@ fn settings_of_mode_3() {
     let mut terminal = Terminal::open();
     terminal.message(&given);
     terminal.message(MODE_3);
-    let home = Place { line: 1, column: 1, top: 1, waiting: 0 };
+    let home = Place { line: 1, column: 1, top: 1, late: 0 };
     let opening = *Terminal::open().settings();
     let expected = Settings {
         mode: 3,

@@ -4,6 +4,11 @@
 
 use px8::{Place, Settings, Terminal};
 
+/// A line of a screen, 0 or 1, runs on.
+fn run_on(settings: &mut Settings, screen: u8, line: u8) {
+    settings.marks[48 * usize::from(screen) + usize::from(line) - 1] = 1;
+}
+
 /// After the message the settings are the opening's, but for `change`.
 fn sets(message: &[u8], change: impl Fn(&mut Settings)) {
     let mut terminal = Terminal::open();
@@ -16,7 +21,7 @@ fn sets(message: &[u8], change: impl Fn(&mut Settings)) {
 
 #[test]
 fn opening_settings() {
-    let home = Place { line: 1, column: 1, top: 1, waiting: 0 };
+    let home = Place { line: 1, column: 1, top: 1, late: 0 };
     let keys = px8::Keys {
         leds: [0; 3],
         charset: b'U',
@@ -69,10 +74,10 @@ fn mode_lines_columns_and_boundary() {
 #[test]
 fn selected_and_both_places() {
     sets(&[27, 209, 1], |s| s.selected = 1);
-    sets(&[27, 61, 43, 36], |s| s.places[0] = Place { line: 12, column: 5, top: 8, waiting: 0 });
+    sets(&[27, 61, 43, 36], |s| s.places[0] = Place { line: 12, column: 5, top: 8, late: 0 });
     sets(&[27, 151], |s| s.places[0].top = 2);
     sets(&[27, 209, 1, 27, 61, 40, 44, 27, 209, 0], |s| {
-        s.places[1] = Place { line: 9, column: 13, top: 5, waiting: 0 };
+        s.places[1] = Place { line: 9, column: 13, top: 5, late: 0 };
     });
     sets(&[27, 209, 1, 27, 213, 27, 209, 0], |s| s.places[1].top = 17);
 }
@@ -170,21 +175,21 @@ fn marks() {
     for (screen, line) in [0, 1].into_iter().flat_map(|screen| (1..24).map(move |line| (screen, line))) {
         sets(&[27, 209, screen, 27, 149, 1, 27, 61, 31 + line, 111, 65], |s| {
             (s.selected, s.tracking) = (screen, 0);
-            s.places[usize::from(screen)] = Place { line: line + 1, column: 1, top: 1, waiting: 0 };
-            s.marks[48 * usize::from(screen) + usize::from(line) - 1] = 1;
+            s.places[usize::from(screen)] = Place { line: line + 1, column: 1, top: 1, late: 0 };
+            run_on(s, screen, line);
         });
     }
 }
 
-/// The flag of each screen, and the rule.
+/// Late on each screen, and the rule.
 #[test]
-fn flags_and_rule() {
+fn late_and_rule() {
     for screen in [0, 1] {
         let mut terminal = Terminal::open_with(2).unwrap();
         let mut expected = Settings { rule: 2, ..*Terminal::open().settings() };
         assert_eq!(terminal.settings(), &expected);
         expected.selected = screen;
-        expected.places[usize::from(screen)] = Place { line: 3, column: 80, top: 1, waiting: 1 };
+        expected.places[usize::from(screen)] = Place { line: 3, column: 80, top: 1, late: 1 };
         assert!(terminal.message(&[27, 209, screen, 27, 61, 34, 111, 65]).answer.is_clean());
         assert_eq!(terminal.settings(), &expected);
     }
@@ -198,6 +203,6 @@ fn answer() {
     let reply = terminal.message(&bytes);
     let answer = reply.answer;
     assert_eq!((answer.number, answer.taken, answer.accepted, answer.refused), (0, 19, 4, 2));
-    assert_eq!((answer.first, answer.offset, answer.printed), (11, 12, 2 * px8::COPY));
+    assert_eq!((answer.first, answer.offset, answer.printed), (11, 12, 2 * px8::COPY as u64));
     assert_eq!(reply.printed.len(), 2 * px8::COPY);
 }

@@ -85,19 +85,35 @@ fn a_text_is_seen_from_the_next_call_on() {
     }
 }
 
+/// A text is refused by this number and nothing else, and the settings stay.
+fn refused_text(settings: Settings, key: usize, text: &[u8], number: u8) {
+    let mut after = settings;
+    let answer = px8::key_text(&mut after, key, text);
+    let expected = px8::Answer {
+        number,
+        taken: 0,
+        accepted: 0,
+        refused: 0,
+        first: 0,
+        parameter: 0,
+        offset: 0,
+        printed: 0,
+    };
+    assert_eq!((after, answer), (settings, expected));
+}
+
 #[test]
 fn refused_texts_and_limits() {
     let settings = *Terminal::open().settings();
     let unsound = Settings { display: 0, step: 8, ..settings };
     for number in [0, 11, 256, 257, usize::MAX] {
-        assert_eq!(px8::key_text(settings, number, &[65; 8]).1.number, px8::BAD_KEY_TEXT);
-        assert_eq!(px8::key_text(unsound, number, &[65; 8]).1.number, px8::UNSOUND);
+        refused_text(settings, number, &[65; 8], px8::BAD_KEY_TEXT);
+        refused_text(unsound, number, &[65; 8], px8::UNSOUND);
     }
     for length in [0, 7, 9] {
-        let (after, answer) = px8::key_text(settings, 1, &[65; 9][..length]);
-        assert_eq!((after, answer.number), (settings, px8::BAD_KEY_TEXT));
+        refused_text(settings, 1, &[65; 9][..length], px8::BAD_KEY_TEXT);
     }
-    assert_eq!(px8::key_text(unsound, 1, &[65; 8]), (unsound, px8::key_text(unsound, 0, &[]).1));
+    refused_text(unsound, 1, &[65; 8], px8::UNSOUND);
     // the least numbers of lines stay
     let mut terminal = after(&[&[27, 211, 0]]);
     assert_eq!(terminal.message(&[27, 208, 0, 7, 24]).answer.first, px8::OUT_OF_RANGE);

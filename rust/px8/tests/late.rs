@@ -18,7 +18,7 @@ fn after(messages: &[&[u8]]) -> Terminal {
 /// Line, column and flag of screen 1, and its lines that run on.
 fn stands(terminal: &Terminal) -> (u8, u8, u8, Vec<usize>) {
     let place = terminal.settings().places[0];
-    (place.line, place.column, place.waiting, terminal.settings().marked_lines(0).collect())
+    (place.line, place.column, place.late, terminal.settings().marked_lines(0).collect())
 }
 
 fn cell(terminal: &Terminal, line: usize, column: usize) -> u8 {

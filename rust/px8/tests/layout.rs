@@ -1,13 +1,13 @@
 //! Sizes and offsets of the types, as the C header has them.
 
-use px8::{Answer, Keys, Place, Settings};
+use px8::{Answer, Keys, Place, Repeats, Settings};
 use std::mem::{align_of, offset_of, size_of};
 
 #[test]
 fn place() {
     assert_eq!((size_of::<Place>(), align_of::<Place>()), (4, 1));
     assert_eq!([offset_of!(Place, line), offset_of!(Place, column), offset_of!(Place, top)], [0, 1, 2]);
-    assert_eq!(offset_of!(Place, waiting), 3);
+    assert_eq!(offset_of!(Place, late), 3);
 }
 
 #[test]
@@ -61,4 +61,10 @@ fn answer() {
     assert_eq!(offset_of!(Answer, parameter), 17);
     assert_eq!(offset_of!(Answer, offset), 20);
     assert_eq!(offset_of!(Answer, printed), 24);
+}
+
+#[test]
+fn repeats() {
+    assert_eq!((size_of::<Repeats>(), align_of::<Repeats>()), (16, 8));
+    assert_eq!((offset_of!(Repeats, number), offset_of!(Repeats, count)), (0, 8));
 }

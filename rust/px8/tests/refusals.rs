@@ -17,20 +17,20 @@ fn inner(store: &mut [u8]) -> &mut [u8] {
 
 /// A call on settings and bytes; a closing looks at the bytes no more than at
 /// the printer buffer.
-type Call = fn(Settings, &[u8], &mut [u8], &mut [u8], &mut [u8], &mut [u8], &mut [u8]) -> (Settings, Answer);
+type Call = fn(&mut Settings, &[u8], &mut [u8], &mut [u8], &mut [u8], &mut [u8], &mut [u8]) -> Answer;
 
 const CLOSING: Call =
     |settings, _, cells, layer, shown, dots, _| px8::closing(settings, cells, layer, shown, dots);
 
 /// Makes the call on guarded stores of these sizes, and returns its results
 /// and whether every byte of every buffer stayed.
-fn call(made: Call, settings: Settings, bytes: &[u8], sizes: [usize; 5]) -> (Settings, Answer, bool) {
+fn call(made: Call, mut settings: Settings, bytes: &[u8], sizes: [usize; 5]) -> (Settings, Answer, bool) {
     let mut stores = sizes.map(guarded);
     let before = stores.clone();
     let [cells, layer, shown, dots, printer] = &mut stores;
     let (cells, layer, shown) = (inner(cells), inner(layer), inner(shown));
-    let (after, answer) = made(settings, bytes, cells, layer, shown, inner(dots), inner(printer));
-    (after, answer, stores == before)
+    let answer = made(&mut settings, bytes, cells, layer, shown, inner(dots), inner(printer));
+    (settings, answer, stores == before)
 }
 
 fn refused(made: Call, settings: Settings, bytes: &[u8], sizes: [usize; 5], number: u8) {
@@ -129,10 +129,10 @@ fn settings_not_sound() {
         |s| s.marks[95] = 255,
         |s| s.rule = 0,
         |s| s.rule = 3,
-        |s| (s.places[0].column, s.places[0].waiting) = (80, 1),
-        |s| (s.rule, s.places[0].column, s.places[0].waiting) = (2, 79, 1),
-        |s| (s.rule, s.places[1].column, s.places[1].waiting) = (2, 1, 1),
-        |s| (s.rule, s.places[1].column, s.places[1].waiting) = (2, 80, 2),
+        |s| (s.places[0].column, s.places[0].late) = (80, 1),
+        |s| (s.rule, s.places[0].column, s.places[0].late) = (2, 79, 1),
+        |s| (s.rule, s.places[1].column, s.places[1].late) = (2, 1, 1),
+        |s| (s.rule, s.places[1].column, s.places[1].late) = (2, 80, 2),
     ];
     for change in changes {
         let mut settings = opening_settings();
@@ -282,10 +282,10 @@ fn served_calls_stay_inside() {
     let before = stores.clone();
     let [cells, layer, shown, dots, printer] = &mut stores;
     let (cells, layer, shown, dots) = (inner(cells), inner(layer), inner(shown), inner(dots));
-    let (settings, _) = px8::opening(1, cells, layer, shown, dots);
+    let (mut settings, _) = px8::opening(1, cells, layer, shown, dots);
     let bytes = [&[10; 60][..], &[27, 210, 8, 80, 42, 27, 80]].concat();
-    let (_, answer) = px8::message(settings, &bytes, cells, layer, shown, dots, inner(printer));
-    assert_eq!((answer.number, answer.accepted, answer.printed), (0, 2, COPY));
+    let answer = px8::message(&mut settings, &bytes, cells, layer, shown, dots, inner(printer));
+    assert_eq!((answer.number, answer.accepted, answer.printed), (0, 2, COPY as u64));
     for (store, was) in stores.iter().zip(&before) {
         let end = was.len() - GUARD;
         assert_eq!((&store[..GUARD], &store[end..]), (&was[..GUARD], &was[end..]));
@@ -300,9 +300,9 @@ fn printer_call() {
     let buffer = [1, 2, 3];
     for count in 0..=3 {
         let part = px8::printed(&buffer, count);
-        assert_eq!((part, part.as_ptr()), (&buffer[..count], buffer.as_ptr()));
+        assert_eq!((part, part.as_ptr()), (&buffer[..count as usize], buffer.as_ptr()));
     }
-    for count in [4, usize::MAX] {
+    for count in [4, u64::MAX] {
         assert!(px8::printed(&buffer, count).is_empty());
     }
     assert!(px8::printed(&[], 0).is_empty() && px8::printed(&[], 1).is_empty());

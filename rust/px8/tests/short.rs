@@ -44,7 +44,7 @@ fn the_places_of_printed_cells() {
     assert_eq!(painted(open, &[10; 7]), []);
     assert_eq!(painted(open, b"\x1b=\x20\x6fAB"), [at(1, 80), at(2, 1)]);
     let mut late = *Terminal::open_with(2).unwrap().settings();
-    (late.places[0].column, late.places[0].waiting) = (80, 1);
+    (late.places[0].column, late.places[0].late) = (80, 1);
     assert_eq!(painted(late, b"A"), [at(2, 1)]);
 }
 
@@ -65,7 +65,7 @@ fn what_paints_all() {
     for item in items {
         assert_eq!(painted(open, item).len(), SHOWN - WIDTH, "{item:?}");
     }
-    open.places[0] = px8::Place { line: 24, column: 80, top: 17, waiting: 0 };
+    open.places[0] = px8::Place { line: 24, column: 80, top: 17, late: 0 };
     assert_eq!(painted(open, b"A").len(), SHOWN - WIDTH);
 }
 
@@ -83,7 +83,7 @@ fn a_key_text_is_seen_after_it() {
 fn copies() {
     let mut terminal = Terminal::open();
     let reply = terminal.message_short(b"net\x1bP\rtare\x1bP");
-    assert_eq!((reply.answer.printed, reply.printed.len()), (2 * COPY, 2 * COPY));
+    assert_eq!((reply.answer.printed, reply.printed.len()), (2 * COPY as u64, 2 * COPY));
     assert!(reply.printed.starts_with(b"net ") && reply.printed[COPY..].starts_with(b"tare "));
 }
 
@@ -117,7 +117,8 @@ fn wrong_sizes() {
         stores[store].pop();
         let before = stores.clone();
         let [cells, layer, shown, dots] = &mut stores;
-        let (after, answer) = px8::message_short(settings, b"A", cells, layer, shown, dots, &mut []);
+        let mut after = settings;
+        let answer = px8::message_short(&mut after, b"A", cells, layer, shown, dots, &mut []);
         assert_eq!((after, answer.number), (settings, px8::STORE_SIZE));
         assert_eq!(stores, before);
     }

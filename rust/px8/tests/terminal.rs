@@ -31,7 +31,7 @@ fn room_for_every_copy() {
     let mut terminal = Terminal::open();
     let reply = terminal.message(&[27, 80].repeat(2048));
     assert!(reply.answer.is_clean());
-    assert_eq!((reply.answer.printed, reply.printed.len()), (2048 * COPY, 2048 * COPY));
+    assert_eq!((reply.answer.printed, reply.printed.len()), (2048 * COPY as u64, 2048 * COPY));
     // a parameter that looks like a copy costs room and nothing else
     assert_eq!(terminal.message(&[27, 243, 27, 80, 27, 80]).printed.len(), 0);
 }
@@ -42,7 +42,7 @@ fn a_lent_printer_buffer() {
     let mut printer = [7; 2 * COPY];
     let start = printer.as_ptr();
     let (answer, part) = terminal.message_into(b"net\x1bP", &mut printer);
-    assert_eq!((answer.printed, part.len(), part.as_ptr()), (COPY, COPY, start));
+    assert_eq!((answer.printed, part.len(), part.as_ptr()), (COPY as u64, COPY, start));
     assert!(part.starts_with(b"net ") && part.ends_with(b" \r\n"));
     assert_eq!(printer[COPY..], [7; COPY]);
 }

@@ -169,7 +169,7 @@ fn refusals_change_nothing() {
 fn bytes_that_are_no_sequence() {
     let number = |second: u8, parameters: &[u8]| {
         let mut buffer = [7; 30];
-        let reached = px8::write(opening(), second, parameters, &mut buffer, 9);
+        let reached = px8::write(&opening(), second, parameters, &mut buffer, 9);
         assert_eq!((reached.place, buffer), (9, [7; 30]));
         (reached.number, reached.parameter)
     };

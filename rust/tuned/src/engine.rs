@@ -29,7 +29,7 @@ impl<'a> Stores<'a> {
 /// With a glass on which a short message shows at once what it prints; other calls have
 /// none, and pay nothing for it.
 pub struct Engine<'a, G> {
-    pub settings: Settings,
+    pub settings: &'a mut Settings,
     pub stores: Stores<'a>,
     pub printer: &'a mut [u8],
     pub printed: usize,
@@ -53,7 +53,12 @@ pub struct Engine<'a, G> {
 }
 
 impl<'a, G: Glass> Engine<'a, G> {
-    pub fn new(settings: Settings, stores: Stores<'a>, printer: &'a mut [u8], glass: G) -> Engine<'a, G> {
+    pub fn new(
+        settings: &'a mut Settings,
+        stores: Stores<'a>,
+        printer: &'a mut [u8],
+        glass: G,
+    ) -> Engine<'a, G> {
         let mut engine = Engine {
             settings,
             stores,
@@ -78,7 +83,7 @@ impl<'a, G: Glass> Engine<'a, G> {
 
     /// Takes the selected screen's measures and place out of the settings.
     pub fn load(&mut self) {
-        let s = &self.settings;
+        let s = &*self.settings;
         let second = s.selected == 1;
         let first_size = usize::from(s.lines1) * usize::from(s.columns1);
         self.base = if second { first_size } else { 0 };
@@ -101,11 +106,6 @@ impl<'a, G: Glass> Engine<'a, G> {
             top: self.top as u8,
             waiting: self.waiting.into(),
         };
-    }
-
-    pub fn finish(mut self) -> Settings {
-        self.save();
-        self.settings
     }
 
     /// Serves the bytes from `at` on and returns where it stopped: at the end,
@@ -326,7 +326,7 @@ impl<'a, G: Glass> Engine<'a, G> {
     }
 
     fn paint_both(&self, picture: &mut [u8; 640]) {
-        let s = &self.settings;
+        let s = &*self.settings;
         let m = usize::from(s.columns1);
         let tops = self.tops();
         let second = usize::from(s.lines1) * m;

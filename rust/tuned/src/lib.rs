@@ -1,7 +1,8 @@
 //! Document 01 made fast: text is stored in runs, lines move as blocks, the
 //! selected screen's measures are worked out once, and an empty layer is
 //! not emptied again. All 640 places are painted in each message call; the
-//! short one (`shorts`) paints less.
+//! short one (`shorts`) paints less. Settings are lent, as those of the archive are, and
+//! altered in their place.
 //!
 //! The types are the reference's; the workings are this file's own.
 
@@ -80,30 +81,31 @@ pub fn opening(
 }
 
 pub fn message(
-    settings: Settings,
+    settings: &mut Settings,
     message: &[u8],
     cells: &mut [u8],
     layer: &mut [u8],
     shown: &mut [u8],
     dots: &mut [u8],
     printer: &mut [u8],
-) -> (Settings, Answer) {
-    let (stores, picture) = match judged(&settings, message, cells, layer, shown, dots) {
+) -> Answer {
+    let (stores, picture) = match judged(settings, message, cells, layer, shown, dots) {
         Ok(good) => good,
-        Err(number) => return refused(settings, number),
+        Err(number) => return refused(number),
     };
     if settings.held > 0 {
-        return refused(settings, 16);
+        return refused(16);
     }
     let mut answer = Answer::default();
     let mut engine = Engine::new(settings, stores, printer, ());
     engine.serve::<false>(message, 0, &mut answer);
     engine.paint(picture);
-    (engine.finish(), answer)
+    engine.save();
+    answer
 }
 
-fn refused(settings: Settings, number: u8) -> (Settings, Answer) {
-    (settings, Answer { number, ..Answer::default() })
+fn refused(number: u8) -> Answer {
+    Answer { number, ..Answer::default() }
 }
 
 /// The stores if they have their sizes, the message is short enough and the
@@ -129,15 +131,15 @@ fn judged<'a>(
 }
 
 /// Document 02, P2: a key's text.
-pub fn key_text(mut settings: Settings, number: usize, text: &[u8]) -> (Settings, Answer) {
-    if !sound(&settings) {
-        return refused(settings, 3);
+pub fn key_text(settings: &mut Settings, number: usize, text: &[u8]) -> Answer {
+    if !sound(settings) {
+        return refused(3);
     }
     match settings.texts.chunks_exact_mut(8).nth(number.wrapping_sub(1)) {
         Some(place) if text.len() == 8 => place.copy_from_slice(text),
-        _ => return refused(settings, 17),
+        _ => return refused(17),
     }
-    (settings, Answer::default())
+    Answer::default()
 }
 
 pub fn printed(buffer: &[u8], count: usize) -> &[u8] {

@@ -6,20 +6,20 @@ use crate::sound;
 use reference::{Answer, Settings};
 
 pub fn pack(
-    settings: Settings,
+    settings: &mut Settings,
     pack: &[u8],
     cells: &mut [u8],
     layer: &mut [u8],
     shown: &mut [u8],
     dots: &mut [u8],
     printer: &mut [u8],
-) -> (Settings, Answer, u32) {
-    let refused = |number: u8| (settings, Answer { number, ..Answer::default() }, 0);
+) -> (Answer, u32) {
+    let refused = |number: u8| (Answer { number, ..Answer::default() }, 0);
     let (Some(stores), Ok(picture)) = (Stores::new(cells, layer, dots), shown.try_into()) else {
         return refused(1);
     };
     match scan(pack) {
-        0 if !sound(&settings) => return refused(3),
+        0 if !sound(settings) => return refused(3),
         0 if settings.held > 0 => return refused(16),
         0 if pack.is_empty() => return refused(0),
         0 => {}
@@ -37,7 +37,8 @@ pub fn pack(
     }
     answer.taken = taken;
     engine.paint(picture);
-    (engine.finish(), answer, record)
+    engine.save();
+    (answer, record)
 }
 
 /// The first record and what is behind it; none if there is no whole one.

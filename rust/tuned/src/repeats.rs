@@ -9,8 +9,8 @@ struct Record {
     key: u8,
 }
 
-pub fn key_repeats(settings: Settings, trace: &[u8], output: &mut [u8]) -> (u8, usize) {
-    let records = match read(&settings, trace) {
+pub fn key_repeats(settings: &Settings, trace: &[u8], output: &mut [u8]) -> (u8, usize) {
+    let records = match read(settings, trace) {
         Ok(records) => records,
         Err(number) => return (number, 0),
     };

@@ -228,7 +228,7 @@ impl<G: Glass> Engine<'_, G> {
 
     /// The sequences that keep a number for later; 246 keeps none.
     fn keep(&mut self, second: u8, p: &[u8]) {
-        let s = &mut self.settings;
+        let s = &mut *self.settings;
         match second {
             50 | 51 => s.cursor = second - 50,
             123 => s.secret = 1,
@@ -263,7 +263,7 @@ impl<G: Glass> Engine<'_, G> {
         self.save();
         self.settings.display = display;
         self.load();
-        let (s, height) = (&mut self.settings, self.height as u8);
+        let (s, height) = (&mut *self.settings, self.height as u8);
         s.step = s.step.min(height);
         s.places[0].top = s.places[0].top.min(s.lines1 - height + 1);
         s.places[1].top = s.places[1].top.min(s.lines2 - height + 1);
@@ -336,7 +336,7 @@ impl<G: Glass> Engine<'_, G> {
     }
 
     fn set_mode(&mut self, p: &[u8]) {
-        let s = &mut self.settings;
+        let s = &mut *self.settings;
         s.mode = p[0];
         (s.lines1, s.lines2, s.columns1, s.columns2) = match *p {
             [0, first, second] => (first, second, 80, 80),

@@ -10,20 +10,20 @@ use reference::{Answer, Settings};
 const LAST_ROW: std::ops::Range<usize> = 560..640;
 
 pub fn message_short(
-    settings: Settings,
+    settings: &mut Settings,
     message: &[u8],
     cells: &mut [u8],
     layer: &mut [u8],
     shown: &mut [u8],
     dots: &mut [u8],
     printer: &mut [u8],
-) -> (Settings, Answer) {
-    let (stores, picture) = match judged(&settings, message, cells, layer, shown, dots) {
+) -> Answer {
+    let (stores, picture) = match judged(settings, message, cells, layer, shown, dots) {
         Ok(good) => good,
-        Err(number) => return refused(settings, number),
+        Err(number) => return refused(number),
     };
     if settings.held > 0 {
-        return refused(settings, 16);
+        return refused(16);
     }
     let mut answer = Answer::default();
     let mut engine = Engine::new(settings, stores, printer, Shown { picture: Some(picture), wide: false });
@@ -33,7 +33,8 @@ pub fn message_short(
         Some(picture) => engine.paint_last_row(picture),
         None => {}
     }
-    (engine.finish(), answer)
+    engine.save();
+    answer
 }
 
 /// What an engine tells of while it serves.

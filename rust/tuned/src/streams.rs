@@ -24,38 +24,40 @@ pub fn sound(s: &Settings) -> bool {
 }
 
 pub fn piece(
-    settings: Settings,
+    settings: &mut Settings,
     piece: &[u8],
     cells: &mut [u8],
     layer: &mut [u8],
     shown: &mut [u8],
     dots: &mut [u8],
     printer: &mut [u8],
-) -> (Settings, Answer) {
-    let (stores, picture) = match judged(&settings, piece, cells, layer, shown, dots) {
+) -> Answer {
+    let (stores, picture) = match judged(settings, piece, cells, layer, shown, dots) {
         Ok(good) => good,
-        Err(number) => return refused(settings, number),
+        Err(number) => return refused(number),
     };
     let length = piece.len() as u32;
-    if length > LIMIT - settings.count {
-        return refused(settings, 15);
+    let (held, count) = (settings.held, settings.count);
+    if length > LIMIT - count {
+        return refused(15);
     }
+    let mut joined = [0; 12 + LONGEST];
+    let (line, taken) = join(settings, piece, &mut joined);
     let mut answer = Answer::default();
     let mut engine = Engine::new(settings, stores, printer, ());
-    let mut joined = [0; 12 + LONGEST];
-    let (line, taken) = join(&settings, piece, &mut joined);
     let still = !line.is_empty() && unfinished(line);
     let start = if line.is_empty() || still {
         taken
     } else {
-        engine.from = settings.count - u32::from(settings.held);
-        engine.escape(line, 0, &mut answer) - usize::from(settings.held)
+        engine.from = count - u32::from(held);
+        engine.escape(line, 0, &mut answer) - usize::from(held)
     };
-    engine.from = settings.count;
+    engine.from = count;
     let stop = engine.serve::<true>(piece, start, &mut answer);
     engine.paint(picture);
-    let after = engine.finish();
-    (waiting(after, if still { line } else { &piece[stop..] }, settings.count + length), answer)
+    engine.save();
+    wait(settings, if still { line } else { &piece[stop..] }, count + length);
+    answer
 }
 
 /// What waits with as much of the piece as a sequence can need, and how much
@@ -71,30 +73,32 @@ fn join<'a>(settings: &Settings, piece: &[u8], joined: &'a mut [u8; 25]) -> (&'a
     (&joined[..held + taken], taken)
 }
 
-fn waiting(mut settings: Settings, bytes: &[u8], count: u32) -> Settings {
+fn wait(settings: &mut Settings, bytes: &[u8], count: u32) {
     settings.waiting = [0; 12];
     settings.waiting[..bytes.len()].copy_from_slice(bytes);
     settings.held = bytes.len() as u8;
     settings.count = count;
-    settings
 }
 
 pub fn closing(
-    settings: Settings,
+    settings: &mut Settings,
     cells: &mut [u8],
     layer: &mut [u8],
     shown: &mut [u8],
     dots: &mut [u8],
-) -> (Settings, Answer) {
-    let (stores, picture) = match judged(&settings, &[], cells, layer, shown, dots) {
+) -> Answer {
+    let (stores, picture) = match judged(settings, &[], cells, layer, shown, dots) {
         Ok(good) => good,
-        Err(number) => return refused(settings, number),
+        Err(number) => return refused(number),
     };
+    let (line, held, count) = (settings.waiting, settings.held, settings.count);
     let mut answer = Answer::default();
     let mut engine = Engine::new(settings, stores, &mut [], ());
-    engine.from = settings.count - u32::from(settings.held);
-    engine.serve::<false>(&settings.waiting[..usize::from(settings.held)], 0, &mut answer);
+    engine.from = count - u32::from(held);
+    engine.serve::<false>(&line[..usize::from(held)], 0, &mut answer);
     engine.paint(picture);
+    engine.save();
+    wait(settings, &[], 0);
     answer.taken = 0;
-    (waiting(engine.finish(), &[], 0), answer)
+    answer
 }

@@ -5,13 +5,13 @@ use crate::sound;
 use reference::Settings;
 
 pub fn write(
-    settings: Settings,
+    settings: &Settings,
     second: u8,
     parameters: &[u8],
     buffer: &mut [u8],
     place: usize,
 ) -> (usize, u8, u8) {
-    if !sound(&settings) {
+    if !sound(settings) {
         return (place, 3, 0);
     }
     let parameters = if second == 209 && parameters.is_empty() { &[0] } else { parameters };
@@ -22,7 +22,7 @@ pub fn write(
     if given < needed {
         return (place, 12, 0);
     }
-    let misfit = Limits::of(&settings).misfit(second, parameters);
+    let misfit = Limits::of(settings).misfit(second, parameters);
     if misfit > 0 {
         return (place, 11, misfit);
     }

@@ -26,7 +26,10 @@ pub trait Repeats {
 pub const REFERENCE: Functions =
     Functions { name: "reference", key_repeats: reference::repeats::key_repeats };
 
-pub const TUNED: Functions = Functions { name: "tuned", key_repeats: tuned::repeats::key_repeats };
+pub const TUNED: Functions = Functions {
+    name: "tuned",
+    key_repeats: |settings, trace, output| tuned::repeats::key_repeats(&settings, trace, output),
+};
 
 impl Repeats for Functions {
     fn name(&self) -> &str {

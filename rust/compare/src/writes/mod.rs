@@ -36,7 +36,12 @@ pub trait Writes {
 
 pub const REFERENCE: Functions = Functions { name: "reference", write: reference::write::write };
 
-pub const TUNED: Functions = Functions { name: "tuned", write: tuned::writes::write };
+pub const TUNED: Functions = Functions {
+    name: "tuned",
+    write: |settings, second, parameters, buffer, place| {
+        tuned::writes::write(&settings, second, parameters, buffer, place)
+    },
+};
 
 impl Writes for Functions {
     fn name(&self) -> &str {
