@@ -59,16 +59,16 @@ pub record Parts (O : RattleType) (N : Declared) (L : LL.Laws N) : Type 2 where
 
 -- the numbers of the locals: settings 1, answer 2, the other parameters from 3 on, the outcome, the copy of the settings, and what is made of the slices
 module _ (hs : List (Option Handed)) where
-  abbrev outcome-at : ℕ
+  abbrev pub outcome-at : ℕ
   outcome-at = behind-params 3 hs
 
-  abbrev copy-at : ℕ
+  abbrev pub copy-at : ℕ
   copy-at = suc outcome-at
 
-  abbrev slices : List Anew
+  abbrev pub slices : List Anew
   slices = handed-on 3 (suc copy-at) hs
 
-  abbrev args-at : List ℕ
+  abbrev pub args-at : List ℕ
   args-at = copy-at ∷ arguments 3 (suc copy-at) hs
 
   abbrev code-of : Name → Ty → Body

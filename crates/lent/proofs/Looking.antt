@@ -4,7 +4,7 @@
 --     looks-on         the law
 -- Assumes `Given`.
 use mathlib.Core.Path.{_≡_, refl, ap, subst, _∙_, sym}
-use Prim.Native.Nat.{ℕ, suc}
+use Prim.Native.Nat.{ℕ}
 use mathlib.Core.Bool.{Bool, true}
 use mathlib.Core.Option.{Option, none, some as full}
 use mathlib.Core.List.{List, [], _∷_}
@@ -35,30 +35,18 @@ use Rattle.model.specs.declared.Settings.{Settings}
 use Rattle.model.proofs.Settings as S
 use Rattle.model.proofs.Settings.Laws as S′
 use Rattle.lent.proofs.Locals.{at, set, inside, Blocks, envOf, Typings, passed, standing, read-at, write-at, begins, ends}
-use Rattle.lent.proofs.Handing.{Handed, Anew, behind-params, handed-on, arguments, agains, after, Ables, copies, Hold}
+use Rattle.lent.proofs.Handing.{Handed, agains, after, Ables, copies, Hold}
 use Rattle.lent.proofs.Lending.{val, type, Left-in, sees, stores-in}
-use Rattle.lent.proofs.Changing.{s-vals}
+use Rattle.lent.proofs.Changing.{s-vals, outcome-at, copy-at, slices, args-at}
 use Rattle.lent.proofs.Calling.{Asked, Got, asks, Given-back, gives}
 
--- the numbers of the locals: settings 1, answer 2, the other parameters from 3 on, the outcome, the copy of the settings, and what is made of the slices
+-- the locals have the numbers that they have there
 module _ (hs : List (Option Handed)) where
-  abbrev outcome-at : ℕ
-  outcome-at = behind-params 3 hs
-
-  abbrev copy-at : ℕ
-  copy-at = suc outcome-at
-
-  abbrev slices : List Anew
-  slices = handed-on 3 (suc copy-at) hs
-
-  abbrev args-at : List ℕ
-  args-at = copy-at ∷ arguments 3 (suc copy-at) hs
-
   abbrev code-of : Name → Ty → Body
   code-of key τ =
-      seq (assign (place copy-at []) (rvOpd (copy (place 1 (deref (type S.the-type) ∷ [])))))
-      (agains slices (seq (call key (copies args-at) (place outcome-at []))
-      (seq (assign (place 2 (deref τ ∷ [])) (rvOpd (copy (place outcome-at []))))
+      seq (assign (place (copy-at hs) []) (rvOpd (copy (place 1 (deref (type S.the-type) ∷ [])))))
+      (agains (slices hs) (seq (call key (copies (args-at hs)) (place (outcome-at hs) []))
+      (seq (assign (place 2 (deref τ ∷ [])) (rvOpd (copy (place (outcome-at hs) []))))
       (seq (assign (place 0 []) (rvOpd opdUnit)) return))))
 
 module _ {M : Type 1} (𝓤 : URA M) (H : Heap 𝓤) (A : Atoms 𝓤) (W : Given 𝓤 H A) (N : Declared) (L : LL.Laws N) (pl : Plains (fields N))

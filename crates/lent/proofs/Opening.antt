@@ -5,7 +5,7 @@
 --     opens-up         the law
 -- Assumes `Given`.
 use mathlib.Core.Path.{_≡_, refl, ap, subst, _∙_, sym}
-use Prim.Native.Nat.{ℕ, suc}
+use Prim.Native.Nat.{ℕ}
 use mathlib.Core.Bool.{Bool, true}
 use mathlib.Core.Option.{Option, none, some as full}
 use mathlib.Core.List.{List, [], _∷_}
@@ -33,9 +33,10 @@ use Rattle.model.specs.declared.Settings.{Settings}
 use Rattle.model.proofs.Settings as S
 use Rattle.model.proofs.Settings.Laws as S′
 use Rattle.lent.proofs.Locals.{at, set, inside, Blocks, envOf, Typings, passed, standing, read-at, write-at, begins, ends}
-use Rattle.lent.proofs.Handing.{Handed, Anew, behind-params, handed-on, arguments, agains, after, Ables, part-of, copies, Hold}
+use Rattle.lent.proofs.Handing.{Handed, agains, after, Ables, part-of, copies, Hold}
 use Rattle.lent.proofs.Lending.{val, type, Left-in, stores-in}
 use Rattle.lent.proofs.Changing.{s-vals}
+use Rattle.lent.proofs.Telling.{outcome-at, slices, args-at}
 use Rattle.lent.proofs.Calling.{Asked, Got, asks, Given-back, gives}
 
 pub record Numbered (O : RattleType) : Type 2 where
@@ -47,22 +48,13 @@ pub record Numbered (O : RattleType) : Type 2 where
   pub first : (r : O .Denot) (u : Val) → Is O r (u ∷ []) → Is S.the-row (settings r) (s-vals (settings r))
   pub second : (r : O .Denot) (u : Val) → Is O r (u ∷ []) → Is u8 (number r) (vint w8 (number r) ∷ [])
 
--- the numbers of the locals: settings 1, the other parameters from 2 on, the outcome, and what is made of the slices
+-- the locals have the numbers that they have there, the settings that of the answer
 module _ (hs : List (Option Handed)) where
-  abbrev outcome-at : ℕ
-  outcome-at = behind-params 2 hs
-
-  abbrev slices : List Anew
-  slices = handed-on 2 (suc outcome-at) hs
-
-  abbrev args-at : List ℕ
-  args-at = arguments 2 (suc outcome-at) hs
-
   abbrev code-of : Name → Body
   code-of key =
-      agains slices (seq (call key (copies args-at) (place outcome-at []))
-      (seq (assign (place 1 (deref (type S.the-type) ∷ [])) (rvOpd (copy (place outcome-at (field 0 ∷ [])))))
-      (seq (assign (place 0 []) (rvOpd (copy (place outcome-at (field 1 ∷ []))))) return)))
+      agains (slices hs) (seq (call key (copies (args-at hs)) (place (outcome-at hs) []))
+      (seq (assign (place 1 (deref (type S.the-type) ∷ [])) (rvOpd (copy (place (outcome-at hs) (field 0 ∷ [])))))
+      (seq (assign (place 0 []) (rvOpd (copy (place (outcome-at hs) (field 1 ∷ []))))) return)))
 
 module _ {M : Type 1} (𝓤 : URA M) (H : Heap 𝓤) (A : Atoms 𝓤) (W : Given 𝓤 H A) (O : RattleType) (pt : Numbered O)
     (κ : Lft) (q : Share) (x : RefT Settings) {n : ℕ} (cs : List (Slot n)) (ks : Kepts cs) (κs : Lfts n) (qs : Shares n) (xs : Denots (typesAt cs κs)) (vss : Valss (typesAt cs κs)) (Claim : Settings → ℕ → Fins κs cs ks xs → SProp 𝓤) where

@@ -38,13 +38,13 @@ use Rattle.lent.proofs.Calling.{Asked, Got, asks, Given-back, gives}
 
 -- the numbers of the locals: answer 1, the other parameters from 2 on, the outcome, and what is made of the slices
 module _ (hs : List (Option Handed)) where
-  abbrev outcome-at : ℕ
+  abbrev pub outcome-at : ℕ
   outcome-at = behind-params 2 hs
 
-  abbrev slices : List Anew
+  abbrev pub slices : List Anew
   slices = handed-on 2 (suc outcome-at) hs
 
-  abbrev args-at : List ℕ
+  abbrev pub args-at : List ℕ
   args-at = arguments 2 (suc outcome-at) hs
 
   abbrev code-of : Name → Ty → Body
