@@ -22,6 +22,10 @@
  *   px8_compare            a record for each place that differs
  *   px8_first_difference   only the first of them
  *
+ * Behind them stand inline functions over these calls alone: px8_bay, settings and
+ * stores in one structure; a px8_writer with every sequence by its name; px8_text, the
+ * numbers in words.
+ *
  * What the caller keeps. The library allocates nothing, keeps no state of its
  * own and does no input or output. Settings, the four stores (cells, layer, shown
  * screen, dots), the printer buffer and the answer are the caller's memory, lent
@@ -141,10 +145,10 @@ typedef uint64_t px8_size;
 
 /* ---- numbers ---- */
 
-/* The number of a call: 0, or why the whole call was refused. They are tried
- * in this order: 1, 23 by px8_opening, 1, 2, 3, 16 by px8_message and
- * px8_message_short, 1, 2, 3, 15 by px8_piece, 1, 3 by px8_closing, 1, 19, 20, 21, 2, 3, 16 by px8_pack, 3, 17 by
- * px8_key_text. */
+/* The number of a call: 0, or why the whole call was refused; px8_text says each in
+ * words. They are tried in this order: 1, 23 by px8_opening, 1, 2, 3, 16 by px8_message
+ * and px8_message_short, 1, 2, 3, 15 by px8_piece, 1, 3 by px8_closing, 1, 19, 20, 21, 2,
+ * 3, 16 by px8_pack, 3, 17 by px8_key_text. */
 #define PX8_SERVED 0     /* the call was served */
 #define PX8_STORE_SIZE 1 /* cells, layer, shown screen or dots are not of their size */
 #define PX8_TOO_LONG 2   /* the message, the piece or a message of the pack is longer
@@ -546,7 +550,8 @@ void px8_message(px8_settings *settings, px8_answer *answer,
  * Reads a message as px8_message does, answer, settings, cells, layer, dots, printed
  * copies and refusals alike, but paints less. It is made for a few printed bytes that
  * stay in the cursor's line, for which it is the quicker call; where control codes or
- * sequences come it may take a little longer than px8_message. Row 8 it always paints whole. Of rows 1 to 7 it paints the places that show the
+ * sequences come it may take a little longer than px8_message. Row 8 it always paints
+ * whole. Of rows 1 to 7 it paints the places that show the
  * cells in which characters (ESC 37's too) were printed, or all 560 where more may have
  * changed: where an item lifts the selected screen or moves its window, also where the
  * window comes back, and with code 12 and each accepted ESC 42, 84, 89, 123, 125, 144,
@@ -721,6 +726,367 @@ void px8_key_repeats(const px8_settings *settings, px8_repeats *answer,
 void px8_write(const px8_settings *settings, px8_reached *answer, uint8_t second,
                const uint8_t *parameters, px8_size parameters_length,
                uint8_t *buffer, px8_size buffer_length, px8_size place);
+
+/* ---- a bay in one structure ----
+ *
+ * Inline functions over the calls, for a program that keeps one bay's settings and
+ * stores together and has no more to say about them. A call may be mixed with them.
+ *
+ *   static px8_bay bay;
+ *   px8_bay_open(&bay, 1);
+ *   px8_bay_message(&bay, "LOAD kg 38,500", 14);
+ *   puts(px8_bay_row(&bay, 1, row));
+ */
+
+typedef struct px8_bay {
+    px8_settings settings;
+    uint8_t cells[PX8_CELLS];
+    uint8_t layer[PX8_LAYER];
+    uint8_t shown[PX8_SHOWN];
+    uint8_t dots[PX8_DOTS];
+    uint8_t printer[PX8_DOTS]; /* printed copies of the last call, as many bytes as its
+                                * answer says; room for one of mode 3 or five others */
+} px8_bay;
+
+/* Whether a call was served and no sequence of it refused; of an answer that has a name,
+ * since it is looked at in its place. */
+#define PX8_CLEAN(answer) px8_is_clean(&(answer))
+
+static inline int px8_is_clean(const px8_answer *answer)
+{
+    return answer->number == PX8_SERVED && answer->refused == 0;
+}
+
+/* px8_opening by rule 1 or 2: 0, or PX8_BAD_RULE. */
+static inline uint8_t px8_bay_open(px8_bay *bay, px8_size rule)
+{
+    return px8_opening(&bay->settings, rule, bay->cells, PX8_CELLS, bay->layer, PX8_LAYER, bay->shown,
+                       PX8_SHOWN, bay->dots, PX8_DOTS);
+}
+
+/* px8_message */
+static inline px8_answer px8_bay_message(px8_bay *bay, const void *message, size_t length)
+{
+    px8_answer answer;
+    px8_message(&bay->settings, &answer, (const uint8_t *)message, length, bay->cells, PX8_CELLS, bay->layer,
+                PX8_LAYER, bay->shown, PX8_SHOWN, bay->dots, PX8_DOTS, bay->printer, sizeof bay->printer);
+    return answer;
+}
+
+/* px8_message_short */
+static inline px8_answer px8_bay_short(px8_bay *bay, const void *message, size_t length)
+{
+    px8_answer answer;
+    px8_message_short(&bay->settings, &answer, (const uint8_t *)message, length, bay->cells, PX8_CELLS,
+                      bay->layer, PX8_LAYER, bay->shown, PX8_SHOWN, bay->dots, PX8_DOTS, bay->printer,
+                      sizeof bay->printer);
+    return answer;
+}
+
+/* px8_piece */
+static inline px8_answer px8_bay_piece(px8_bay *bay, const void *piece, size_t length)
+{
+    px8_answer answer;
+    px8_piece(&bay->settings, &answer, (const uint8_t *)piece, length, bay->cells, PX8_CELLS, bay->layer,
+              PX8_LAYER, bay->shown, PX8_SHOWN, bay->dots, PX8_DOTS, bay->printer, sizeof bay->printer);
+    return answer;
+}
+
+/* px8_closing */
+static inline px8_answer px8_bay_closing(px8_bay *bay)
+{
+    px8_answer answer;
+    px8_closing(&bay->settings, &answer, bay->cells, PX8_CELLS, bay->layer, PX8_LAYER, bay->shown, PX8_SHOWN,
+                bay->dots, PX8_DOTS);
+    return answer;
+}
+
+/* px8_pack */
+static inline px8_pack_answer px8_bay_pack(px8_bay *bay, const void *pack, size_t length)
+{
+    px8_pack_answer answer;
+    px8_pack(&bay->settings, &answer, (const uint8_t *)pack, length, bay->cells, PX8_CELLS, bay->layer,
+             PX8_LAYER, bay->shown, PX8_SHOWN, bay->dots, PX8_DOTS, bay->printer, sizeof bay->printer);
+    return answer;
+}
+
+/* px8_key_text, of a text of up to eight letters, which blanks fill up; a longer one is
+ * refused (PX8_BAD_KEY_TEXT). */
+static inline px8_answer px8_bay_key_text(px8_bay *bay, px8_size number, const char *text)
+{
+    uint8_t codes[PX8_KEY_TEXT];
+    px8_answer answer;
+    size_t length = 0, n;
+    while (length <= PX8_KEY_TEXT && text[length] != 0)
+        length++;
+    for (n = 0; n < PX8_KEY_TEXT; n++)
+        codes[n] = n < length ? (uint8_t)text[n] : PX8_BLANK;
+    px8_key_text(&bay->settings, &answer, number, codes, length > PX8_KEY_TEXT ? 0 : PX8_KEY_TEXT);
+    return answer;
+}
+
+/* Row 1 to 8 of the shown screen as a text of at most PX8_WIDTH letters: without the
+ * blanks at its end, codes outside 32 to 126 as stops. The text is handed back; it has
+ * PX8_WIDTH + 1 bytes. Of any other row it is empty. */
+static inline char *px8_bay_row(const px8_bay *bay, int row, char *text)
+{
+    int end = row >= 1 && row <= PX8_ROWS ? PX8_WIDTH : 0, column;
+    while (end > 0 && bay->shown[PX8_AT(row, end)] == PX8_BLANK)
+        end--;
+    for (column = 1; column <= end; column++) {
+        const uint8_t code = bay->shown[PX8_AT(row, column)];
+        text[column - 1] = code >= 32 && code <= 126 ? (char)code : '.';
+    }
+    text[end] = 0;
+    return text;
+}
+
+/* ---- sequences by name ----
+ *
+ * A writer carries an outgoing buffer and the place reached in it. Each function below
+ * writes one sequence behind those before by px8_write, judged by the settings; it
+ * returns 0, or why nothing was written. The first refusal stays in the writer, so that
+ * it is enough to look once, at the end.
+ *
+ *   uint8_t buffer[64];
+ *   px8_writer w = px8_writer_on(&bay.settings, buffer, sizeof buffer);
+ *   px8_select(&w, 1);
+ *   px8_put_cursor(&w, 2, 5);
+ *   px8_put_text(&w, "kg");
+ *   if (w.number == PX8_SERVED)
+ *       px8_bay_message(&bay, buffer, w.place);
+ */
+typedef struct px8_writer {
+    const px8_settings *settings; /* of the reader */
+    uint8_t *buffer;
+    px8_size length;   /* bytes of the buffer */
+    px8_size place;    /* behind what was written: how much is to be sent */
+    uint8_t number;    /* why the first that was refused was not written: 3, 11, 22 (10, 12
+                        * by px8_put alone); 0 if none was refused */
+    uint8_t parameter; /* its first bad parameter, from 1, if it is 11; else 0 */
+} px8_writer;
+
+/* A writer at the start of a buffer. */
+static inline px8_writer px8_writer_on(const px8_settings *settings, uint8_t *buffer, px8_size length)
+{
+    px8_writer w;
+    w.settings = settings;
+    w.buffer = buffer;
+    w.length = length;
+    w.place = 0;
+    w.number = PX8_SERVED;
+    w.parameter = 0;
+    return w;
+}
+
+/* Any sequence, by its second byte and its parameters as sent. */
+static inline uint8_t px8_put(px8_writer *w, uint8_t second, const uint8_t *parameters, size_t length)
+{
+    px8_reached reached;
+    px8_write(w->settings, &reached, second, parameters, length, w->buffer, w->length, w->place);
+    w->place = reached.place;
+    if (w->number == PX8_SERVED) {
+        w->number = reached.number;
+        w->parameter = reached.parameter;
+    }
+    return reached.number;
+}
+
+/* Bytes as they are, a text to be printed: PX8_NO_SPACE, and none is written, where they
+ * do not fit. */
+static inline uint8_t px8_put_text(px8_writer *w, const char *text)
+{
+    px8_size length = 0, n;
+    while (text[length] != 0)
+        length++;
+    if (w->place > w->length || length > w->length - w->place) {
+        if (w->number == PX8_SERVED)
+            w->number = PX8_NO_SPACE;
+        return PX8_NO_SPACE;
+    }
+    for (n = 0; n < length; n++)
+        w->buffer[w->place + n] = (uint8_t)text[n];
+    w->place += length;
+    return PX8_SERVED;
+}
+
+/* The names are those of the rules' own list; in mode 3 numbers of dots have two bytes. */
+#define PX8_SEQUENCE0(name, second) \
+    static inline uint8_t px8_##name(px8_writer *w) { return px8_put(w, second, NULL, 0); }
+#define PX8_SEQUENCE1(name, second, a) \
+    static inline uint8_t px8_##name(px8_writer *w, uint8_t a) { return px8_put(w, second, &a, 1); }
+#define PX8_SEQUENCE2(name, second, a, b) \
+    static inline uint8_t px8_##name(px8_writer *w, uint8_t a, uint8_t b) \
+    { \
+        uint8_t sent[2]; \
+        sent[0] = a; \
+        sent[1] = b; \
+        return px8_put(w, second, sent, 2); \
+    }
+#define PX8_SEQUENCE3(name, second, a, b, c) \
+    static inline uint8_t px8_##name(px8_writer *w, uint8_t a, uint8_t b, uint8_t c) \
+    { \
+        uint8_t sent[3]; \
+        sent[0] = a; \
+        sent[1] = b; \
+        sent[2] = c; \
+        return px8_put(w, second, sent, 3); \
+    }
+
+PX8_SEQUENCE1(print_code, 37, code)
+PX8_SEQUENCE0(clear, 42)
+PX8_SEQUENCE0(cursor_off, 50)
+PX8_SEQUENCE0(cursor_on, 51)
+PX8_SEQUENCE1(charset, 67, letter)
+PX8_SEQUENCE0(copy, 80)
+PX8_SEQUENCE0(erase_line, 84)
+PX8_SEQUENCE0(erase_rest, 89)
+PX8_SEQUENCE0(secret_on, 123)
+PX8_SEQUENCE0(secret_off, 125)
+PX8_SEQUENCE2(lines_up, 144, from, count)
+PX8_SEQUENCE2(lines_down, 145, from, count)
+PX8_SEQUENCE1(step, 148, lines)
+PX8_SEQUENCE1(tracking, 149, off)
+PX8_SEQUENCE0(window_up, 150)
+PX8_SEQUENCE0(window_down, 151)
+PX8_SEQUENCE0(ins_on, 160)
+PX8_SEQUENCE0(ins_off, 161)
+PX8_SEQUENCE0(caps_on, 162)
+PX8_SEQUENCE0(caps_off, 163)
+PX8_SEQUENCE0(num_on, 164)
+PX8_SEQUENCE0(num_off, 165)
+PX8_SEQUENCE0(strings_off, 176)
+PX8_SEQUENCE0(strings_on, 177)
+PX8_SEQUENCE1(select, 209, screen)
+PX8_SEQUENCE3(cover, 210, row, column, code)
+PX8_SEQUENCE1(display, 211, display)
+PX8_SEQUENCE0(window_top, 212)
+PX8_SEQUENCE0(window_bottom, 213)
+PX8_SEQUENCE1(cursor_kind, 214, kind)
+PX8_SEQUENCE0(window_cursor, 215)
+PX8_SEQUENCE1(repeat, 240, on)
+PX8_SEQUENCE1(repeat_delay, 241, time)
+PX8_SEQUENCE1(repeat_interval, 242, time)
+PX8_SEQUENCE0(nothing, 246)
+PX8_SEQUENCE1(shift, 247, state)
+#undef PX8_SEQUENCE0
+#undef PX8_SEQUENCE1
+#undef PX8_SEQUENCE2
+#undef PX8_SEQUENCE3
+
+/* ESC 61, by line and column as they are counted, from 1. One that no screen has is
+ * refused. */
+static inline uint8_t px8_put_cursor(px8_writer *w, uint8_t line, uint8_t column)
+{
+    uint8_t sent[2];
+    sent[0] = (uint8_t)(line > 224 ? 255 : line + 31);
+    sent[1] = (uint8_t)(column > 224 ? 255 : column + 31);
+    return px8_put(w, 61, sent, 2);
+}
+
+/* ESC 198: from a dot to a dot, horizontal and vertical. */
+static inline uint8_t px8_draw_line(px8_writer *w, uint16_t h0, uint16_t v0, uint16_t h1, uint16_t v1,
+                                    uint16_t mask, uint8_t function)
+{
+    uint8_t sent[11];
+    const uint16_t numbers[5] = {h0, v0, h1, v1, mask};
+    int n;
+    for (n = 0; n < 5; n++) {
+        sent[2 * n] = (uint8_t)(numbers[n] >> 8);
+        sent[2 * n + 1] = (uint8_t)(numbers[n] & 255);
+    }
+    sent[10] = function;
+    return px8_put(w, 198, sent, 11);
+}
+
+/* ESC 199 */
+static inline uint8_t px8_draw_dot(px8_writer *w, uint8_t function, uint8_t vertical, uint16_t horizontal)
+{
+    uint8_t sent[4];
+    sent[0] = function;
+    sent[1] = vertical;
+    sent[2] = (uint8_t)(horizontal >> 8);
+    sent[3] = (uint8_t)(horizontal & 255);
+    return px8_put(w, 199, sent, 4);
+}
+
+/* ESC 208, a function a mode. What is written behind it is judged by the settings that the
+ * writer has: give it those of the new mode first. */
+static inline uint8_t px8_mode0(px8_writer *w, uint8_t lines1, uint8_t lines2)
+{
+    uint8_t sent[3] = {0};
+    sent[1] = lines1;
+    sent[2] = lines2;
+    return px8_put(w, 208, sent, 3);
+}
+
+static inline uint8_t px8_mode1(px8_writer *w, uint8_t lines)
+{
+    uint8_t sent[2] = {1};
+    sent[1] = lines;
+    return px8_put(w, 208, sent, 2);
+}
+
+static inline uint8_t px8_mode2(px8_writer *w, uint8_t lines, uint8_t columns, uint8_t boundary)
+{
+    uint8_t sent[4] = {2};
+    sent[1] = lines;
+    sent[2] = columns;
+    sent[3] = boundary;
+    return px8_put(w, 208, sent, 4);
+}
+
+static inline uint8_t px8_mode3(px8_writer *w)
+{
+    const uint8_t sent[1] = {3};
+    return px8_put(w, 208, sent, 1);
+}
+
+/* ESC 224, eight rows. */
+static inline uint8_t px8_pattern(px8_writer *w, uint8_t code, const uint8_t *rows)
+{
+    uint8_t sent[1 + PX8_PATTERN_ROWS];
+    int n;
+    sent[0] = code;
+    for (n = 0; n < PX8_PATTERN_ROWS; n++)
+        sent[1 + n] = rows[n];
+    return px8_put(w, 224, sent, sizeof sent);
+}
+
+/* ESC 243, with SHIFT 244, with CTRL 245: four codes. */
+static inline uint8_t px8_arrows1(px8_writer *w, const uint8_t *codes) { return px8_put(w, 243, codes, 4); }
+static inline uint8_t px8_arrows2(px8_writer *w, const uint8_t *codes) { return px8_put(w, 244, codes, 4); }
+static inline uint8_t px8_arrows3(px8_writer *w, const uint8_t *codes) { return px8_put(w, 245, codes, 4); }
+
+/* ---- the numbers in words, and what to look at ---- */
+
+static inline const char *px8_text(unsigned number)
+{
+    switch (number) {
+    case PX8_SERVED: return "served";
+    case PX8_STORE_SIZE: return "a store or screen is not of its size: look at the lengths";
+    case PX8_TOO_LONG: return "a message or piece is longer than 4096 bytes: look at its length";
+    case PX8_UNSOUND: return "a setting is outside its range: look at who else wrote the settings";
+    case PX8_NOT_LISTED: return "the byte after ESC is not in the list: look at the offset";
+    case PX8_OUT_OF_RANGE:
+        return "a parameter is outside its range, or its sum with the one before is too large: look at"
+               " parameter and offset";
+    case PX8_CUT: return "it ends inside a sequence: look at the offset; a line cut anywhere is for px8_piece";
+    case PX8_NO_ROOM: return "no printer room for a copy: look at the printer buffer's length";
+    case PX8_STREAM_TOO_LONG: return "the stream would pass 1000000000 bytes: close it";
+    case PX8_BYTES_WAIT: return "bytes of a stream wait: go on with pieces, or close the stream";
+    case PX8_BAD_KEY_TEXT: return "no such key, or a text not of 8 codes: look at number and length";
+    case PX8_LIST_SHORT: return "more places differ than the list has records: 640 are always enough";
+    case PX8_PACK_TOO_LONG: return "the pack or trace is longer than 60000 bytes: look at its length";
+    case PX8_CUT_RECORD: return "a record runs past the end: look at the lengths in the records' heads";
+    case PX8_UNKNOWN_RECORD: return "a record of another kind or length: look at the records' heads";
+    case PX8_NO_SPACE: return "no space for the sequence behind the place: look at the buffer's length";
+    case PX8_BAD_RULE: return "the opening's rule is not 1 or 2: look at the rule";
+    case PX8_TICK_FALLS: return "a tick is below the one before: look at the order of the records";
+    case PX8_OUTPUT_TOO_SMALL: return "the codes need more than the output has: look at its length";
+    default: return "no number of this library";
+    }
+}
 
 #ifdef __cplusplus
 }
