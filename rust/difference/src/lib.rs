@@ -126,7 +126,7 @@ impl Screens for Board {
         let mut records: Vec<px8::Difference> = list.iter().map(record_to_board).collect();
         let answer = match px8::compare(first, second, &mut records) {
             Ok(count) => (0, count),
-            Err(number) => (number, 0),
+            Err(refused) => (refused.number(), 0),
         };
         for (record, board) in list.iter_mut().zip(&records) {
             *record = record_from_board(board);
@@ -137,7 +137,7 @@ impl Screens for Board {
     fn first_difference(&mut self, first: &[u8], second: &[u8]) -> (u8, Option<Record>) {
         match px8::first_difference(first, second) {
             Ok(found) => (0, found.as_ref().map(record_from_board)),
-            Err(number) => (number, None),
+            Err(refused) => (refused.number(), None),
         }
     }
 }

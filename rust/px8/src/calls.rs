@@ -3,7 +3,7 @@
 //! every processor.
 
 use crate::types::{Answer, Repeats, Settings};
-use std::mem::MaybeUninit;
+use core::mem::MaybeUninit;
 
 /// A call that reads bytes: a message, a short one, a piece, a pack. In the archive every
 /// name ends with the number of the layout.

@@ -3,6 +3,7 @@
 
 use crate::calls::read;
 use crate::types::{Answer, Refusal, Settings};
+use alloc::vec::Vec;
 
 #[repr(C)]
 struct PackAnswer {
@@ -81,7 +82,8 @@ pub fn packed<M: AsRef<[u8]>>(messages: impl IntoIterator<Item = M>) -> Vec<u8> 
 }
 
 /// What a pack gives back.
-#[derive(Clone, Debug, PartialEq, Eq)]
+#[derive(Clone, Debug, Default, PartialEq, Eq)]
+#[must_use]
 pub struct PackReply {
     /// The counts of all messages together, and the first refusal.
     pub answer: Answer,
@@ -108,7 +110,7 @@ impl PackReply {
 #[cfg(test)]
 mod tests {
     use super::*;
-    use std::mem::{align_of, offset_of, size_of};
+    use core::mem::{align_of, offset_of, size_of};
 
     #[test]
     fn results_are_laid_out_as_in_the_header() {

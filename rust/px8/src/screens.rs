@@ -1,8 +1,10 @@
 //! Two shown screens side by side (document 02, P4): the boundary to the
 //! archive, with the unsafe code that it needs.
 
+use crate::refused::Refused;
 use crate::types::{Difference, SHOWN};
-use std::mem::MaybeUninit;
+use alloc::vec;
+use core::mem::MaybeUninit;
 
 #[repr(C)]
 struct Compared {
@@ -40,9 +42,8 @@ extern "C" {
 }
 
 /// Writes a record for each place that differs, by rows, from the list's
-/// start, and gives their number; the list beyond stays. The error is the
-/// refusal's number, 1 (a screen is not of its size) or 18 (more places
-/// differ than the list has records), and the list is then untouched.
+/// start, and gives their number; the list beyond stays. The error is
+/// [`Refused::StoreSize`] or [`Refused::ListShort`], and the list is then untouched.
 ///
 /// ```
 /// let (one, mut other) = ([32; px8::SHOWN], [32; px8::SHOWN]);
@@ -51,10 +52,10 @@ extern "C" {
 /// assert_eq!(px8::compare(&one, &other, &mut list), Ok(2));
 /// assert_eq!((list[0].row, list[0].column, list[0].second), (1, 80, 65));
 /// assert_eq!((list[1].row, list[1].column, list[1].second), (2, 1, 66));
-/// assert_eq!(px8::compare(&one, &other, &mut list[..1]), Err(px8::LIST_SHORT));
-/// assert_eq!(px8::compare(&one, &other[1..], &mut []), Err(px8::STORE_SIZE));
+/// assert_eq!(px8::compare(&one, &other, &mut list[..1]), Err(px8::Refused::ListShort));
+/// assert_eq!(px8::compare(&one, &other[1..], &mut []), Err(px8::Refused::StoreSize));
 /// ```
-pub fn compare(first: &[u8], second: &[u8], list: &mut [Difference]) -> Result<usize, u8> {
+pub fn compare(first: &[u8], second: &[u8], list: &mut [Difference]) -> Result<usize, Refused> {
     let mut answer = MaybeUninit::uninit();
     // SAFETY: each pointer goes with its own length, an exclusive borrow
     // overlaps no other, and any bytes make a record. The answer is written whole, and the
@@ -71,14 +72,11 @@ pub fn compare(first: &[u8], second: &[u8], list: &mut [Difference]) -> Result<u
         );
         answer.assume_init()
     };
-    match compared.number {
-        0 => Ok(compared.count as usize),
-        number => Err(number),
-    }
+    Refused::unless_served(compared.number, compared.count as usize)
 }
 
 /// Only the first difference, or none exactly when the screens are equal. The
-/// error is 1: a screen is not of its size.
+/// error is [`Refused::StoreSize`].
 ///
 /// ```
 /// let (one, mut other) = ([32; px8::SHOWN], [32; px8::SHOWN]);
@@ -86,9 +84,9 @@ pub fn compare(first: &[u8], second: &[u8], list: &mut [Difference]) -> Result<u
 /// other[81] = 65;
 /// let there = px8::Difference { row: 2, column: 2, first: 32, second: 65 };
 /// assert_eq!(px8::first_difference(&one, &other), Ok(Some(there)));
-/// assert_eq!(px8::first_difference(&one[1..], &other), Err(px8::STORE_SIZE));
+/// assert_eq!(px8::first_difference(&one[1..], &other), Err(px8::Refused::StoreSize));
 /// ```
-pub fn first_difference(first: &[u8], second: &[u8]) -> Result<Option<Difference>, u8> {
+pub fn first_difference(first: &[u8], second: &[u8]) -> Result<Option<Difference>, Refused> {
     let mut answer = MaybeUninit::uninit();
     // SAFETY: each pointer goes with its own length, and is only read. The answer is
     // written whole.
@@ -102,11 +100,7 @@ pub fn first_difference(first: &[u8], second: &[u8]) -> Result<Option<Difference
         );
         answer.assume_init()
     };
-    match (answer.number, answer.found) {
-        (0, 0) => Ok(None),
-        (0, _) => Ok(Some(answer.difference)),
-        (number, _) => Err(number),
-    }
+    Refused::unless_served(answer.number, (answer.found != 0).then_some(answer.difference))
 }
 
 /// All differences of two shown screens, by rows.
@@ -127,7 +121,7 @@ pub fn differences(first: &[u8; SHOWN], second: &[u8; SHOWN]) -> impl ExactSizeI
 #[cfg(test)]
 mod tests {
     use super::*;
-    use std::mem::{align_of, offset_of, size_of};
+    use core::mem::{align_of, offset_of, size_of};
 
     #[test]
     fn results_are_laid_out_as_in_the_header() {

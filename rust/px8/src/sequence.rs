@@ -1,6 +1,7 @@
 //! The sequences by name (document 02, P7), their parameters as sent.
 
-use std::fmt;
+use alloc::vec::Vec;
+use core::fmt;
 
 /// The most parameters of a sequence: 198's.
 pub(crate) const PARAMETERS_MOST: usize = 11;
@@ -24,52 +25,79 @@ pub(crate) const PARAMETERS_MOST: usize = 11;
 #[derive(Clone, Copy, Debug, PartialEq, Eq, Hash)]
 pub enum Sequence {
     /// Prints a code, 0 to 255 (37).
-    Print { code: u8 },
+    Print {
+        /// Any code.
+        code: u8,
+    },
     /// Blanks the screen, cursor home, top 1; in mode 3 no dot either (42).
     Clear,
-    /// (50)
+    /// Cursor off (50).
     CursorOff,
-    /// (51)
+    /// Cursor on (51).
     CursorOn,
     /// The cursor's line and column, each sent with 31 added: 32 to R + 31, 32 to columns
     /// + 31; see [`Sequence::cursor_to`] (61).
-    PlaceCursor { line: u8, column: u8 },
+    PlaceCursor {
+        /// The line with 31 added.
+        line: u8,
+        /// The column with 31 added.
+        column: u8,
+    },
     /// One of the letters U F G E D W I S N (67).
-    CharacterSet { letter: u8 },
+    CharacterSet {
+        /// The letter.
+        letter: u8,
+    },
     /// A printed copy (80).
     Copy,
     /// Blanks to the end of the logical line (84).
     EraseLine,
     /// Blanks to the end of the screen (89).
     EraseScreen,
-    /// (123)
+    /// Secret on (123).
     SecretOn,
-    /// (125)
+    /// Secret off (125).
     SecretOff,
     /// The `lines` lines, 1 to R, that follow the first `above`, 0 to R − 1, move up by one;
     /// together at most R (144).
-    ScrollUp { above: u8, lines: u8 },
+    ScrollUp {
+        /// Lines above the region.
+        above: u8,
+        /// How many lines.
+        lines: u8,
+    },
     /// The same down by one (145).
-    ScrollDown { above: u8, lines: u8 },
+    ScrollDown {
+        /// Lines above the region.
+        above: u8,
+        /// How many lines.
+        lines: u8,
+    },
     /// How far the window moves, 1 to H (148).
-    Step { lines: u8 },
+    Step {
+        /// How many lines.
+        lines: u8,
+    },
     /// 0 the window follows the cursor, 1 not (149).
-    Tracking { off: u8 },
-    /// (150)
+    Tracking {
+        /// 0 on, 1 off.
+        off: u8,
+    },
+    /// The window up by the step (150).
     WindowUp,
-    /// (151)
+    /// The window down by the step (151).
     WindowDown,
-    /// (160)
+    /// INS on (160).
     InsOn,
-    /// (161)
+    /// INS off (161).
     InsOff,
-    /// (162)
+    /// CAPS on (162).
     CapsOn,
-    /// (163)
+    /// CAPS off (163).
     CapsOff,
-    /// (164)
+    /// NUM on (164).
     NumOn,
-    /// (165)
+    /// NUM off (165).
     NumOff,
     /// Function keys send codes (176).
     KeyCodes,
@@ -78,49 +106,122 @@ pub enum Sequence {
     /// In mode 3 a line of dots: horizontal 0 to 479, vertical 0 to 63; the mask's highest
     /// bit is the first dot's; function 1 clears, 2 sets, 3 inverts. In modes 0 to 2
     /// nothing is judged, and nothing drawn (198).
-    DrawLine { from: Dot, to: Dot, mask: u16, function: u8 },
+    DrawLine {
+        /// The first dot.
+        from: Dot,
+        /// The last dot.
+        to: Dot,
+        /// Which dots act, the highest bit first.
+        mask: u16,
+        /// What is done to a dot.
+        function: u8,
+    },
     /// In mode 3 sets (1) or clears (0) a dot; else as [`Sequence::DrawLine`] (199).
-    SetDot { function: u8, vertical: u8, horizontal: u16 },
+    SetDot {
+        /// What is done to a dot.
+        function: u8,
+        /// The row of dots.
+        vertical: u8,
+        /// The dot in its row.
+        horizontal: u16,
+    },
     /// Each screen at least 8 lines, together at most 48 (208, 0).
-    Mode0 { lines1: u8, lines2: u8 },
+    Mode0 {
+        /// Lines of screen 1.
+        lines1: u8,
+        /// Lines of screen 2.
+        lines2: u8,
+    },
     /// 16 to 48 lines (208, 1).
-    Mode1 { lines: u8 },
+    Mode1 {
+        /// How many lines.
+        lines: u8,
+    },
     /// 8 to 48 lines, screen 1 of 1 to 78 columns, any boundary (208, 2).
-    Mode2 { lines: u8, columns: u8, boundary: u8 },
-    /// (208, 3)
+    Mode2 {
+        /// How many lines.
+        lines: u8,
+        /// Columns of screen 1.
+        columns: u8,
+        /// Shown between the screens.
+        boundary: u8,
+    },
+    /// Mode 3 (208, 3).
     Mode3,
     /// 0 screen 1, 1 screen 2 (209).
-    Select { screen: u8 },
+    Select {
+        /// 0 or 1.
+        screen: u8,
+    },
     /// Marks row 1 to 8, column 1 to 80, with any code (210).
-    Cover { row: u8, column: u8, code: u8 },
+    Cover {
+        /// The row.
+        row: u8,
+        /// The column.
+        column: u8,
+        /// Any code.
+        code: u8,
+    },
     /// 0 row 8 is the key line, 1 not (211).
-    KeyDisplay { display: u8 },
-    /// (212)
+    KeyDisplay {
+        /// 0 on, 1 off.
+        display: u8,
+    },
+    /// The window to the top (212).
     WindowTop,
-    /// (213)
+    /// The window to the end (213).
     WindowEnd,
     /// 0 to 3 (214).
-    CursorType { kind: u8 },
-    /// (215)
+    CursorType {
+        /// The type.
+        kind: u8,
+    },
+    /// The window to the cursor (215).
     WindowToCursor,
     /// The eight rows of a code, 224 to 254 (224).
-    Pattern { code: u8, rows: [u8; 8] },
+    Pattern {
+        /// 224 to 254.
+        code: u8,
+        /// The rows, from the top.
+        rows: [u8; 8],
+    },
     /// 0 or 1 (240).
-    KeyRepeat { on: u8 },
+    KeyRepeat {
+        /// 1 on, 0 off.
+        on: u8,
+    },
     /// 1 to 127, in 1/64 second (241).
-    RepeatDelay { time: u8 },
+    RepeatDelay {
+        /// The time.
+        time: u8,
+    },
     /// 1 to 127, in 1/256 second (242).
-    RepeatInterval { time: u8 },
-    /// (243)
-    Arrows { codes: [u8; 4] },
-    /// (244)
-    ShiftArrows { codes: [u8; 4] },
-    /// (245)
-    CtrlArrows { codes: [u8; 4] },
+    RepeatInterval {
+        /// The time.
+        time: u8,
+    },
+    /// The codes of the arrow keys (243).
+    Arrows {
+        /// The codes as sent.
+        codes: [u8; 4],
+    },
+    /// The same with SHIFT (244).
+    ShiftArrows {
+        /// The codes as sent.
+        codes: [u8; 4],
+    },
+    /// The same with CTRL (245).
+    CtrlArrows {
+        /// The codes as sent.
+        codes: [u8; 4],
+    },
     /// No effect (246).
     ClearKeys,
     /// 0, 2, 4, 6, 16, 18, 32, 34, 64 or 66 (247).
-    ShiftState { state: u8 },
+    ShiftState {
+        /// The state.
+        state: u8,
+    },
 }
 
 /// A dot of mode 3, as [`Sequence::DrawLine`] sends it.

@@ -1,7 +1,8 @@
 //! A stream through `std::io::Write`.
 
 use crate::terminal::{Reply, Terminal};
-use crate::types::{Answer, COUNT_MOST, MESSAGE_MOST, SERVED, STREAM_TOO_LONG, UNSOUND};
+use crate::types::MESSAGE_MOST;
+use alloc::vec::Vec;
 use std::io;
 
 /// A terminal's stream as something to write to. What is written may be cut
@@ -10,7 +11,20 @@ use std::io;
 /// was written, counts, first refusal and copies, is in [`Stream::so_far`].
 ///
 /// The end is said by [`Stream::close`]. One that is dropped leaves the stream
-/// open, and [`Terminal::stream`] goes on with it.
+/// open, and [`Terminal::stream`] goes on with it. Where a piece or the closing is refused,
+/// the error holds a [`Refused`](crate::Refused):
+///
+/// ```
+/// use std::io::Write;
+/// let open = px8::Terminal::open();
+/// let settings = px8::Settings { count: px8::COUNT_MOST, ..*open.settings() };
+/// let mut full = px8::Terminal::resume(settings, *open.cells(), *open.layer(), *open.shown(), *open.dots());
+/// let error = full.stream().write_all(b"38,500").unwrap_err();
+/// let refused: &px8::Refused = error.get_ref().unwrap().downcast_ref().unwrap();
+/// assert_eq!(*refused, px8::Refused::StreamTooLong);
+/// ```
+///
+/// Else all goes in:
 ///
 /// ```
 /// use std::io::{Read, Write};
@@ -34,10 +48,7 @@ pub struct Stream<'a> {
 
 impl<'a> Stream<'a> {
     pub(crate) fn of(terminal: &'a mut Terminal) -> Stream<'a> {
-        let (number, taken, accepted, refused) = (SERVED, 0, 0, 0);
-        let (first, parameter, offset, printed) = (0, 0, 0, 0);
-        let answer = Answer { number, taken, accepted, refused, first, parameter, offset, printed };
-        Stream { terminal, so_far: Reply { answer, printed: Vec::new() } }
+        Stream { terminal, so_far: Reply::default() }
     }
 
     /// What came of all that was written to this value: the counts together,
@@ -67,7 +78,7 @@ impl<'a> Stream<'a> {
     /// assert!(stream.take_printed().is_empty());
     /// ```
     pub fn take_printed(&mut self) -> Vec<u8> {
-        std::mem::take(&mut self.so_far.printed)
+        core::mem::take(&mut self.so_far.printed)
     }
 
     /// The terminal as it stands between two pieces.
@@ -93,9 +104,7 @@ impl<'a> Stream<'a> {
 
     fn add(&mut self, reply: Reply) -> io::Result<()> {
         let Reply { answer, printed } = reply;
-        if answer.number != SERVED {
-            return Err(io::Error::other(Refused { number: answer.number }));
-        }
+        answer.served().map_err(io::Error::other)?;
         let all = &mut self.so_far.answer;
         all.taken += answer.taken;
         all.accepted += answer.accepted;
@@ -111,7 +120,7 @@ impl<'a> Stream<'a> {
 
 impl io::Write for Stream<'_> {
     /// Takes up to [`MESSAGE_MOST`] bytes as one piece. It fails, and takes
-    /// none, where the piece is refused; the error holds a [`Refused`].
+    /// none, where the piece is refused; the error holds a [`Refused`](crate::Refused).
     fn write(&mut self, bytes: &[u8]) -> io::Result<usize> {
         let piece = &bytes[..bytes.len().min(MESSAGE_MOST)];
         let reply = self.terminal.piece(piece);
@@ -124,35 +133,3 @@ impl io::Write for Stream<'_> {
         Ok(())
     }
 }
-
-/// Why a whole piece or closing was refused; what an error of [`Stream`] holds.
-///
-/// ```
-/// use std::io::Write;
-/// let open = px8::Terminal::open();
-/// let settings = px8::Settings { count: px8::COUNT_MOST, ..*open.settings() };
-/// let mut full = px8::Terminal::resume(settings, *open.cells(), *open.layer(), *open.shown(), *open.dots());
-/// let error = full.stream().write_all(b"38,500").unwrap_err();
-/// let refused: &px8::Refused = error.get_ref().unwrap().downcast_ref().unwrap();
-/// assert_eq!(refused.number, px8::STREAM_TOO_LONG);
-/// ```
-#[derive(Clone, Copy, Debug, PartialEq, Eq)]
-pub struct Refused {
-    /// [`UNSOUND`] or [`STREAM_TOO_LONG`]: stores are of their size here, and
-    /// pieces short enough.
-    pub number: u8,
-}
-
-impl std::fmt::Display for Refused {
-    fn fmt(&self, f: &mut std::fmt::Formatter) -> std::fmt::Result {
-        write!(f, "the call is refused by {}: ", self.number)?;
-        match self.number {
-            UNSOUND => write!(f, "a setting is outside its range"),
-            STREAM_TOO_LONG => write!(f, "the stream would be longer than {COUNT_MOST} bytes"),
-            // no piece that is short enough has another number
-            _ => write!(f, "an unknown number"),
-        }
-    }
-}
-
-impl std::error::Error for Refused {}

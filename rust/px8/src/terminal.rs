@@ -2,11 +2,18 @@
 
 use crate::calls;
 use crate::packs::{self, PackReply};
+use crate::refused::Refused;
 use crate::sequence::Sequence;
+#[cfg(feature = "std")]
 use crate::stream::Stream;
 use crate::types::{Answer, Settings, CELLS, COPY, LAYER, MESSAGE_MOST, ROWS, SHOWN, WIDTH};
 use crate::types::{DOTS, DOT_COLUMNS, DOT_ROW, DOT_ROWS, PACK_MOST};
 use crate::writer::{Unwritten, Writer};
+use alloc::format;
+use alloc::string::String;
+use alloc::vec;
+use alloc::vec::Vec;
+use core::fmt;
 
 /// A terminal with its settings and stores.
 ///
@@ -16,7 +23,7 @@ use crate::writer::{Unwritten, Writer};
 /// assert!(reply.answer.is_clean());
 /// assert_eq!(terminal.to_string(), "1\n2\n3\n4     38,500 kg\n5\n6\n7\n8\n");
 /// ```
-#[derive(Clone, Debug, PartialEq, Eq)]
+#[derive(Clone, PartialEq, Eq)]
 pub struct Terminal {
     settings: Settings,
     cells: [u8; CELLS],
@@ -26,8 +33,10 @@ pub struct Terminal {
 }
 
 /// What a message or a piece gives back.
-#[derive(Clone, Debug, PartialEq, Eq)]
+#[derive(Clone, Debug, Default, PartialEq, Eq)]
+#[must_use]
 pub struct Reply {
+    /// The counts and the first refusal.
     pub answer: Answer,
     /// The printed copies, [`COPY`] bytes each, in mode 3 [`DOTS`].
     pub printed: Vec<u8>,
@@ -40,8 +49,7 @@ impl Terminal {
         Terminal::open_with(1).expect("rule 1 is served")
     }
 
-    /// A terminal as the opening call by this rule leaves it; or the number by
-    /// which the opening is refused, [`BAD_RULE`](crate::BAD_RULE). By rule 2 the
+    /// A terminal as the opening call by this rule leaves it; or [`Refused::BadRule`]. By rule 2 the
     /// cursor stays in the last column, late, until the next character is printed.
     ///
     /// ```
@@ -53,17 +61,14 @@ impl Terminal {
     /// let place = terminal.settings().places[0];
     /// assert_eq!((place.line, place.column, place.late), (2, 3, 0));
     ///
-    /// assert_eq!(px8::Terminal::open_with(3), Err(px8::BAD_RULE));
-    /// # Ok::<(), u8>(())
+    /// assert_eq!(px8::Terminal::open_with(3), Err(px8::Refused::BadRule));
+    /// # Ok::<(), px8::Refused>(())
     /// ```
-    pub fn open_with(rule: usize) -> Result<Terminal, u8> {
+    pub fn open_with(rule: usize) -> Result<Terminal, Refused> {
         let (mut cells, mut layer) = ([0; CELLS], [0; LAYER]);
         let (mut shown, mut dots) = ([0; SHOWN], [0; DOTS]);
         let (settings, number) = calls::opening(rule, &mut cells, &mut layer, &mut shown, &mut dots);
-        match number {
-            crate::SERVED => Ok(Terminal { settings, cells, layer, shown, dots }),
-            refused => Err(refused),
-        }
+        Refused::unless_served(number, Terminal { settings, cells, layer, shown, dots })
     }
 
     /// A terminal taken up again from what was saved, in the middle of a
@@ -305,6 +310,7 @@ impl Terminal {
     /// assert!(stream.close().unwrap().answer.is_clean());
     /// assert!(terminal.to_string().starts_with("1 load 38500\n"));
     /// ```
+    #[cfg(feature = "std")]
     pub fn stream(&mut self) -> Stream<'_> {
         Stream::of(self)
     }
@@ -331,22 +337,20 @@ impl Terminal {
     }
 
     /// Which codes a trace sends under the key repeat that stands, as ticks of
-    /// 1/256 second and keys; or the number by which the trace is refused.
+    /// 1/256 second and keys; or why the trace is refused.
     ///
     /// ```
     /// let mut terminal = px8::Terminal::open();
     /// terminal.message(&[27, 241, 10, 27, 242, 20]);
     /// let trace = [[5, 0, 1, 0, 0, 0, 0, 0, b'A'], [5, 0, 2, 0, 61, 0, 0, 0, b'A']].concat();
     /// assert_eq!(terminal.key_repeats(&trace, 9), Ok(vec![(0, b'A'), (40, b'A'), (60, b'A')]));
-    /// assert_eq!(terminal.key_repeats(&trace[1..], 9), Err(px8::CUT_RECORD));
-    /// assert_eq!(terminal.key_repeats(&trace, 2), Err(px8::OUTPUT_TOO_SMALL));
+    /// assert_eq!(terminal.key_repeats(&trace[1..], 9), Err(px8::Refused::CutRecord));
+    /// assert_eq!(terminal.key_repeats(&trace, 2), Err(px8::Refused::OutputTooSmall));
     /// ```
-    pub fn key_repeats(&self, trace: &[u8], codes_most: usize) -> Result<Vec<(u32, u8)>, u8> {
+    pub fn key_repeats(&self, trace: &[u8], codes_most: usize) -> Result<Vec<(u32, u8)>, Refused> {
         let mut output = vec![0; 5 * codes_most];
         let repeats = calls::key_repeats(&self.settings, trace, &mut output);
-        if repeats.number != crate::SERVED {
-            return Err(repeats.number);
-        }
+        Refused::unless_served(repeats.number, ())?;
         let codes = output.as_chunks().0.iter().take(repeats.count as usize);
         Ok(codes.map(|&[a, b, c, d, key]| (u32::from_le_bytes([a, b, c, d]), key)).collect())
     }
@@ -445,18 +449,56 @@ impl Terminal {
     }
 }
 
-impl std::fmt::Display for Terminal {
+impl Default for Terminal {
+    /// [`Terminal::open`].
+    fn default() -> Terminal {
+        Terminal::open()
+    }
+}
+
+/// What a person looks for: the mode, the selected screen and its cursor and window, what
+/// waits of a stream, and the rows as [`Display`](fmt::Display) has them.
+///
+/// ```
+/// let mut terminal = px8::Terminal::open();
+/// assert!(terminal.message(b"net 38,500").answer.is_clean());
+/// let said = format!("{terminal:?}");
+/// assert!(said.starts_with("Terminal { mode: 0, screen: 1, line: 1, column: 11, late: 0, top: 1, "));
+/// assert!(said.contains("\"net 38,500\"") && said.len() < 250, "{said}");
+/// ```
+impl fmt::Debug for Terminal {
+    fn fmt(&self, f: &mut fmt::Formatter) -> fmt::Result {
+        let s = &self.settings;
+        let mut said = f.debug_struct("Terminal");
+        said.field("mode", &s.mode).field("screen", &(u16::from(s.selected) + 1));
+        // settings that are not sound may select none
+        if let Some(place) = s.places.get(usize::from(s.selected)) {
+            said.field("line", &place.line).field("column", &place.column).field("late", &place.late);
+            said.field("top", &place.top);
+        }
+        let rows: Vec<String> = self.rows().map(text).collect();
+        said.field("count", &s.count).field("waiting", &s.waiting()).field("rows", &rows);
+        said.finish_non_exhaustive()
+    }
+}
+
+impl fmt::Display for Terminal {
     /// The eight rows as program `show` prints them: numbered, without
     /// trailing blanks, codes outside 32 to 126 as a dot.
-    fn fmt(&self, f: &mut std::fmt::Formatter) -> std::fmt::Result {
+    fn fmt(&self, f: &mut fmt::Formatter) -> fmt::Result {
         for (number, row) in (1..=ROWS).zip(self.rows()) {
-            let end = row.iter().rposition(|&code| code != 32).map_or(0, |last| last + 1);
-            let text: String = row[..end].iter().map(|&code| letter(code)).collect();
+            let text = text(row);
             // the blank after the number is a trailing one in an empty row
             writeln!(f, "{}", format!("{number} {text}").trim_end_matches(' '))?;
         }
         Ok(())
     }
+}
+
+/// A row without trailing blanks.
+fn text(row: &[u8; WIDTH]) -> String {
+    let end = row.iter().rposition(|&code| code != 32).map_or(0, |last| last + 1);
+    row[..end].iter().map(|&code| letter(code)).collect()
 }
 
 fn letter(code: u8) -> char {

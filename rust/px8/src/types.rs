@@ -1,6 +1,8 @@
 //! The plain types, laid out as the archive has them, the sizes of the
 //! stores, and the numbers.
 
+use core::fmt;
+
 /// Rows of the shown screen.
 pub const ROWS: usize = 8;
 /// Places in a row of the shown screen.
@@ -170,6 +172,7 @@ pub struct Settings {
     pub display: u8,
     /// The cursor's type, 0 to 3 (214); 3 in mode 3.
     pub kind: u8,
+    /// The keyboard's.
     pub keys: Keys,
     /// 31 patterns of 8 rows, for the codes 224 to 254 (224).
     pub patterns: [u8; PATTERNS],
@@ -256,7 +259,8 @@ impl Settings {
 
 /// The answer to a message, short or not, a piece, a closing, a pack or a key text.
 #[repr(C)]
-#[derive(Clone, Copy, Debug, PartialEq, Eq)]
+#[derive(Clone, Copy, Debug, Default, PartialEq, Eq)]
+#[must_use]
 pub struct Answer {
     /// [`SERVED`], or why the whole call was refused: 1, 2, 3 or 16 a message;
     /// 1, 2, 3 or 15 a piece; 1 or 3 a closing; 1, 19, 20, 21, 2, 3 or 16 a pack;
@@ -286,6 +290,7 @@ pub struct Answer {
 /// What [`key_repeats`](crate::key_repeats) gives back.
 #[repr(C)]
 #[derive(Clone, Copy, Debug, PartialEq, Eq)]
+#[must_use]
 pub struct Repeats {
     /// [`SERVED`], or why the call was refused: 3, 19, 20, 21, 24 or 25.
     pub number: u8,
@@ -330,8 +335,8 @@ pub struct Refusal {
     pub offset: u32,
 }
 
-impl std::fmt::Display for Refusal {
-    fn fmt(&self, f: &mut std::fmt::Formatter) -> std::fmt::Result {
+impl fmt::Display for Refusal {
+    fn fmt(&self, f: &mut fmt::Formatter) -> fmt::Result {
         write!(f, "refusal {} at offset {}: ", self.number, self.offset)?;
         match self.number {
             NOT_LISTED => write!(f, "the byte after ESC is not in the list"),
@@ -346,10 +351,10 @@ impl std::fmt::Display for Refusal {
     }
 }
 
-impl std::error::Error for Refusal {}
+impl core::error::Error for Refusal {}
 
 /// What 11 says of a parameter.
-pub(crate) fn in_range_words(f: &mut std::fmt::Formatter, parameter: u8) -> std::fmt::Result {
+pub(crate) fn in_range_words(f: &mut fmt::Formatter, parameter: u8) -> fmt::Result {
     write!(f, "parameter {parameter} is outside its range")?;
     match parameter {
         1 => Ok(()),
@@ -357,9 +362,9 @@ pub(crate) fn in_range_words(f: &mut std::fmt::Formatter, parameter: u8) -> std:
     }
 }
 
-impl std::fmt::Display for Answer {
+impl fmt::Display for Answer {
     /// The answer's line, as program `show` prints it.
-    fn fmt(&self, f: &mut std::fmt::Formatter) -> std::fmt::Result {
+    fn fmt(&self, f: &mut fmt::Formatter) -> fmt::Result {
         write!(f, "answer {} taken {} accepted {} ", self.number, self.taken, self.accepted)?;
         write!(f, "refused {} first {} at {}", self.refused, self.first, self.offset)
     }

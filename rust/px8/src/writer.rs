@@ -3,14 +3,16 @@
 
 use crate::sequence::{Sequence, PARAMETERS_MOST};
 use crate::types::{in_range_words, Settings, NO_SPACE, OUT_OF_RANGE, SERVED, UNSOUND};
-use std::fmt;
-use std::mem::MaybeUninit;
+use alloc::vec::Vec;
+use core::fmt;
+use core::mem::MaybeUninit;
 
 /// ESC, the second byte and the most parameters.
 const SEQUENCE_MOST: usize = 2 + PARAMETERS_MOST;
 
 /// What [`write()`] gives back.
 #[derive(Clone, Copy, Debug, PartialEq, Eq)]
+#[must_use]
 pub struct Reached {
     /// The place behind what was written; where the call was refused, as given.
     pub place: usize,
@@ -270,12 +272,12 @@ impl fmt::Display for Unwritten {
     }
 }
 
-impl std::error::Error for Unwritten {}
+impl core::error::Error for Unwritten {}
 
 #[cfg(test)]
 mod tests {
     use super::*;
-    use std::mem::{align_of, offset_of, size_of};
+    use core::mem::{align_of, offset_of, size_of};
 
     #[test]
     fn the_result_is_laid_out_as_in_the_header() {

@@ -21,8 +21,8 @@ fn filled(terminal: &Terminal) -> Vec<(usize, u8)> {
 fn settings_of_mode_3() {
     let given = [&[27, 214, 1, 27, 211, 0, 27, 148, 5, 27, 149, 1, 27, 50, 27, 209, 1][..], b"text"].concat();
     let mut terminal = Terminal::open();
-    terminal.message(&given);
-    terminal.message(MODE_3);
+    let _ = terminal.message(&given);
+    let _ = terminal.message(MODE_3);
     let home = Place { line: 1, column: 1, top: 1, late: 0 };
     let opening = *Terminal::open().settings();
     let expected = Settings {
@@ -97,7 +97,7 @@ fn copies_of_dots() {
     let reply = Terminal::open().message(&[b"\x1bP", MODE_3, b"\x1bP"].concat());
     assert_eq!((reply.answer.refused, reply.printed.len()), (0, COPY + DOTS));
     let mut terminal = Terminal::open();
-    terminal.piece(&[27, 208]);
+    let _ = terminal.piece(&[27, 208]);
     let reply = terminal.piece(&[3, 27, 80, 27]);
     assert_eq!((reply.answer.refused, reply.printed.len()), (0, DOTS));
     assert_eq!(terminal.piece(&[80]).printed.len(), DOTS);

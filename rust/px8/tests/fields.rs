@@ -151,7 +151,7 @@ fn waiting_held_and_count() {
     let given = Settings { count: 0x3000_0000, ..*opened.settings() };
     let mut terminal =
         Terminal::resume(given, *opened.cells(), *opened.layer(), *opened.shown(), *opened.dots());
-    terminal.piece(&[0; 0x0102]);
+    let _ = terminal.piece(&[0; 0x0102]);
     assert_eq!(terminal.settings(), &Settings { count: 0x3000_0102, ..given });
 }
 

@@ -29,7 +29,7 @@ fn a_window_is_a_line_lower() {
     assert_eq!(tops(&after(&[&[27, 211, 0, 27, 61, 43, 32]])), [9, 1]);
     let mut left_below = after(&[&[10; 7], &[27, 211, 0]]);
     assert_eq!((left_below.settings().places[0].line, tops(&left_below)), (8, [1, 1]));
-    left_below.message(&[13]);
+    let _ = left_below.message(&[13]);
     assert_eq!(tops(&left_below), [2, 1]);
 }
 
@@ -38,7 +38,7 @@ fn both_tops_are_held() {
     let mut terminal = after(&[b"\x1b\xd3\x00\x1b\xd1\x01\x1b=3\x20text\x1b\xd5\x1b\xd1\x00"]);
     assert_eq!(tops(&terminal), [1, 18]);
     let (cells, before) = (*terminal.cells(), *terminal.settings());
-    terminal.message(&[27, 211, 1]);
+    let _ = terminal.message(&[27, 211, 1]);
     assert_eq!((tops(&terminal), *terminal.cells()), ([1, 17], cells));
     let cursor = |settings: &Settings| (settings.places[1].line, settings.places[1].column);
     assert_eq!(cursor(terminal.settings()), cursor(&before));
@@ -50,7 +50,7 @@ fn mode_1_has_a_window_of_14() {
     assert_eq!(terminal.shown()[41], 65);
     let mut terminal = after(&[&[27, 208, 1, 16, 27, 148, 16, 27, 211, 0, 27, 213]]);
     assert_eq!((terminal.settings().step, tops(&terminal)), (14, [3, 1]));
-    terminal.message(&[27, 211, 1]);
+    let _ = terminal.message(&[27, 211, 1]);
     assert_eq!((terminal.settings().step, tops(&terminal)), (14, [1, 1]));
 }
 
@@ -77,7 +77,7 @@ fn a_text_is_seen_from_the_next_call_on() {
     // a piece and a closing show it too, and it is set while bytes wait
     for close in [false, true] {
         let mut terminal = after(&[&[27, 211, 0]]);
-        terminal.piece(&[27]);
+        let _ = terminal.piece(&[27]);
         assert!(terminal.key_text(1, b"TARE    ").is_clean());
         let answer = if close { terminal.closing() } else { terminal.piece(&[]).answer };
         assert_eq!(answer.number, px8::SERVED);

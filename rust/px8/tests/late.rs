@@ -29,7 +29,7 @@ fn cell(terminal: &Terminal, line: usize, column: usize) -> u8 {
 fn the_cursor_waits_and_steps() {
     let mut terminal = after(&[FULL]);
     assert_eq!(stands(&terminal), (1, 80, 1, vec![]));
-    terminal.message(&[66]);
+    let _ = terminal.message(&[66]);
     assert_eq!((stands(&terminal), cell(&terminal, 2, 1)), ((2, 2, 0, vec![1]), 66));
     let terminal = after(&[LAST, &[27, 37, 66]]);
     assert_eq!((stands(&terminal), cell(&terminal, 24, 1)), ((24, 2, 0, vec![23]), 66));
@@ -63,7 +63,7 @@ fn what_clears_the_flag() {
 fn what_keeps_it() {
     let mut terminal = after(&[LAST, &[27, 84]]);
     assert_eq!((stands(&terminal), cell(&terminal, 24, 80)), ((24, 80, 1, vec![]), 32));
-    terminal.message(&[66]);
+    let _ = terminal.message(&[66]);
     assert_eq!((stands(&terminal), cell(&terminal, 24, 1)), ((24, 2, 0, vec![23]), 66));
     let terminal = after(&[FULL, &[27, 209, 1, 27, 209, 0, 66]]);
     assert_eq!(cell(&terminal, 2, 1), 66);
@@ -74,7 +74,7 @@ fn what_keeps_it() {
 #[test]
 fn rule_1_stays() {
     let mut terminal = Terminal::open();
-    terminal.message(FULL);
+    let _ = terminal.message(FULL);
     assert_eq!(stands(&terminal), (2, 1, 0, vec![1]));
     assert_eq!(Terminal::open_with(1).unwrap(), Terminal::open());
 }

@@ -30,7 +30,7 @@ fn the_whole_logical_line_is_erased() {
 fn lifts_carry_marks() {
     let mut terminal = after(&[&[27, 61, 55, 111, 65]]);
     assert_eq!(marked(&terminal), [23]);
-    terminal.message(b"B\x1b=6o\x1bT");
+    let _ = terminal.message(b"B\x1b=6o\x1bT");
     assert!(terminal.cells().iter().all(|&code| code == 32));
     assert_eq!(marked(&after(&[&[65; 240], &[27, 61, 55, 32, 10]])), [1, 2]);
     assert_eq!(marked(&after(&[&[27, 208, 2, 8, 1, 35, 65, 66]])), [1, 2]);

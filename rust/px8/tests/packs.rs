@@ -48,7 +48,7 @@ fn an_empty_pack_does_nothing() {
     let reply = terminal.pack(none);
     assert_eq!((reply.answer.number, reply.answer.taken, reply.record), (0, 0, 0));
     assert_eq!(terminal, stale);
-    terminal.pack([b""]);
+    let _ = terminal.pack([b""]);
     assert_eq!(terminal, open);
 }
 
@@ -76,7 +76,7 @@ fn refused_packs() {
         assert_eq!((&terminal, reply.refusal()), (&before, None));
     }
     let mut waiting = Terminal::open();
-    waiting.piece(&[27]);
+    let _ = waiting.piece(&[27]);
     assert_eq!(waiting.pack([b"A"]).answer.number, px8::BYTES_WAIT);
     assert_eq!(waiting.pack_bytes(&[]).answer.number, px8::BYTES_WAIT);
     assert_eq!(Terminal::open().pack([vec![65; 70_000]]).answer.number, px8::PACK_TOO_LONG);

@@ -78,7 +78,7 @@ fn rules_that_are_none() {
         let [cells, layer, shown, dots, _] = &mut stores;
         let opened = px8::opening(rule, inner(cells), inner(layer), inner(shown), inner(dots));
         assert_eq!(opened, (opening_settings(), px8::BAD_RULE));
-        assert_eq!(Terminal::open_with(rule), Err(px8::BAD_RULE));
+        assert_eq!(Terminal::open_with(rule), Err(px8::Refused::BadRule));
     }
     assert_eq!(stores, before);
 }
@@ -306,4 +306,21 @@ fn printer_call() {
         assert!(px8::printed(&buffer, count).is_empty());
     }
     assert!(px8::printed(&[], 0).is_empty() && px8::printed(&[], 1).is_empty());
+}
+
+/// Every number by which a whole call is refused has a name and words of its own; no other has.
+#[test]
+fn refusals_by_name() {
+    let named: Vec<u8> = (0..=255).filter(|&number| px8::Refused::of(number).is_some()).collect();
+    assert_eq!(named, [1, 2, 3, 15, 16, 17, 18, 19, 20, 21, 23, 24, 25]);
+    let words: std::collections::BTreeSet<String> = named
+        .iter()
+        .map(|&number| {
+            let refused = px8::Refused::of(number).unwrap();
+            assert_eq!(refused.number(), number);
+            let said = refused.to_string();
+            said.strip_prefix(&format!("refused by {number}: ")).expect("its number first").to_string()
+        })
+        .collect();
+    assert_eq!(words.len(), named.len());
 }

@@ -72,10 +72,10 @@ fn what_paints_all() {
 #[test]
 fn a_key_text_is_seen_after_it() {
     let mut terminal = Terminal::open();
-    terminal.message(&[27, 211, 0]);
+    let _ = terminal.message(&[27, 211, 0]);
     assert_eq!(terminal.key_text(1, b"TARE    ").number, px8::SERVED);
     assert!(!terminal.to_string().contains("TARE"));
-    terminal.message_short(&[]);
+    let _ = terminal.message_short(&[]);
     assert!(terminal.to_string().ends_with("8 TARE\n"));
 }
 
@@ -93,7 +93,7 @@ fn refused_short_messages() {
     let open = *Terminal::open().settings();
     let unsound = Settings { step: 0, ..open };
     let mut waiting = Terminal::open();
-    waiting.piece(&[27]);
+    let _ = waiting.piece(&[27]);
     let rows: [(Settings, &[u8], u8); 4] = [
         (unsound, &[65; 4097], px8::TOO_LONG),
         (unsound, &[], px8::UNSOUND),

@@ -26,7 +26,7 @@ fn an_escape_at_a_pieces_end() {
 #[test]
 fn a_selection_waits_and_a_message_is_refused() {
     let mut terminal = Terminal::open();
-    terminal.piece(&[65, 65, 65, 65, 65, 27, 209]);
+    let _ = terminal.piece(&[65, 65, 65, 65, 65, 27, 209]);
     let before = terminal.clone();
     assert_eq!((before.settings().count, before.settings().waiting()), (7, &[27, 209][..]));
     assert_eq!(terminal.message(&[65]).answer.number, px8::BYTES_WAIT);
@@ -37,13 +37,13 @@ fn a_selection_waits_and_a_message_is_refused() {
 #[test]
 fn only_closing_means_screen_1() {
     let mut terminal = Terminal::open();
-    terminal.message(&[27, 209, 1]);
-    terminal.piece(&[27, 209]);
+    let _ = terminal.message(&[27, 209, 1]);
+    let _ = terminal.piece(&[27, 209]);
     assert_eq!(terminal.settings().selected, 1);
     assert_eq!(closed(&mut terminal), [0, 1, 0, 0, 0]);
     assert_eq!(terminal.settings().selected, 0);
     // a whole message reads it as before
-    terminal.message(&[27, 209, 1]);
+    let _ = terminal.message(&[27, 209, 1]);
     assert_eq!(counts(&terminal.message(&[27, 209])), [2, 1, 0, 0, 0]);
     assert_eq!(terminal.settings().selected, 0);
 }
@@ -51,8 +51,8 @@ fn only_closing_means_screen_1() {
 #[test]
 fn offsets_count_from_the_streams_start() {
     let mut terminal = Terminal::open();
-    terminal.piece(&[65; 4096]);
-    terminal.piece(&[27, 61]);
+    let _ = terminal.piece(&[65; 4096]);
+    let _ = terminal.piece(&[27, 61]);
     assert_eq!(counts(&terminal.piece(&[99, 32])), [2, 0, 1, 11, 4096]);
 }
 
@@ -62,24 +62,24 @@ fn room_is_that_of_the_call_that_ends_the_sequence() {
     assert_eq!(terminal.piece_with_room(&[27, 80, 27], COPY).printed.len(), COPY);
     assert_eq!(counts(&terminal.piece_with_room(&[80], COPY - 1)), [1, 0, 1, 13, 2]);
     // with room for all, a copy that is cut in two prints
-    terminal.piece(&[27]);
+    let _ = terminal.piece(&[27]);
     assert_eq!(terminal.piece(&[80, 27, 80]).printed.len(), 2 * COPY);
 }
 
 #[test]
 fn a_message_between_counts_from_itself() {
     let mut terminal = Terminal::open();
-    terminal.piece(&[65]);
+    let _ = terminal.piece(&[65]);
     assert_eq!(counts(&terminal.message(&[66, 27])), [2, 0, 1, 12, 1]);
     assert_eq!(terminal.settings().count, 1);
-    terminal.piece(&[27]);
+    let _ = terminal.piece(&[27]);
     assert_eq!(closed(&mut terminal), [0, 0, 1, 12, 1]);
 }
 
 #[test]
 fn a_pattern_in_two_pieces() {
     let mut terminal = Terminal::open();
-    terminal.piece(&[27, 224, 224, 1, 2, 3]);
+    let _ = terminal.piece(&[27, 224, 224, 1, 2, 3]);
     assert_eq!(counts(&terminal.piece(&[4, 5, 6, 7, 8, 27, 99])), [7, 1, 1, 10, 11]);
     assert_eq!(terminal.settings().patterns[..8], [1, 2, 3, 4, 5, 6, 7, 8]);
 }
@@ -159,7 +159,7 @@ fn refused_pieces_are_errors() {
         let mut stream = terminal.stream();
         let error = stream.write_all(b"ab").unwrap_err();
         let refused: &px8::Refused = error.get_ref().unwrap().downcast_ref().unwrap();
-        assert_eq!((refused.number, error.to_string()), (number, format!("the call is refused by {words}")));
+        assert_eq!((refused.number(), error.to_string()), (number, format!("refused by {words}")));
         assert_eq!(stream.so_far().answer.taken, 0);
         assert_eq!(stream.close().is_err(), number == 3);
         assert_eq!(terminal == before, number == 3);

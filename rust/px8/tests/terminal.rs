@@ -50,7 +50,7 @@ fn a_lent_printer_buffer() {
 #[test]
 fn resumed_terminals_go_on() {
     let mut terminal = Terminal::open();
-    terminal.message(b"\x1b\xd0\x01\x14gross\n\x1b\xd2\x02\x02*");
+    let _ = terminal.message(b"\x1b\xd0\x01\x14gross\n\x1b\xd2\x02\x02*");
     let (cells, layer) = (*terminal.cells(), *terminal.layer());
     let mut again = Terminal::resume(*terminal.settings(), cells, layer, [0; px8::SHOWN], *terminal.dots());
     assert_eq!(again.message(b"net"), terminal.message(b"net"));
@@ -60,7 +60,7 @@ fn resumed_terminals_go_on() {
 #[test]
 fn a_refused_message_changes_nothing() {
     let mut terminal = Terminal::open();
-    terminal.message(b"tare");
+    let _ = terminal.message(b"tare");
     let before = terminal.clone();
     let reply = terminal.message(&[65; 4097]);
     assert_eq!((reply.answer.number, reply.printed.len()), (px8::TOO_LONG, 0));
@@ -70,7 +70,7 @@ fn a_refused_message_changes_nothing() {
 #[test]
 fn rows_are_the_shown_screen() {
     let mut terminal = Terminal::open();
-    terminal.message(b"1\r\n2\r\n3\r\n4\r\n5\r\n6\r\n7\r\n8");
+    let _ = terminal.message(b"1\r\n2\r\n3\r\n4\r\n5\r\n6\r\n7\r\n8");
     assert_eq!(terminal.rows().len(), 8);
     let firsts: Vec<u8> = terminal.rows().map(|row| row[0]).collect();
     assert_eq!(firsts, b"12345678");
