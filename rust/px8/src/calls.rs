@@ -24,7 +24,7 @@ pub(crate) type Reading<A> = unsafe extern "C" fn(
     printer_length: u64,
 );
 
-extern "C" {
+unsafe extern "C" {
     #[link_name = "px8_opening_l2"]
     fn px8_opening(
         settings: *mut Settings,

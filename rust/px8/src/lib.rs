@@ -44,7 +44,7 @@ mod types;
 mod writer;
 
 pub use calls::{closing, key_repeats, key_text, message, message_short, opening, piece, printed};
-pub use packs::{pack, packed, PackReply};
+pub use packs::{PackReply, pack, packed};
 pub use refused::Refused;
 pub use screens::{compare, differences, first_difference};
 pub use sequence::{Dot, Sequence};
@@ -52,4 +52,4 @@ pub use sequence::{Dot, Sequence};
 pub use stream::Stream;
 pub use terminal::{Reply, Terminal};
 pub use types::*;
-pub use writer::{write, Outgoing, Reached, Unwritten, Writer};
+pub use writer::{Outgoing, Reached, Unwritten, Writer, write};

@@ -11,7 +11,7 @@ struct PackAnswer {
     record: u32,
 }
 
-extern "C" {
+unsafe extern "C" {
     #[link_name = "px8_pack_l2"]
     fn px8_pack(
         settings: *mut Settings,

@@ -1,6 +1,6 @@
 //! Why a whole call was refused.
 
-use crate::types::{Answer, COUNT_MOST, KEYS, KEY_TEXT, MESSAGE_MOST, PACK_MOST, SERVED};
+use crate::types::{Answer, COUNT_MOST, KEY_TEXT, KEYS, MESSAGE_MOST, PACK_MOST, SERVED};
 use core::fmt;
 
 /// Why a whole call was refused; nothing is then altered. (A sequence that is refused in a

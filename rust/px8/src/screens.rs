@@ -19,7 +19,7 @@ struct First {
     difference: Difference,
 }
 
-extern "C" {
+unsafe extern "C" {
     #[link_name = "px8_compare_l2"]
     fn px8_compare(
         answer: *mut Compared,

@@ -6,8 +6,8 @@ use crate::refused::Refused;
 use crate::sequence::Sequence;
 #[cfg(feature = "std")]
 use crate::stream::Stream;
-use crate::types::{Answer, Settings, CELLS, COPY, LAYER, MESSAGE_MOST, ROWS, SHOWN, WIDTH};
-use crate::types::{DOTS, DOT_COLUMNS, DOT_ROW, DOT_ROWS, PACK_MOST};
+use crate::types::{Answer, CELLS, COPY, LAYER, MESSAGE_MOST, ROWS, SHOWN, Settings, WIDTH};
+use crate::types::{DOT_COLUMNS, DOT_ROW, DOT_ROWS, DOTS, PACK_MOST};
 use crate::writer::{Unwritten, Writer};
 use alloc::format;
 use alloc::string::String;
@@ -502,9 +502,5 @@ fn text(row: &[u8; WIDTH]) -> String {
 }
 
 fn letter(code: u8) -> char {
-    if (32..=126).contains(&code) {
-        char::from(code)
-    } else {
-        '.'
-    }
+    if (32..=126).contains(&code) { char::from(code) } else { '.' }
 }

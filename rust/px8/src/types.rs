@@ -208,11 +208,7 @@ impl Settings {
     /// assert_eq!(terminal.settings().copy_size(), px8::DOTS);
     /// ```
     pub fn copy_size(&self) -> usize {
-        if self.mode == 3 {
-            DOTS
-        } else {
-            COPY
-        }
+        if self.mode == 3 { DOTS } else { COPY }
     }
 
     /// The bytes that wait for the rest of their sequence; of settings that
@@ -253,7 +249,7 @@ impl Settings {
     /// ```
     pub fn marked_lines(&self, screen: usize) -> impl Iterator<Item = usize> + '_ {
         let marks = self.marks.chunks(LINES_MOST).nth(screen).unwrap_or(&[]);
-        (1..).zip(marks).filter(|(_, &mark)| mark == 1).map(|(line, _)| line)
+        (1..).zip(marks).filter(|(_, mark)| **mark == 1).map(|(line, _)| line)
     }
 }
 

@@ -1,8 +1,8 @@
 //! Sequences written into an outgoing buffer (document 02, P7): the boundary to the
 //! archive, with the unsafe code that it needs, and the writer over it.
 
-use crate::sequence::{Sequence, PARAMETERS_MOST};
-use crate::types::{in_range_words, Settings, NO_SPACE, OUT_OF_RANGE, SERVED, UNSOUND};
+use crate::sequence::{PARAMETERS_MOST, Sequence};
+use crate::types::{NO_SPACE, OUT_OF_RANGE, SERVED, Settings, UNSOUND, in_range_words};
 use alloc::vec::Vec;
 use core::fmt;
 use core::mem::MaybeUninit;
@@ -30,7 +30,7 @@ struct ReachedAnswer {
     parameter: u8,
 }
 
-extern "C" {
+unsafe extern "C" {
     #[link_name = "px8_write_l2"]
     fn px8_write(
         settings: *const Settings,

@@ -1,7 +1,7 @@
 //! Mode 3: its settings, the request's examples, copies of dots, refused calls and
 //! streams, through the crate.
 
-use px8::{Place, Settings, Terminal, COPY, DOTS};
+use px8::{COPY, DOTS, Place, Settings, Terminal};
 
 const MODE_3: &[u8] = &[27, 208, 3];
 const CORNERS: &[u8] = &[27, 198, 0, 0, 0, 0, 1, 223, 0, 63, 255, 255, 2];

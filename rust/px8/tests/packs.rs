@@ -1,7 +1,7 @@
 //! Packs: a terminal's pack is its messages one by one; every number, and nothing
 //! changed by a refused one.
 
-use px8::{Settings, Terminal, COPY};
+use px8::{COPY, Settings, Terminal};
 
 /// Messages of every kind, copies and refusals among them.
 fn messages() -> Vec<Vec<u8>> {

@@ -1,7 +1,7 @@
 //! Refused calls and sequences, and what stays as it was: settings, stores,
 //! the printer buffer, and the bytes around all of them.
 
-use px8::{Answer, Settings, Terminal, CELLS, COPY, COUNT_MOST, DOTS, LAYER, MESSAGE_MOST, SHOWN};
+use px8::{Answer, CELLS, COPY, COUNT_MOST, DOTS, LAYER, MESSAGE_MOST, SHOWN, Settings, Terminal};
 
 const GUARD: usize = 64;
 

@@ -1,7 +1,7 @@
 //! Short messages: on a painted terminal as messages; what is painted of a stale one;
 //! every number, and nothing changed by a refused one.
 
-use px8::{Settings, Terminal, COPY, SHOWN, WIDTH};
+use px8::{COPY, SHOWN, Settings, Terminal, WIDTH};
 
 /// A terminal whose shown screen holds nothing of what stands.
 fn stale(settings: Settings) -> Terminal {

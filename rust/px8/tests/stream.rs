@@ -1,6 +1,6 @@
 //! Streams: the request's own examples, and the writer.
 
-use px8::{Reply, Settings, Terminal, COPY};
+use px8::{COPY, Reply, Settings, Terminal};
 use std::io::Write;
 
 /// taken, accepted, refused, first, offset

@@ -1,6 +1,6 @@
 //! The terminal with its own stores.
 
-use px8::{Terminal, COPY};
+use px8::{COPY, Terminal};
 
 #[test]
 fn rows_as_program_show_prints_them() {
