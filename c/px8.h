@@ -77,7 +77,7 @@ extern "C" {
 
 /* ---- version and layout ---- */
 
-#define PX8_VERSION "2.0"
+#define PX8_VERSION "2.0.0"
 #define PX8_LAYOUT 2 /* another number where a structure or a call is laid out otherwise */
 
 /* The symbols in the archive: the call's name and the layout's number. */

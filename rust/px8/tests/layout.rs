@@ -68,3 +68,14 @@ fn repeats() {
     assert_eq!((size_of::<Repeats>(), align_of::<Repeats>()), (16, 8));
     assert_eq!((offset_of!(Repeats, number), offset_of!(Repeats, count)), (0, 8));
 }
+
+/// The crate is of the header's version, and links the symbols of its layout.
+#[test]
+fn version_and_layout() {
+    let header = include_str!("../../../c/px8.h");
+    let version = format!("#define PX8_VERSION \"{}\"\n", env!("CARGO_PKG_VERSION"));
+    assert!(header.contains(&version), "{version}");
+    assert!(
+        header.contains("#define PX8_LAYOUT 2 ") && header.contains("#define px8_message px8_message_l2\n")
+    );
+}
