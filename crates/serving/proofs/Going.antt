@@ -10,12 +10,12 @@ use Rattle.model.specs.declared.Item.{Item}
 use Rattle.model.specs.declared.Outcome.{Outcome}
 use Rattle.model.specs.Bytes.{put, written}
 use Rattle.model.specs.State.{State, state}
-use Rattle.model.specs.Sound.{Good}
 use Rattle.model.specs.Picture.{painting}
+use Rattle.model.specs.Sound.{Good}
 use Rattle.model.specs.Judging.{judged, legalItem?, limitsOf}
 use Rattle.model.specs.Reading.{Read, itemOf, ownBytes}
 use Rattle.model.specs.Rules.{applyItem}
-use Rattle.model.specs.Items.{applyAll, blankAnswer, copies, copyOf, countedAll, eventsOf, obeyedBy, printerBytes}
+use Rattle.model.specs.Items.{applyAll, copies, copyOf, countedAll, eventsOf, obeyedBy, printerBytes}
 use Rattle.model.proofs.ByteLaws.{length-put}
 use Rattle.model.proofs.ItemLaws.{obeyed-item}
 use Rattle.calls.proofs.Loop.{answers, answers-turn, ends, ends-turn, prints, prints-turn, readAt, rest, rest-end}
@@ -24,11 +24,11 @@ use Rattle.calls.proofs.Printing.{length-copy}
 use Rattle.store.proofs.Laws.{put-front, put-rest}
 use Rattle.counting.specs.declared.Counts.{Counts}
 use Rattle.counting.specs.Counting.{answerAt, countsWith, noCounts}
-use Rattle.serving.specs.Serves.{Serves}
+use Rattle.serving.specs.Serves.{Runs, Serves, itemsOf}
 use Rattle.counting.proofs.CountingLaws.{counted-at, counts-few, printed-with}
 
--- the message m, what stood at first and the printer buffer as it came
-module _ (m : List ℕ) (first : State) (buffer : List ℕ) where
+-- the message m, the offset and the counts at first, what stood there and the printer buffer as it came
+module _ (m : List ℕ) (from : ℕ) (c₀ : Counts) (first : State) (buffer : List ℕ) where
   -- at an offset: what stands, the counts, the printer buffer now
   pub record Going (at : ℕ) (st : State) (c : Counts) (printer : List ℕ) : Type 0 where
     pub reached : at ≤ length m
@@ -36,23 +36,23 @@ module _ (m : List ℕ) (first : State) (buffer : List ℕ) where
     pub few : c .accepted + c .refused ≤ at
     pub fits : c .printed ≤ length buffer
     pub same-size : length printer ≡ length buffer
-    pub state-left : ends m at st (length buffer - c .printed) ≡ ends m 0 first (length buffer)
-    pub answer-left : answers m at st (length buffer - c .printed) (answerAt (length m) c) ≡ answers m 0 first (length buffer) (blankAnswer 0 (length m))
-    pub printed-done : take (c .printed) printer ++ prints m at st (length buffer - c .printed) ≡ prints m 0 first (length buffer)
+    pub state-left : ends m at st (length buffer - c .printed) ≡ ends m from first (length buffer)
+    pub answer-left : answers m at st (length buffer - c .printed) (answerAt (length m) c) ≡ answers m from first (length buffer) (answerAt (length m) c₀)
+    pub printed-done : take (c .printed) printer ++ prints m at st (length buffer - c .printed) ≡ prints m from first (length buffer)
     pub printer-rest : drop (c .printed) printer ≡ drop (c .printed) buffer
 
-  pub start : Good first → Going 0 first noCounts buffer
-  start g =
-      let z : length buffer - 0 ≡ length buffer = omega arith in
+  pub start : from ≤ length m → c₀ .accepted + c₀ .refused ≤ from → c₀ .printed ≡ 0 → Good first → Going from first c₀ buffer
+  start h n e g =
+      let z : length buffer - c₀ .printed ≡ length buffer = omega (arith, e) in
       record {
-        reached = omega arith;
+        reached = h;
         good = g;
-        few = omega arith;
-        fits = omega arith;
+        few = n;
+        fits = omega (arith, e);
         same-size = refl;
-        state-left = ap (ends m 0 first) z;
-        answer-left = ap (λ (n : ℕ). answers m 0 first n (blankAnswer 0 (length m))) z;
-        printed-done = ap (prints m 0 first) z;
+        state-left = ap (ends m from first) z;
+        answer-left = ap (λ (n : ℕ). answers m from first n (answerAt (length m) c₀)) z;
+        printed-done = λ i. take (e i) buffer ++ prints m from first (z i);
         printer-rest = refl;
       }
 
@@ -108,20 +108,23 @@ module _ (m : List ℕ) (first : State) (buffer : List ℕ) where
     turn i e = subst Turned (sym e) turned
 
   -- the end
-  pub finish : (at : ℕ) (st : State) (c : Counts) (printer : List ℕ) → Going at st c printer → length m ≤ at → (r : Outcome) {shown : List ℕ} → state (r .settings) (st .cells) (st .layer) (st .dots) ≡ st → r .answer ≡ answerAt at c
-      → shown ≡ painting (state (r .settings) (st .cells) (st .layer) (st .dots)) → Serves m first buffer r (st .cells) (st .layer) (st .dots) shown printer
+  pub finish : (at : ℕ) (st : State) (c : Counts) (printer : List ℕ) → Going at st c printer → length m ≤ at → (r : Outcome) → state (r .settings) (st .cells) (st .layer) (st .dots) ≡ st → r .answer ≡ answerAt at c
+      → Runs m from c₀ first buffer r (st .cells) (st .layer) (st .dots) printer
   unfolding rest ends answers prints applyAll countedAll copies written
-  finish at st c printer g h r e a w =
+  finish at st c printer g h r e a =
       let end : at ≡ length m = omega (arith, g .reached) in
       let none : rest m at st (length buffer - c .printed) ≡ [] = rest-end m at st (length buffer - c .printed) h in
       let n : length (take (c .printed) printer) ≡ c .printed = length-take-le (c .printed) printer (omega (arith, g .fits, g .same-size)) in
-      let all : take (c .printed) printer ≡ prints m 0 first (length buffer) =
+      let all : take (c .printed) printer ≡ prints m from first (length buffer) =
       sym (append-nil (take (c .printed) printer)) ∙ ap (λ (rs : List Read). take (c .printed) printer ++ copies (eventsOf rs) st) (sym none) ∙ g .printed-done in
       record {
         state-is = e ∙ ap (λ (rs : List Read). applyAll (eventsOf rs) st) (sym none) ∙ g .state-left;
-        shown-is = w;
         answer-is = a ∙ ap (λ (n : ℕ). answerAt n c) end ∙ ap (λ (rs : List Read). countedAll rs (answerAt (length m) c)) (sym none) ∙ g .answer-left;
         printer-is =
             sym (take-append-drop (c .printed) printer) ∙ (λ i. all i ++ g .printer-rest i)
-            ∙ ap (λ (x : ℕ). prints m 0 first (length buffer) ++ drop x buffer) (sym n ∙ ap length all);
+            ∙ ap (λ (x : ℕ). prints m from first (length buffer) ++ drop x buffer) (sym n ∙ ap length all);
       }
+
+-- from the start, with no counts, it is the whole message
+pub all-items : {m : List ℕ} {st : State} {buffer : List ℕ} {r : Outcome} {cells layer dots shown printer : List ℕ} {c : Counts} → c ≡ noCounts → (Runs m 0 c st buffer r cells layer dots printer) × (shown ≡ painting (state (r .settings) cells layer dots)) → Serves m st buffer r cells layer dots shown printer
+all-items {m} {st} {buffer} e (w, x) = record { state-is = w .state-is; shown-is = x; answer-is = w .answer-is ∙ ap (λ (c : Counts). countedAll (itemsOf m st buffer) (answerAt (length m) c)) e; printer-is = w .printer-is }

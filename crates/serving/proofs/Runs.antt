@@ -46,22 +46,22 @@ module _ (m : List ℕ) (at : ℕ) (more : at < length m) (prints : 32 ≤ getD 
   unfolding allowed fitting
   is-printed s n = ap (λ (l : List ℕ). judged (itemOf at l) s n) own-one ∙ ap (λ (i : Item). judged i s n) lone
 
-module _ (m : List ℕ) (first : State) (buffer : List ℕ) where
-  one : (at : ℕ) (st : State) (c : Counts) (printer : List ℕ) → Going m first buffer at st c printer → at < length m → 32 ≤ getD m at 0 → Going m first buffer (at + 1) (printed (getD m at 0) st) c printer
+module _ (m : List ℕ) (from : ℕ) (c₀ : Counts) (first : State) (buffer : List ℕ) where
+  one : (at : ℕ) (st : State) (c : Counts) (printer : List ℕ) → Going m from c₀ first buffer at st c printer → at < length m → 32 ≤ getD m at 0 → Going m from c₀ first buffer (at + 1) (printed (getD m at 0) st) c printer
   unfolding applyItem
   one at st c printer g more h =
-      turn m first buffer at st c printer g more (Printed (getD m at 0)) (sym (is-printed m at more h _ _)) 1 _ printer (sym (ap length (own-one m at more h))) (omega arith) refl (omega arith) (omega arith) refl
+      turn m from c₀ first buffer at st c printer g more (Printed (getD m at 0)) (sym (is-printed m at more h _ _)) 1 _ printer (sym (ap length (own-one m at more h))) (omega arith) refl (omega arith) (omega arith) refl
       (sym (put-none (c .printed) printer))
 
-  pub run : (n at : ℕ) (st : State) (c : Counts) (printer : List ℕ) → Going m first buffer at st c printer → at + n ≤ length m → ((j : ℕ) → at ≤ j → j < at + n → prints? m j ≡ true)
-      → Going m first buffer (at + n) (printedAll (take n (drop at m)) st) c printer
+  pub run : (n at : ℕ) (st : State) (c : Counts) (printer : List ℕ) → Going m from c₀ first buffer at st c printer → at + n ≤ length m → ((j : ℕ) → at ≤ j → j < at + n → prints? m j ≡ true)
+      → Going m from c₀ first buffer (at + n) (printedAll (take n (drop at m)) st) c printer
   unfolding printedAll
-  run zero at st c printer g h p = subst (λ (k : ℕ). Going m first buffer k st c printer) (sym (add-zero at)) g
+  run zero at st c printer g h p = subst (λ (k : ℕ). Going m from c₀ first buffer k st c printer) (sym (add-zero at)) g
   run (suc n) at st c printer g h p =
       let e : at + 1 + n ≡ at + suc n = omega arith in
       let z : take (suc n) (drop at m) ≡ getD m at 0 ∷ take n (drop (at + 1) m) = rw (add-one, drop-cons m at 0 (omega arith)) in
       let g₂ = run n (at + 1) (printed (getD m at 0) st) c printer (one at st c printer g (omega arith) (leb-true 32 (getD m at 0) (p at (omega arith) (omega arith)))) (omega arith) (λ j u v. p j (omega arith) (omega arith)) in
-      subst (λ (bs : List ℕ). Going m first buffer (at + suc n) (printedAll bs st) c printer) (sym z) (subst (λ (k : ℕ). Going m first buffer k (printedAll (take n (drop (at + 1) m)) (printed (getD m at 0) st)) c printer) e g₂)
+      subst (λ (bs : List ℕ). Going m from c₀ first buffer (at + suc n) (printedAll bs st) c printer) (sym z) (subst (λ (k : ℕ). Going m from c₀ first buffer k (printedAll (take n (drop (at + 1) m)) (printed (getD m at 0) st)) c printer) e g₂)
 
 -- no whole sequence is a printed byte
 made : (bs : List ℕ) (p : ℕ → ℕ) (o : ℕ) → printed? (kindOf bs .made p o) ≡ false

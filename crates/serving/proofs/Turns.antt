@@ -21,7 +21,7 @@ use Rattle.model.specs.Checks.{member}
 use Rattle.model.specs.Screens.{placeOf}
 use Rattle.model.specs.Sound.{Good}
 use Rattle.model.specs.Judging.{allowed, judged, legalItem?, limitsOf}
-use Rattle.model.specs.Picture.{copied, painting}
+use Rattle.model.specs.Picture.{copied}
 use Rattle.model.specs.Reading.{itemOf, ownBytes}
 use Rattle.model.specs.Rules.{applyItem, withDots}
 use Rattle.model.specs.Sequences.{codeOf}
@@ -41,10 +41,10 @@ use Rattle.runs.specs.Run.{printedAll}
 use Rattle.ground.proofs.Carried.{carried-here, framed-here, same-here}
 use Rattle.screen.proofs.Frames.{limits-are}
 use Rattle.counting.specs.declared.Counts.{Counts}
-use Rattle.counting.specs.Counting.{Countable, answerAt, countsWith, noCounts}
+use Rattle.counting.specs.Counting.{Countable, answerAt, countsWith}
 use Rattle.applying.specs.Applying.{Applied, Applying, applied}
 use Rattle.obeying.specs.Obeying.{Moves, Offered, bareThen, dotsThen, printed?}
-use Rattle.serving.specs.Serves.{Servable, Serves}
+use Rattle.serving.specs.Serves.{Runs, Servable}
 use Rattle.serving.proofs.Going.{Going, finish, start, turn}
 use Rattle.store.proofs.Laws.{put-none}
 use Rattle.serving.proofs.Runs.{begins, run}
@@ -113,19 +113,18 @@ ready-bared b h k = let d = h .stands in record {
   layer-are = record { size = h .layer-are .size; empty = k };
 }
 
-module _ (m cells₀ layer₀ dots₀ printer₀ : List ℕ) (s₀ : Settings) where
+module _ (m : List ℕ) (from : ℕ) (c₀ : Counts) (cells₀ layer₀ dots₀ printer₀ : List ℕ) (s₀ : Settings) where
   pub record Loop (cells layer dots printer : List ℕ) (s : Settings) (p : Place) (marks : List ℕ) (f : Frame) (c : Counts) (at : ℕ) : Type 0 where
-    pub going : Going m (state s₀ cells₀ layer₀ dots₀) printer₀ at (state (withHere s p marks) cells layer dots) c printer
+    pub going : Going m from c₀ (state s₀ cells₀ layer₀ dots₀) printer₀ at (state (withHere s p marks) cells layer dots) c printer
     pub framed : Framed s f
     pub ready : Ready f p cells layer
     pub sendable : length m ≤ 4096
 
   pub begin : {f : Frame} {p : Place} {b : Bool} → {shown₀ : List ℕ} → Servable s₀ m cells₀ layer₀ dots₀ shown₀ → (FrameOf s₀ f) × (f .bare ≡ b) → (b ≡ true → layer₀ ≡ replicate (length layer₀) 0) → p ≡ placeOf s₀ (s₀ .selected)
-      → {c : Counts} → c ≡ noCounts → Loop cells₀ layer₀ dots₀ printer₀ s₀ p (s₀ .marks) f c 0
+      → (from ≤ length m) × ((c₀ .accepted + c₀ .refused ≤ from) × (c₀ .printed ≡ 0)) → Loop cells₀ layer₀ dots₀ printer₀ s₀ p (s₀ .marks) f c₀ from
   begin {p = p} v f k h e = record {
-    going = subst (λ x. Going m (state s₀ cells₀ layer₀ dots₀) printer₀ 0 (state (withHere s₀ p (s₀ .marks)) cells₀ layer₀ dots₀) x printer₀) (sym e)
-        (subst (λ (x : Settings). Going m (state s₀ cells₀ layer₀ dots₀) printer₀ 0 (state x cells₀ layer₀ dots₀) noCounts printer₀) (sym (same-here s₀ p (s₀ .marks) (sym h) refl))
-        (start m (state s₀ cells₀ layer₀ dots₀) printer₀ (v .good)));
+    going = subst (λ (x : Settings). Going m from c₀ (state s₀ cells₀ layer₀ dots₀) printer₀ from (state x cells₀ layer₀ dots₀) c₀ printer₀) (sym (same-here s₀ p (s₀ .marks) (sym h) refl))
+        (start m from c₀ (state s₀ cells₀ layer₀ dots₀) printer₀ (e .0) (e .1 .0) (e .1 .1) (v .good));
     framed = f .0 .framed;
     ready = record {
       stands = subst (Stands _) (sym h) (f .0 .stands);
@@ -175,8 +174,8 @@ module _ (m cells₀ layer₀ dots₀ printer₀ : List ℕ) (s₀ : Settings) w
       obeyed : {cells′ layer′ dots′ printer′ : List ℕ} {s′ : Settings} {p′ : Place} {marks′ : List ℕ} {f′ : Frame} → Framed s′ f′ → Ready f′ p′ cells′ layer′ → state (withHere s′ p′ marks′) cells′ layer′ dots′ ≡ rule st
           → printer′ ≡ put (c .printed) (copyOf (r .item) st) printer → {c′ : Counts} → c′ ≡ countsWith (f .mode) (r .item) at c → Loop cells′ layer′ dots′ printer′ s′ p′ marks′ f′ c′ (at + r .length)
       obeyed {cells′} {layer′} {dots′} {printer′} {s′} {p′} {marks′} h d e q k = record {
-        going = subst (λ (x : Counts). Going m (state s₀ cells₀ layer₀ dots₀) printer₀ (at + r .length) (state (withHere s′ p′ marks′) cells′ layer′ dots′) x printer′) (sym (k ∙ ap (λ (n : ℕ). countsWith n (r .item) at c) in-mode))
-            (turn m (state s₀ cells₀ layer₀ dots₀) printer₀ at st c printer (g .going) more (r .item) is-item (r .length) _ _ (w .length-is) (w .inside) legal (w .some) (omega (arith, roomy-here, g .going .same-size)) e q);
+        going = subst (λ (x : Counts). Going m from c₀ (state s₀ cells₀ layer₀ dots₀) printer₀ (at + r .length) (state (withHere s′ p′ marks′) cells′ layer′ dots′) x printer′) (sym (k ∙ ap (λ (n : ℕ). countsWith n (r .item) at c) in-mode))
+            (turn m from c₀ (state s₀ cells₀ layer₀ dots₀) printer₀ at st c printer (g .going) more (r .item) is-item (r .length) _ _ (w .length-is) (w .inside) legal (w .some) (omega (arith, roomy-here, g .going .same-size)) e q);
         framed = h;
         ready = d;
         sendable = g .sendable;
@@ -218,11 +217,11 @@ module _ (m cells₀ layer₀ dots₀ printer₀ : List ℕ) (s₀ : Settings) w
             let u = d .run h in
             let q = u .run .printing in
             let n : at + (v .at - at) ≡ v .at = omega (arith, q .some) in
-            let g₂ = run m (state s₀ cells₀ layer₀ dots₀) printer₀ (v .at - at) at st c printer (g .going) (omega (arith, n, q .inside)) (λ j x y. q .print j x (omega (arith, n, y))) in
-            let g₃ = subst (λ (x : State). Going m (state s₀ cells₀ layer₀ dots₀) printer₀ (v .at) x c printer) (ran-to h)
-            (subst (λ (x : ℕ). Going m (state s₀ cells₀ layer₀ dots₀) printer₀ x (printedAll (take (v .at - at) (drop at m)) st) c printer) n g₂) in
+            let g₂ = run m from c₀ (state s₀ cells₀ layer₀ dots₀) printer₀ (v .at - at) at st c printer (g .going) (omega (arith, n, q .inside)) (λ j x y. q .print j x (omega (arith, n, y))) in
+            let g₃ = subst (λ (x : State). Going m from c₀ (state s₀ cells₀ layer₀ dots₀) printer₀ (v .at) x c printer) (ran-to h)
+            (subst (λ (x : ℕ). Going m from c₀ (state s₀ cells₀ layer₀ dots₀) printer₀ x (printedAll (take (v .at - at) (drop at m)) st) c printer) n g₂) in
             record {
-              going = subst (λ (x : Counts). Going m (state s₀ cells₀ layer₀ dots₀) printer₀ (v .at) (state (withHere s (v .place) marks₁) cells₁ layer₁ dots₁) x printer) (sym (k ∙ printed-counts (f .mode) (r .item) at c h)) g₃;
+              going = subst (λ (x : Counts). Going m from c₀ (state s₀ cells₀ layer₀ dots₀) printer₀ (v .at) (state (withHere s (v .place) marks₁) cells₁ layer₁ dots₁) x printer) (sym (k ∙ printed-counts (f .mode) (r .item) at c h)) g₃;
               framed = framed-bared b (g .framed);
               ready = ready-bared b (u .acts .ready) (λ x. u .acts .ready .layer-are .empty (sym (t ∙ printed-bare (f .mode) (r .item) (f .bare) h) ∙ x));
               sendable = g .sendable;
@@ -294,7 +293,5 @@ module _ (m cells₀ layer₀ dots₀ printer₀ : List ℕ) (s₀ : Settings) w
                 (record { stands = subst (Stands f₂) (sym i) (q .0 .stands); cells-are = good .cells-are; layer-are = record { size = good .layer-are; empty = known } })
                 (changed-to i) (a .prints ∙ ap (λ (x : State). put (c .printed) (copyOf (r .item) x) printer) same) k)
 
-    pub end : (r : Outcome) {shown : List ℕ} → length m ≤ at → r .settings ≡ withHere s p marks → r .answer ≡ answerAt at c → shown ≡ painting (state (withHere s p marks) cells layer dots)
-        → Serves m (state s₀ cells₀ layer₀ dots₀) printer₀ r cells layer dots shown printer
-    end r h e a w =
-        finish m (state s₀ cells₀ layer₀ dots₀) printer₀ at st c printer (g .going) h r (ap (λ (x : Settings). state x cells layer dots) e) a (w ∙ ap (λ (x : Settings). painting (state x cells layer dots)) (sym e))
+    pub end : (r : Outcome) → length m ≤ at → r .settings ≡ withHere s p marks → r .answer ≡ answerAt at c → Runs m from c₀ (state s₀ cells₀ layer₀ dots₀) printer₀ r cells layer dots printer
+    end r h e a = finish m from c₀ (state s₀ cells₀ layer₀ dots₀) printer₀ at st c printer (g .going) h r (ap (λ (x : Settings). state x cells layer dots) e) a

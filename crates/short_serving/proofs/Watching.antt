@@ -41,7 +41,7 @@ use Rattle.counting.specs.declared.Counts.{Counts}
 use Rattle.counting.specs.Counting.{answerAt, countsWith, noCounts}
 use Rattle.applying.specs.Applying.{Applied}
 use Rattle.obeying.specs.Obeying.{Moves, bareThen, dotsThen, printed?}
-use Rattle.serving.specs.Serves.{Servable, Serves, itemsOf}
+use Rattle.serving.specs.Serves.{Servable, itemsOf}
 use Rattle.serving.proofs.Going.{Going}
 use Rattle.counting.proofs.CountingLaws.{printed-with}
 use Rattle.serving.proofs.Runs.{run}
@@ -86,15 +86,15 @@ module _ (m cells₀ layer₀ dots₀ printer₀ shown₀ : List ℕ) (s₀ : Se
   room c = length printer₀ - c .printed
 
   pub record Watch (cells layer dots printer shown : List ℕ) (s : Settings) (p : Place) (marks : List ℕ) (f : Frame) (c : Counts) (wide : Bool) (at : ℕ) : Type 0 where
-    pub loop : Loop m cells₀ layer₀ dots₀ printer₀ s₀ cells layer dots printer s p marks f c at
+    pub loop : Loop m 0 noCounts cells₀ layer₀ dots₀ printer₀ s₀ cells layer dots printer s p marks f c at
     pub still : Still m first (length printer₀) shown₀ at (state (withHere s p marks) cells layer dots) (room c) wide shown
 
   pub watch-first : {f : Frame} {p : Place} {b : Bool} → Servable s₀ m cells₀ layer₀ dots₀ shown₀ → (FrameOf s₀ f) × (f .bare ≡ b) → (b ≡ true → layer₀ ≡ replicate (length layer₀) 0) → p ≡ placeOf s₀ (s₀ .selected)
       → {c : Counts} → c ≡ noCounts → Watch cells₀ layer₀ dots₀ printer₀ shown₀ s₀ p (s₀ .marks) f c false 0
-  watch-first {p = p} v f k h {c} e =
+  watch-first {f = f₀} {p = p} v f k h {c} e =
       let all : length printer₀ ≡ room c = omega (arith, ap (λ (x : Counts). x .printed) e) in
       record {
-        loop = begin m cells₀ layer₀ dots₀ printer₀ s₀ v f k h e;
+        loop = subst (λ (x : Counts). Loop m 0 noCounts cells₀ layer₀ dots₀ printer₀ s₀ cells₀ layer₀ dots₀ printer₀ s₀ p (s₀ .marks) f₀ x 0) (sym e) (begin m 0 noCounts cells₀ layer₀ dots₀ printer₀ s₀ v f k h (omega arith, (omega arith, refl)));
         still = subst (λ (n : ℕ). Still m first (length printer₀) shown₀ 0 (state (withHere s₀ p (s₀ .marks)) cells₀ layer₀ dots₀) n false shown₀) all
             (subst (λ (x : Settings). Still m first (length printer₀) shown₀ 0 (state x cells₀ layer₀ dots₀) (length printer₀) false shown₀) (sym (same-here s₀ p (s₀ .marks) (sym h) refl)) (still-first m first (length printer₀) shown₀ (v .shown-are)));
       }
@@ -127,7 +127,7 @@ module _ (m cells₀ layer₀ dots₀ printer₀ shown₀ : List ℕ) (s₀ : Se
       other n {st′} good′ e =
           let rd : Read = readAt m at stand (room c) in
           let q = d .1 .one n in
-          let is : rd .item ≡ r .item = sym (is-item m cells₀ layer₀ dots₀ printer₀ s₀ (g .loop) more r w) in
+          let is : rd .item ≡ r .item = sym (is-item m 0 noCounts cells₀ layer₀ dots₀ printer₀ s₀ (g .loop) more r w) in
           let done : obeyedBy rd stand ≡ st′ = obeyed-in-message m at stand (room c) ∙ ap (λ (i : Item). applyItem (λ o. getD m o 0) i stand) is ∙ sym e in
           let framed = framed-here p marks (g .loop .framed) in
           let there = placed-there p (g .loop .framed) in
@@ -143,8 +143,8 @@ module _ (m cells₀ layer₀ dots₀ printer₀ shown₀ : List ℕ) (s₀ : Se
 
       -- one that stays
       module _ (h : staysOnScreen? (r .item) ≡ true) where
-        abbrev onward : Loop m cells₀ layer₀ dots₀ printer₀ s₀ cells₁ layer₁ dots₁ printer s (v .place) marks₁ (bared f b) c′ (v .at)
-        onward = acted m cells₀ layer₀ dots₀ printer₀ s₀ (g .loop) more r w (d .0) t y k h
+        abbrev onward : Loop m 0 noCounts cells₀ layer₀ dots₀ printer₀ s₀ cells₁ layer₁ dots₁ printer s (v .place) marks₁ (bared f b) c′ (v .at)
+        onward = acted m 0 noCounts cells₀ layer₀ dots₀ printer₀ s₀ (g .loop) more r w (d .0) t y k h
 
         still-stays : (x : Bool) → printed? (r .item) ≡ x → Still m first (length printer₀) shown₀ (v .at) (state (withHere s (v .place) marks₁) cells₁ layer₁ dots₁) (room c′) (wide || v .wide) shown₁
         still-stays true e =
@@ -153,9 +153,9 @@ module _ (m cells₀ layer₀ dots₀ printer₀ shown₀ : List ℕ) (s₀ : Se
             let same : room c ≡ room c′ = ap room (sym (k ∙ printed-counts (f .mode) (r .item) at c e)) in
             let z = run-on (v .at - at) (omega (arith, n, q .inside)) (λ j a o. q .print j a (omega (arith, n, o))) (d .1 .run e) in
             subst (λ (o : ℕ). Still m first (length printer₀) shown₀ (v .at) (state (withHere s (v .place) marks₁) cells₁ layer₁ dots₁) o (wide || v .wide) shown₁) same
-            (subst (λ (a : State). Still m first (length printer₀) shown₀ (v .at) a (room c) (wide || v .wide) shown₁) (ran-to m cells₀ layer₀ dots₀ printer₀ s₀ (g .loop) more r w (d .0) t y k e)
+            (subst (λ (a : State). Still m first (length printer₀) shown₀ (v .at) a (room c) (wide || v .wide) shown₁) (ran-to m 0 noCounts cells₀ layer₀ dots₀ printer₀ s₀ (g .loop) more r w (d .0) t y k e)
             (subst (λ (o : ℕ). Still m first (length printer₀) shown₀ o (printedAll (take (v .at - at) (drop at m)) stand) (room c) (wide || v .wide) shown₁) n z))
-        still-stays false e = other e (onward .going .good) (sym (moved-to m cells₀ layer₀ dots₀ printer₀ s₀ (g .loop) more r w (d .0) t y k e h))
+        still-stays false e = other e (onward .going .good) (sym (moved-to m 0 noCounts cells₀ layer₀ dots₀ printer₀ s₀ (g .loop) more r w (d .0) t y k e h))
 
         pub watch-stays : {wide′ : Bool} → wide′ ≡ (wide || v .wide) → Watch cells₁ layer₁ dots₁ printer shown₁ s (v .place) marks₁ (bared f b) c′ wide′ (v .at)
         watch-stays e = record { loop = onward; still = subst (λ (o : Bool). Still m first (length printer₀) shown₀ (v .at) (state (withHere s (v .place) marks₁) cells₁ layer₁ dots₁) (room c′) o shown₁) (sym e) (still-stays (printed? (r .item)) refl) }
@@ -165,8 +165,8 @@ module _ (m cells₀ layer₀ dots₀ printer₀ shown₀ : List ℕ) (s₀ : Se
           (a : Applied (withMarks (withPlaces s ps) marks₁) (r .item) m (c .printed) s₂ cells₁ layer₁ dots₁ printer cells₂ layer₂ dots₂ printer₂) {p₂ : Place} {f₂ : Frame} → p₂ ≡ placeOf s₂ (s₂ .selected) → (FrameOf s₂ f₂) × (f₂ .bare ≡ b)
           → {wide′ : Bool} → wide′ ≡ (wide || v .wide) → Watch cells₂ layer₂ dots₂ printer₂ shown₁ s₂ p₂ (s₂ .marks) f₂ c′ wide′ (v .at)
       watch-away h back {s₂} {cells₂} {layer₂} {dots₂} {printer₂} a {p₂} {f₂} i q {wide′} e =
-          let next : Loop m cells₀ layer₀ dots₀ printer₀ s₀ cells₂ layer₂ dots₂ printer₂ s₂ p₂ (s₂ .marks) f₂ c′ (v .at) = changed m cells₀ layer₀ dots₀ printer₀ s₀ (g .loop) more r w (d .0) t y k h back a i q in
-          let z = other (away (r .item) h) (next .going .good) (changed-to m cells₀ layer₀ dots₀ printer₀ s₀ (g .loop) more r w (d .0) t y k h back a i) in
+          let next : Loop m 0 noCounts cells₀ layer₀ dots₀ printer₀ s₀ cells₂ layer₂ dots₂ printer₂ s₂ p₂ (s₂ .marks) f₂ c′ (v .at) = changed m 0 noCounts cells₀ layer₀ dots₀ printer₀ s₀ (g .loop) more r w (d .0) t y k h back a i q in
+          let z = other (away (r .item) h) (next .going .good) (changed-to m 0 noCounts cells₀ layer₀ dots₀ printer₀ s₀ (g .loop) more r w (d .0) t y k h back a i) in
           record { loop = next; still = subst (λ (o : Bool). Still m first (length printer₀) shown₀ (v .at) (state (withHere s₂ p₂ (s₂ .marks)) cells₂ layer₂ dots₂) (room c′) o shown₁) (sym e) z }
 
     -- a run of printed bytes that leaves the marks as they are
@@ -174,10 +174,10 @@ module _ (m cells₀ layer₀ dots₀ printer₀ shown₀ : List ℕ) (s₀ : Se
         → Sees bs f p (s .secret) false cells layer marks shown x → Watch cells₁ layer₁ dots printer x s q marks f c wide (at + n)
     watch-run n {q} {cells₁} {layer₁} {x} inside print a o =
         let bs : List ℕ = take n (drop at m) in
-        let done : printedAll bs stand ≡ state (withHere s q marks) cells₁ layer₁ dots = carried-here dots (g .loop .framed) (unmarked-acts (marks-are m cells₀ layer₀ dots₀ printer₀ s₀ (g .loop)) a) in
+        let done : printedAll bs stand ≡ state (withHere s q marks) cells₁ layer₁ dots = carried-here dots (g .loop .framed) (unmarked-acts (marks-are m 0 noCounts cells₀ layer₀ dots₀ printer₀ s₀ (g .loop)) a) in
         record {
           loop = record {
-            going = subst (λ (st : State). Going m first printer₀ (at + n) st c printer) done (run m first printer₀ n at stand c printer (g .loop .going) inside print);
+            going = subst (λ (st : State). Going m 0 noCounts first printer₀ (at + n) st c printer) done (run m 0 noCounts first printer₀ n at stand c printer (g .loop .going) inside print);
             framed = g .loop .framed;
             ready = a .ready;
             sendable = g .loop .sendable;
@@ -191,7 +191,7 @@ module _ (m cells₀ layer₀ dots₀ printer₀ shown₀ : List ℕ) (s₀ : Se
         → ServesShort m first printer₀ shown₀ r cells layer dots shown′ printer
     unfolding target rest ends
     watch-ends r {shown′} h e a w =
-        let z : Serves m first printer₀ r cells layer dots (painting stand) printer = end m cells₀ layer₀ dots₀ printer₀ s₀ (g .loop) r h e a refl in
+        let z = end m 0 noCounts cells₀ layer₀ dots₀ printer₀ s₀ (g .loop) r h e a in
         record {
           state-is = z .state-is;
           shown-is = w ∙ last-painted wide stand shown (g .still .size) ∙ still-last m first (length printer₀) shown₀ at stand (room c) h (g .still)

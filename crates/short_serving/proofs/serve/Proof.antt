@@ -28,14 +28,14 @@ count-requires : tie.Need-count-requires Inv-loop μ-loop
 count-requires c κs =
     let head = c .before .before in
     let entry = head .before .before .before .before .before .before .before .before .before .before .before .before .before in
-    countable _ _ _ _ _ _ (head .loop .inv .loop) (c .before .loop-test .taken) (c .read-at .result) (c .read-at .ensures) (omega (arith, head .loop .inv .loop .going .same-size, entry .good .1 .1 .1 .1 .1 .1 .0))
+    countable _ _ _ _ _ _ _ _ (head .loop .inv .loop) (c .before .loop-test .taken) (c .read-at .result) (c .read-at .ensures) (omega (arith, head .loop .inv .loop .going .same-size, entry .good .1 .1 .1 .1 .1 .1 .0))
 
 obey-item-requires : tie.Need-obey-item-requires Inv-loop μ-loop
 obey-item-requires c κs =
     let read = c .before .before .before .before .before in
     let head = read .before .before in
     let g = head .loop .inv in
-    (g .loop .ready, ((marks-are _ _ _ _ _ _ (g .loop), g .still .size), offered _ _ _ _ _ _ (g .loop) (read .before .loop-test .taken) (read .read-at .result) (read .read-at .ensures)))
+    (g .loop .ready, ((marks-are _ _ _ _ _ _ _ _ (g .loop), g .still .size), offered _ _ _ _ _ _ _ _ (g .loop) (read .before .loop-test .taken) (read .read-at .result) (read .read-at .ensures)))
 
 -- one that stays
 loop-less : tie.Need-loop-less Inv-loop μ-loop
@@ -46,7 +46,7 @@ loop-less c =
     let counted = moved .before .before .before .before .before in
     let read = counted .before in
     let head = read .before .before in
-    let more : head .loop .at < moved .obey-item .result .at = further _ _ _ _ _ _ (head .loop .inv .loop) (read .before .loop-test .taken) (read .read-at .result) (read .read-at .ensures) (moved .obey-item .ensures .0) (known .bare-after .ensures) (wiped .wipe-after .ensures) (counted .count .ensures) in
+    let more : head .loop .at < moved .obey-item .result .at = further _ _ _ _ _ _ _ _ (head .loop .inv .loop) (read .before .loop-test .taken) (read .read-at .result) (read .read-at .ensures) (moved .obey-item .ensures .0) (known .bare-after .ensures) (wiped .wipe-after .ensures) (counted .count .ensures) in
     omega (arith, more, read .before .loop-test .taken)
 
 loop-again : tie.Need-loop-again Inv-loop μ-loop
@@ -74,7 +74,7 @@ apply-requires c κs =
     let counted = moved .before .before .before .before .before in
     let read = counted .before in
     let head = read .before .before in
-    applying _ _ _ _ _ _ (head .loop .inv .loop) (read .before .loop-test .taken) (read .read-at .result) (read .read-at .ensures) (moved .obey-item .ensures .0) (known .bare-after .ensures) (wiped .wipe-after .ensures) (counted .count .ensures)
+    applying _ _ _ _ _ _ _ _ (head .loop .inv .loop) (read .before .loop-test .taken) (read .read-at .result) (read .read-at .ensures) (moved .obey-item .ensures .0) (known .bare-after .ensures) (wiped .wipe-after .ensures) (counted .count .ensures)
     (sym (stays .before .stays .ensures) ∙ stays .if1 .left) (back .placed .ensures)
 
 selected-place-requires-2 : tie.Need-selected-place-requires-2 Inv-loop μ-loop
@@ -88,7 +88,7 @@ selected-place-requires-2 c κs =
     let counted = moved .before .before .before .before .before in
     let read = counted .before in
     let head = read .before .before in
-    chosen _ (good _ _ _ _ _ _ (head .loop .inv .loop) (read .before .loop-test .taken) (read .read-at .result) (read .read-at .ensures) (moved .obey-item .ensures .0) (known .bare-after .ensures) (wiped .wipe-after .ensures) (counted .count .ensures)
+    chosen _ (good _ _ _ _ _ _ _ _ (head .loop .inv .loop) (read .before .loop-test .taken) (read .read-at .result) (read .read-at .ensures) (moved .obey-item .ensures .0) (known .bare-after .ensures) (wiped .wipe-after .ensures) (counted .count .ensures)
     (sym (stays .before .stays .ensures) ∙ stays .if1 .left) (back .placed .ensures) (done .apply .ensures) .sound)
 
 frame-of-requires-2 : tie.Need-frame-of-requires-2 Inv-loop μ-loop
@@ -102,7 +102,7 @@ frame-of-requires-2 c κs =
     let counted = moved .before .before .before .before .before in
     let read = counted .before in
     let head = read .before .before in
-    good _ _ _ _ _ _ (head .loop .inv .loop) (read .before .loop-test .taken) (read .read-at .result) (read .read-at .ensures) (moved .obey-item .ensures .0) (known .bare-after .ensures) (wiped .wipe-after .ensures) (counted .count .ensures)
+    good _ _ _ _ _ _ _ _ (head .loop .inv .loop) (read .before .loop-test .taken) (read .read-at .result) (read .read-at .ensures) (moved .obey-item .ensures .0) (known .bare-after .ensures) (wiped .wipe-after .ensures) (counted .count .ensures)
     (sym (stays .before .stays .ensures) ∙ stays .if1 .left) (back .placed .ensures) (done .apply .ensures) .sound
 
 loop-less-2 : tie.Need-loop-less-2 Inv-loop μ-loop
@@ -113,7 +113,7 @@ loop-less-2 c =
     let counted = moved .before .before .before .before .before in
     let read = counted .before in
     let head = read .before .before in
-    let more : head .loop .at < moved .obey-item .result .at = further _ _ _ _ _ _ (head .loop .inv .loop) (read .before .loop-test .taken) (read .read-at .result) (read .read-at .ensures) (moved .obey-item .ensures .0) (known .bare-after .ensures) (wiped .wipe-after .ensures) (counted .count .ensures) in
+    let more : head .loop .at < moved .obey-item .result .at = further _ _ _ _ _ _ _ _ (head .loop .inv .loop) (read .before .loop-test .taken) (read .read-at .result) (read .read-at .ensures) (moved .obey-item .ensures .0) (known .bare-after .ensures) (wiped .wipe-after .ensures) (counted .count .ensures) in
     omega (arith, more, read .before .loop-test .taken)
 
 loop-again-2 : tie.Need-loop-again-2 Inv-loop μ-loop
@@ -174,7 +174,7 @@ serve-spec =
     (λ c. omega (arith, c .before .loop .inv .loop .going .fits, c .before .loop .inv .loop .going .same-size))
     (λ c κs. (c .loop-test .taken, c .before .loop .inv .loop .sendable))
     count-requires
-    (λ c. search (needs, marks-are _ _ _ _ _ _ (c .before .before .before .before .before .before .before .loop .inv .loop)))
+    (λ c. search (needs, marks-are _ _ _ _ _ _ _ _ (c .before .before .before .before .before .before .before .loop .inv .loop)))
     obey-item-requires
     (λ c κs. tt)
     (λ c κs. c .before .before .before .before .before .before .before .before .before .before .before .before .before .before .before .before .before .before .before .loop .inv .loop .going .good .dots-are)
