@@ -8,15 +8,18 @@ use mathlib.Core.List.{List, [], _++_, _∷_, append-nil}
 use lib.ListN.{drop, drop-of-length-le, length, length-drop, take}
 use lib.Seq.{take-all}
 use lib.Dec.{eqb}
+use borrow.Author.Tests.{eq-eqb}
 use Rattle.model.specs.declared.Answer.{Answer}
 use Rattle.model.specs.declared.Outcome.{Outcome}
 use Rattle.model.specs.declared.Settings.{Settings}
 use Rattle.model.specs.State.{state}
 use Rattle.model.specs.Records.{lengthIn}
+use Rattle.model.specs.Picture.{painting}
 use Rattle.calls.specs.Packs.{bodiesOf}
 use Rattle.model.specs.Items.{blankAnswer}
 use Rattle.calls.specs.Calls.{Promised, Request, Terminal, granted, called, firstOf, message, numberOf, pack, packCalled, reasons, request, terminal}
 use Rattle.model.specs.Answers.{together}
+use Rattle.model.proofs.Tests.{cond-at}
 use Rattle.model.proofs.ByteLaws.{length-written}
 use Rattle.calls.proofs.CallLaws.{granted-number, number-granted}
 use Rattle.calls.proofs.Bounds.{bounded}
@@ -24,7 +27,10 @@ use Rattle.calls.proofs.PackRequests.{AllSendable, Quiet, alsoSendable, pack-qu
 use Rattle.calls.proofs.PackLoop.{Going, begins, bodies-within, ends, goes-on, recordThen}
 use Rattle.records.proofs.Laws.{bodies-at, bodies-over}
 use Rattle.stream_parts.specs.Parts.{Addable, bothOf}
-use Rattle.serving.specs.Serves.{Servable, Serves}
+use Rattle.counting.specs.declared.Counts.{Counts}
+use Rattle.counting.specs.Counting.{noCounts}
+use Rattle.serving.specs.Serves.{Runs, Servable}
+use Rattle.serving.proofs.Going.{all-items}
 use Rattle.terminal.proofs.Answers.{served}
 use Rattle.packs.proofs.Numbers.{whole-pack}
 use Rattle.packs.proofs.Walking.{Whole, behind, fits}
@@ -50,7 +56,11 @@ module _ (s : Settings) (p cells layer dots shown buffer : List ℕ) where
     pub whole : Whole p at
     pub few : length p ≤ 60000
     pub began : Quiet given
-    pub going : Going given p buffer (bodiesOf (drop at p)) (k + 1) (terminal s′ cells′ layer′ dots′ shown′) a n printer
+    -- the shown screen, had every message painted: the last does
+    pub seen : List ℕ
+    pub sized : length shown′ ≡ 640
+    pub last : length p ≤ at → shown′ ≡ seen
+    pub going : Going given p buffer (bodiesOf (drop at p)) (k + 1) (terminal s′ cells′ layer′ dots′ seen) a n printer
 
   pub begin : {a : Answer} → firstOf (reasons given (pack p)) ≡ 0 → a ≡ blankAnswer 0 0 → Loop cells layer shown dots buffer s a 0 0 0
   unfolding numberOf
@@ -61,6 +71,9 @@ module _ (s : Settings) (p cells layer dots shown buffer : List ℕ) where
         whole = record { inside = omega arith; uncut = whole-pack given p e .1 };
         few = whole-pack given p e .0;
         began = pack-quiet given p (length buffer) ok;
+        seen = shown;
+        sized = pack-quiet given p (length buffer) ok .shown-is;
+        last = λ over. refl;
         going = subst (λ (b : Answer). Going given p buffer (bodiesOf p) 1 given b 0 buffer) (sym f) (begins given p buffer ok);
       }
 
@@ -68,7 +81,8 @@ module _ (s : Settings) (p cells layer dots shown buffer : List ℕ) where
   pub end : {cells′ layer′ shown′ dots′ printer : List ℕ} {s′ : Settings} {a : Answer} {n k at : ℕ} → Loop cells′ layer′ shown′ dots′ printer s′ a n k at → length p ≤ at
       → Promised (packCalled p given buffer a n (terminal s′ cells′ layer′ dots′ shown′) printer)
   end {cells′} {layer′} {shown′} {dots′} {printer} {s′} {a} {n} {k} {at} h over =
-      ends given p buffer (subst (λ (ms : List (List ℕ)). Going given p buffer ms (k + 1) (terminal s′ cells′ layer′ dots′ shown′) a n printer) (bodies-over p at over) (h .going))
+      subst (λ (x : List ℕ). Promised (packCalled p given buffer a n (terminal s′ cells′ layer′ dots′ x) printer)) (sym (h .last over))
+      (ends given p buffer (subst (λ (ms : List (List ℕ)). Going given p buffer ms (k + 1) (terminal s′ cells′ layer′ dots′ (h .seen)) a n printer) (bodies-over p at over) (h .going)))
 
   -- a record more, its body of so many bytes
   module _ {cells′ layer′ shown′ dots′ printer : List ℕ} {s′ : Settings} {a : Answer} {n k at : ℕ} (h : Loop cells′ layer′ shown′ dots′ printer s′ a n k at) (some : at < length p)
@@ -80,7 +94,7 @@ module _ (s : Settings) (p cells layer dots shown buffer : List ℕ) where
     rest = bodiesOf (drop (at + (size + 4)) p)
 
     abbrev stood : Terminal
-    stood = terminal s′ cells′ layer′ dots′ shown′
+    stood = terminal s′ cells′ layer′ dots′ (h .seen)
 
     pub record-fits : at + 4 + size ≤ length p
     record-fits = omega (arith, fits p at size (h .whole) some e)
@@ -94,7 +108,7 @@ module _ (s : Settings) (p cells layer dots shown buffer : List ℕ) where
     first-sendable (alsoSendable l ls) = l
 
     pub servable : Servable s′ body cells′ layer′ dots′ shown′
-    servable = let q = next .quiet in record { good = q .good; sendable = first-sendable (next .sendables); shown-are = q .shown-is }
+    servable = let q = next .quiet in record { good = q .good; sendable = first-sendable (next .sendables); shown-are = h .sized }
 
     -- its number is within the pack's bytes
     pub numbers : k + 1 ≤ 60000
@@ -107,16 +121,21 @@ module _ (s : Settings) (p cells layer dots shown buffer : List ℕ) where
     lent : part ≡ drop (a .printed) printer
     lent = take-all (length printer - a .printed) (drop (a .printed) printer) (omega (arith, length-drop (a .printed) printer))
 
-    module _ (r : Outcome) {cells″ layer″ dots″ shown″ part′ : List ℕ} (w : Serves body (state s′ cells′ layer′ dots′) part r cells″ layer″ dots″ shown″ part′) where
-      made : Promised (called body stood part (r .answer) (terminal (r .settings) cells″ layer″ dots″ shown″) part′)
+    -- served from its start, and painted if it is the last
+    module _ (r : Outcome) {c : Counts} {cells″ layer″ dots″ shown″ part′ : List ℕ} (none : c ≡ noCounts)
+        (w : (Runs body 0 c (state s′ cells′ layer′ dots′) part r cells″ layer″ dots″ part′) × (shown″ ≡ cond (eqb (at + 4 + size) (length p)) (painting (state (r .settings) cells″ layer″ dots″)) shown′)) where
+      abbrev painted : List ℕ
+      painted = painting (state (r .settings) cells″ layer″ dots″)
+
+      made : Promised (called body stood part (r .answer) (terminal (r .settings) cells″ layer″ dots″ painted) part′)
       unfolding numberOf
       made =
           let q : Request = request (message body) (length part) in
           let z : numberOf stood q ≡ 0 = number-granted stood q (quiet-granted (next .quiet) body (first-sendable (next .sendables)) (length part)) in
-          served s′ body cells′ layer′ dots′ shown′ part r cells″ layer″ dots″ shown″ part′ z w
+          served s′ body cells′ layer′ dots′ (h .seen) part r cells″ layer″ dots″ painted part′ z (all-items none (w .0, refl))
 
-      after : Going given p buffer rest (k + 1 + 1) (terminal (r .settings) cells″ layer″ dots″ shown″) (together a (r .answer)) (recordThen a (r .answer) (k + 1) n) (take (a .printed) printer ++ part′)
-      after = goes-on given p buffer body rest (k + 1) stood a n printer next part lent (r .answer) (terminal (r .settings) cells″ layer″ dots″ shown″) part′ made
+      after : Going given p buffer rest (k + 1 + 1) (terminal (r .settings) cells″ layer″ dots″ painted) (together a (r .answer)) (recordThen a (r .answer) (k + 1) n) (take (a .printed) printer ++ part′)
+      after = goes-on given p buffer body rest (k + 1) stood a n printer next part lent (r .answer) (terminal (r .settings) cells″ layer″ dots″ painted) part′ made
 
       pub addable : length buffer < 2 ^ 64 → Addable a (r .answer) 0
       addable l =
@@ -126,7 +145,7 @@ module _ (s : Settings) (p cells layer dots shown buffer : List ℕ) where
             accepted = omega (arith, after .few, after .taken-is, most, h .few);
             refused = omega (arith, after .few, after .taken-is, most, h .few);
             printed = omega (arith, after .fits, l);
-            offset = omega (arith, bounded body stood part (r .answer) (terminal (r .settings) cells″ layer″ dots″ shown″) part′ made .near, first-sendable (next .sendables));
+            offset = omega (arith, bounded body stood part (r .answer) (terminal (r .settings) cells″ layer″ dots″ painted) part′ made .near, first-sendable (next .sendables));
           }
 
       pub again : {a′ : Answer} {n′ : ℕ} → a′ ≡ bothOf a (r .answer) 0 → n′ ≡ recordThen a (r .answer) (k + 1) n
@@ -138,6 +157,9 @@ module _ (s : Settings) (p cells layer dots shown buffer : List ℕ) where
             whole = subst (Whole p) to (behind p at size (h .whole) some e);
             few = h .few;
             began = h .began;
-            going = subst (λ (x : (List (List ℕ)) × (Answer × (ℕ × List ℕ))). Going given p buffer (x .0) (k + 1 + 1) (terminal (r .settings) cells″ layer″ dots″ shown″) (x .1 .0) (x .1 .1 .0) (x .1 .1 .1))
+            seen = painted;
+            sized = ap length (w .1) ∙ cond-at (λ (x : List ℕ). length x ≡ 640) (eqb (at + 4 + size) (length p)) painted shown′ (λ _. after .quiet .shown-is) (λ _. h .sized);
+            last = λ over. w .1 ∙ ap (λ (b : Bool). cond b painted shown′) (eq-eqb (at + 4 + size) (length p) (omega (arith, over, record-fits)));
+            going = subst (λ (x : (List (List ℕ)) × (Answer × (ℕ × List ℕ))). Going given p buffer (x .0) (k + 1 + 1) (terminal (r .settings) cells″ layer″ dots″ painted) (x .1 .0) (x .1 .1 .0) (x .1 .1 .1))
                 (λ i. (bodiesOf (drop (to i) p), (sym (f ∙ no-further a (r .answer)) i, (sym g i, take (a .printed) printer ++ sym (ap (λ (l : List ℕ). part′ ++ l) nothing ∙ append-nil part′) i)))) after;
           }

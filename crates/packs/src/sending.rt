@@ -3,10 +3,12 @@ ghost use mathlib.Core.Path.{_≡_};
 ghost use mathlib.Core.Bool.{cond};
 ghost use lib.Dec.{eqb};
 ghost use Rattle.calls.specs.Calls.{Asked, PackPromised, firstOf, reasons, terminal};
+use counting::no_counts;
 use model::PackOutcome;
 use model::Settings;
 use numbers::refusal;
 use records::length_at;
+use serving::serve_from;
 use stream_parts::together;
 
 // "the first refusal with its record": the record found so far, after message `number` with so many refusals, those before having so many.
@@ -20,7 +22,7 @@ fn record_then(before: u32, own: u32, number: u32, found: u32) -> u32
 }
 
 // "the printer bytes of each following those before, each having the room left over": each body is served with what is left of the printer buffer. None is
-// judged again: what a message leaves is sound, and nothing waits.
+// judged again: what a message leaves is sound, and nothing waits. Only the last paints: nobody sees the glass inside a call.
 pub(crate) fn send_each(
     settings: Settings,
     pack: &[u8],
@@ -42,9 +44,13 @@ pub(crate) fn send_each(
         let start = at + 4;
         let end = start + length_at(pack, at) as usize;
         let used = answer.printed;
-        let out = serving::serve(
+        let none = no_counts();
+        let out = serve_from(
             s,
             &pack[start..end],
+            0,
+            none,
+            end == pack.len(),
             cells,
             layer,
             shown,

@@ -1,9 +1,10 @@
 -- The loop's invariant (proofs/Turns): what was sent and what is left are together the whole call. A turn is one message more.
-use mathlib.Core.Path.{refl}
+use mathlib.Core.Path.{ap, refl, subst, sym}
 use Prim.Native.Nat.{_+_, _-_, _≤_}
 use native.Mathlib.Omega.{arith}
 use lib.ListN.{length}
 use borrow.Author.Needs.{needs}
+use Rattle.counting.specs.declared.Counts.{Counts}
 use Rattle.calls.proofs.Printing.{buffer-length}
 use Rattle.packs.proofs.Turns.{Loop, addable, again, begin, end, going-length, numbers, record-fits, servable}
 use Rattle.packs.proofs.sending.send_each.Statement.{statement}
@@ -17,12 +18,15 @@ abbrev μ-loop : tie.MeasureT-loop
 μ-loop pack cells₀ layer₀ shown₀ dots₀ printer₀ s₀ answer₀ found₀ number₀ at₀ cells layer shown dots printer s answer found number at =
     length pack - at
 
--- the places on the way back from the end of a turn: where the message was served, where its record's length was read, the head
-abbrev served-of : tie.After-slice-known10 Inv-loop μ-loop → tie.After-serve Inv-loop μ-loop
+-- the places on the way back from the end of a turn: where the message was served, where nothing was counted, where its record's length was read, the head
+abbrev served-of : tie.After-slice-known10 Inv-loop μ-loop → tie.After-serve-from Inv-loop μ-loop
 served-of c = c .before .before .before .before .before .before .before .before .before .before
 
-abbrev read-of : tie.After-serve-arg5 Inv-loop μ-loop → tie.After-length-at Inv-loop μ-loop
-read-of c = c .before .before .before .before .before
+abbrev none-of : tie.After-serve-from-arg5 Inv-loop μ-loop → tie.After-no-counts Inv-loop μ-loop
+none-of c = c .before .before .before .before .before
+
+abbrev read-of : tie.After-serve-from-arg5 Inv-loop μ-loop → tie.After-length-at Inv-loop μ-loop
+read-of c = none-of c .before
 
 abbrev head-of : tie.After-length-at Inv-loop μ-loop → tie.At-loop Inv-loop μ-loop
 head-of c = c .before .before
@@ -48,10 +52,11 @@ add-end c = omega (arith, fits c, head-of c .loop .inv .few)
 printed : (c : tie.After-length-at Inv-loop μ-loop) → let head = head-of c in head .loop .answer .printed ≤ length (head .loop .printer)
 printed c = let g = head-of c .loop .inv .going in omega (arith, g .fits, going-length _ _ _ _ _ _ _ g)
 
-serve-requires : tie.Need-serve-requires Inv-loop μ-loop
-serve-requires c κs =
+serve-from-requires : tie.Need-serve-from-requires Inv-loop μ-loop
+serve-from-requires c κs =
     let read = read-of (c .before) in
-    servable _ _ _ _ _ _ _ (head-of read .loop .inv) (read .before .loop-test .taken) (read .length-at .ensures)
+    let none = none-of (c .before) .no-counts .ensures in
+    (servable _ _ _ _ _ _ _ (head-of read .loop .inv) (read .before .loop-test .taken) (read .length-at .ensures), (omega arith, (subst (λ (x : Counts). x .accepted + x .refused ≤ 0) (sym none) (omega arith), ap (λ (x : Counts). x .printed) none)))
 
 -- behind the message
 add-number : tie.Need-add-number Inv-loop μ-loop
@@ -64,7 +69,7 @@ together-requires c κs =
     let done = served-of (c .before) in
     let read = read-of (done .before .before) in
     let entry = head-of read .before .before .before .before .before .before .before .before in
-    addable _ _ _ _ _ _ _ (head-of read .loop .inv) (read .before .loop-test .taken) (read .length-at .ensures) (done .serve .result) (done .serve .ensures) (omega (arith, entry .good .1 .1 .1 .1 .1 .1))
+    addable _ _ _ _ _ _ _ (head-of read .loop .inv) (read .before .loop-test .taken) (read .length-at .ensures) (done .serve-from .result) (none-of (done .before .before) .no-counts .ensures) (done .serve-from .ensures) (omega (arith, entry .good .1 .1 .1 .1 .1 .1))
 
 loop-less : tie.Need-loop-less Inv-loop μ-loop
 loop-less c = omega (arith, fits (read-of (served-of (c .before .before .before) .before .before)))
@@ -73,7 +78,7 @@ loop-again : tie.Need-loop-again Inv-loop μ-loop
 loop-again c =
     let done = served-of (c .before .before .before) in
     let read = read-of (done .before .before) in
-    again _ _ _ _ _ _ _ (head-of read .loop .inv) (read .before .loop-test .taken) (read .length-at .ensures) (done .serve .result) (done .serve .ensures)
+    again _ _ _ _ _ _ _ (head-of read .loop .inv) (read .before .loop-test .taken) (read .length-at .ensures) (done .serve-from .result) (none-of (done .before .before) .no-counts .ensures) (done .serve-from .ensures)
     (c .before .together .ensures) (c .before .before .record-then .ensures)
 
 -- the end
@@ -104,13 +109,14 @@ send-each-spec =
     length-at-requires
     (λ c. search needs)
     add-end
+    (λ c κs. search needs)
     (λ c. search needs)
     (λ c. search needs)
-    (λ c. fits c)
+    (λ c. fits (c .before))
     (λ c. omega (arith, printed (read-of c)))
     (λ c. omega (arith, printed (read-of c)))
     (λ c. search needs)
-    serve-requires
+    serve-from-requires
     add-number
     (λ c κs. search needs)
     together-requires
