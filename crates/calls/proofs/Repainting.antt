@@ -91,9 +91,9 @@ module _ (a : State) (g : Good a) where
       view-trans (view-column a g 1) (view-trans (view-down b (k .good) low) (view-marked (down b) (d .good) (runningOn (here (down b) .line - 1))))
 
   -- the late step, and the move right
-  view-late-step : (eqb (here a .waiting) 1 && lowest? a) ≡ false → SameView a (lateStep a)
+  view-late-step : (eqb (here a .late) 1 && lowest? a) ≡ false → SameView a (lateStep a)
   unfolding lateStep
-  view-late-step e = cond-at (SameView a) (eqb (here a .waiting) 1) (onward a) a (λ t. view-onward (sym (ap (λ (b : Bool). b && lowest? a) t) ∙ e)) (λ t. view-refl a)
+  view-late-step e = cond-at (SameView a) (eqb (here a .late) 1) (onward a) a (λ t. view-onward (sym (ap (λ (b : Bool). b && lowest? a) t) ∙ e)) (λ t. view-refl a)
 
   view-right : (not (ltb (here a .column) (columnsHere a)) && (not (eqb (a .settings .rule) 2) && lowest? a)) ≡ false → SameView a (right a)
   unfolding right
@@ -138,14 +138,14 @@ module _ (a : State) (g : Good a) (c : ℕ) (none : printLifts? a ≡ false) (to
 
   view₁ : SameView a stepped
   unfolding stepped printLifts?
-  view₁ = view-late-step a g (or-false (eqb (here a .waiting) 1 && lowest? a) _ none .0)
+  view₁ = view-late-step a g (or-false (eqb (here a .late) 1 && lowest? a) _ none .0)
 
   moved : State
   moved = right (stored c stepped)
 
   view₂ : SameView (stored c stepped) moved
   unfolding moved stepped printLifts? stored lowest?
-  view₂ = view-right (stored c stepped) (kept-stored stepped (kept₁ .good) c .good) (or-false (eqb (here a .waiting) 1 && lowest? a) _ none .1)
+  view₂ = view-right (stored c stepped) (kept-stored stepped (kept₁ .good) c .good) (or-false (eqb (here a .late) 1 && lowest? a) _ none .1)
 
   kept₂ : Kept (stored c stepped) moved
   unfolding moved

@@ -23,7 +23,7 @@ same-print-lifts : {a b : State} → Hidden a b → printLifts? a ≡ printLifts
 unfolding printLifts? columnsOf placeOf
 same-print-lifts h =
     let z = hidden-late-step h in
-    λ i. (same-of (λ (x : State). eqb (here x .waiting) 1) h i && same-lowest h i)
+    λ i. (same-of (λ (x : State). eqb (here x .late) 1) h i && same-lowest h i)
     || (same-of (λ (x : State). not (ltb (here x .column) (columnsHere x))) z i && (same-of (λ (x : State). not (eqb (x .settings .rule) 2)) z i && same-lowest z i))
 
 same-lifts : (i : Item) {a b : State} → Hidden a b → lifts? i a ≡ lifts? i b

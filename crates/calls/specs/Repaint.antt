@@ -36,7 +36,7 @@ lowest? st = not (ltb (here st .line) (linesHere st))
 unfoldable pub printLifts? : State → Bool
 printLifts? st =
     let a = lateStep st in
-    (eqb (here st .waiting) 1 && lowest? st) || (not (ltb (here a .column) (columnsHere a)) && (not (eqb (a .settings .rule) 2) && lowest? a))
+    (eqb (here st .late) 1 && lowest? st) || (not (ltb (here a .column) (columnsHere a)) && (not (eqb (a .settings .rule) 2) && lowest? a))
 
 -- an item lifts it
 unfoldable pub lifts? : Item → State → Bool

@@ -30,11 +30,11 @@ line-test h st e k = rw (k, ← e .lines-are) h
 column-test : {f : Frame} {p : Place} {b : Bool} → ltb (p .column) (f .columns) ≡ b → Reads (λ (st : State). ltb (here st .column) (columnsHere st)) f p b
 column-test h st e k = rw (k, ← e .columns-are) h
 
--- P9: the rule is the late one; the cursor waits
+-- P9: the rule is the late one; the cursor is late
 rule-test : {f : Frame} {p : Place} {b : Bool} → eqb (f .rule) 2 ≡ b → Reads (λ (st : State). eqb (st .settings .rule) 2) f p b
 rule-test h st e k = rw (← e .rule-is) h
 
-flag-test : {f : Frame} {p : Place} {b : Bool} → eqb (p .waiting) 1 ≡ b → Reads (λ (st : State). eqb (here st .waiting) 1) f p b
+flag-test : {f : Frame} {p : Place} {b : Bool} → eqb (p .late) 1 ≡ b → Reads (λ (st : State). eqb (here st .late) 1) f p b
 flag-test h st e k = rw k h
 
 -- storing, and another line or column
@@ -60,15 +60,15 @@ module _ {f : Frame} {p : Place} {c l : List ℕ} (h : Ready f p c l) where
       stays (record { stands = h .stands; cells-are = length-set c m code ∙ h .cells-are; layer-are = emptied-layer n (h .layer-are) b })
       (λ s ds e i. rw (cell-is (state s c l ds) e i, shown (state s c l ds) e i, a, b))
 
--- P9: a cursor waits in the last column under rule 2, and nowhere else
+-- P9: a cursor is late in the last column under rule 2, and nowhere else
 late-stands : {f : Frame} {p : Place} → Stands f p → f .columns ≤ p .column → f .rule ≡ 2 → Stands f (lateAt p)
 late-stands {f} {p} h k e =
     let w : 1 ≤ mostLate (f .rule) (f .columns) (p .column) = rw (eq-eqb (f .rule) 2 e, eq-eqb (p .column) (f .columns) (omega (arith, h .fits))) (omega arith) in
     moved h (record { line-low = h .fits .line-low; line-high = h .fits .line-high; column-low = h .fits .column-low; column-high = h .fits .column-high; top-low = h .fits .top-low; top-high = h .fits .top-high; waits = w })
 
-pub late-not : {f : Frame} {p : Place} → Stands f p → p .column < f .columns → p .waiting ≡ 0
+pub late-not : {f : Frame} {p : Place} → Stands f p → p .column < f .columns → p .late ≡ 0
 late-not {f} {p} h k =
-    cond-at (λ (x : ℕ). p .waiting ≤ x → p .waiting ≡ 0) (eqb (f .rule) 2 && eqb (p .column) (f .columns)) 1 0
+    cond-at (λ (x : ℕ). p .late ≤ x → p .late ≡ 0) (eqb (f .rule) 2 && eqb (p .column) (f .columns)) 1 0
     (λ e i. absurd (omega (arith, eqb-true (p .column) (f .columns) (and-right (eqb (f .rule) 2) (eqb (p .column) (f .columns)) e)))) (λ e i. omega arith) (h .fits .waits)
 
 -- "one line down", "moves right"
@@ -106,13 +106,13 @@ module _ {f : Frame} {p : Place} {c l : List ℕ} where
   right-wraps k e a = when-false-with _ (column-test (le-ltb (p .column) (f .columns) k)) (when-false-with _ (rule-test (ne-eqb (f .rule) 2 e)) a)
 
   -- P9: the step that waited
-  pub late-step-steps : {r : Place} {m c′ l′ m′ : List ℕ} → p .waiting ≡ 1 → ActsWith onward f p r c l m c′ l′ m′ → ActsWith lateStep f p r c l m c′ l′ m′
+  pub late-step-steps : {r : Place} {m c′ l′ m′ : List ℕ} → p .late ≡ 1 → ActsWith onward f p r c l m c′ l′ m′ → ActsWith lateStep f p r c l m c′ l′ m′
   unfolding lateStep
-  late-step-steps k a = when-true-with _ (flag-test (eq-eqb (p .waiting) 1 k)) a
+  late-step-steps k a = when-true-with _ (flag-test (eq-eqb (p .late) 1 k)) a
 
-  pub late-step-still : Ready f p c l → (p .waiting ≡ 1 → ⊥) → Acts lateStep f p p c l c l
+  pub late-step-still : Ready f p c l → (p .late ≡ 1 → ⊥) → Acts lateStep f p p c l c l
   unfolding lateStep
-  late-step-still h k = when-false _ (flag-test (ne-eqb (p .waiting) 1 k)) (still h)
+  late-step-still h k = when-false _ (flag-test (ne-eqb (p .late) 1 k)) (still h)
 
   -- P5: the line above the cursor's is marked after the step
   pub onward-marks : {r : Place} {m c′ l′ m₁ m₂ : List ℕ} → ActsWith (λ (st : State). down (toColumn 1 st)) f p r c l m c′ l′ m₁ → Remarks (f .first) (runningOn (r .line - 1)) m₁ m₂ → ActsWith onward f p r c l m c′ l′ m₂

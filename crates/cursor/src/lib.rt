@@ -66,7 +66,7 @@ pub fn before(column: u8) -> u8
     if 1 < column { column - 1 } else { 1 }
 }
 
-// "One line down"; below the last line the screen is lifted. Either way the cursor is put anew and does not wait, and there is a line above
+// "One line down"; below the last line the screen is lifted. Either way the cursor is put anew and is not late, and there is a line above
 // its own.
 pub fn down(
     frame: Frame,
@@ -87,7 +87,7 @@ pub fn down(
     }
 }
 
-// "Moves right. From the last column it goes to column 1 of the next line"; P9, rule 2: there it waits.
+// "Moves right. From the last column it goes to column 1 of the next line"; P9, rule 2: there it is late.
 pub fn right(
     frame: Frame,
     place: Place,
@@ -108,7 +108,7 @@ pub fn right(
     }
 }
 
-// P9: "the next printed character first steps to the next line", where the cursor waits.
+// P9: "the next printed character first steps to the next line", where the cursor is late.
 pub fn late_step(
     frame: Frame,
     place: Place,
@@ -120,7 +120,7 @@ pub fn late_step(
     requires { ⌜ length (now marks) ≡ 96 ⌝ }
     ensures { λ r. ⌜ ActsWith lateStep frame place r (now (cells .entry)) (now (layer .entry)) (now (marks .entry)) (now (cells .exit)) (now (layer .exit)) (now (marks .exit)) ⌝ }
 {
-    if place.waiting == 1 {
+    if place.late == 1 {
         onward(frame, place, cells, layer, marks)
     } else {
         place

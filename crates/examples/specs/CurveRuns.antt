@@ -102,7 +102,7 @@ unsound s = fromSettings s (turn (message []) (refusedBy 3 ∷ []) ∷ [])
 abbrev marked3 : ℕ → Settings
 marked3 i = withMarks set3 (set (replicate 96 0) i 1)
 
--- under rule 2 line 1 runs on, and the cursor waits at the end of line 2
+-- under rule 2 line 1 runs on, and the cursor is late at the end of line 2
 abbrev overAndWaiting : List ℕ
 overAndWaiting = 27 ∷ 61 ∷ 32 ∷ 111 ∷ 65 ∷ 66 ∷ 27 ∷ 61 ∷ 33 ∷ 111 ∷ 67 ∷ []
 

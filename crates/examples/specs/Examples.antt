@@ -95,7 +95,7 @@ holds (refusedBy n) d w bs = eqb (w .number) n && eqb (w .taken) 0 && eqb (w .ac
 holds (waits v n) d w bs = let s = d .state .settings in same? (s .waiting) (padded v) && eqb (s .held) (length v) && eqb (s .count) n
 holds (text k x) d w bs = same? (take 8 (drop ((k - 1) * 8) (d .state .settings .texts))) x
 holds (runOn k ls) d w bs = same? (marksOf (d .state .settings) (k - 1)) (listFrom (λ l. cond (member l ls) 1 0) 1 48)
-holds (flags a b r) d w bs = let s = d .state .settings in eqb (placeOf s 0 .waiting) a && eqb (placeOf s 1 .waiting) b && eqb (s .rule) r
+holds (flags a b r) d w bs = let s = d .state .settings in eqb (placeOf s 0 .late) a && eqb (placeOf s 1 .late) b && eqb (s .rule) r
 holds (keySettings c s r a b h) d w bs = let k = d .state .settings .keys in eqb (k .charset) c && eqb (k .strings) s && eqb (k .repeat) r && eqb (k .delay) a && eqb (k .interval) b && eqb (k .shift) h
 holds (dotByte n b) d w bs = eqb (getD (d .state .dots) n 0) b
 holds (dotBytes n k b) d w bs = same? (take k (drop n (d .state .dots))) (replicate k b)

@@ -13,7 +13,7 @@ use Rattle.examples.specs.Examples.{Fact, counts, cursorAt, top, selecte
 use Rattle.examples.specs.Runs.{Turn, turn, Run, fromSettings}
 use Rattle.examples.specs.LineRuns.{told}
 
--- a line full of A: the cursor waits in its last column
+-- a line full of A: the cursor is late in its last column
 abbrev full : List ℕ
 full = replicate 80 65
 
@@ -27,9 +27,9 @@ once m fs = late (told m fs ∷ [])
 
 -- from settings of an opening with a rule, screen 1's cursor in line 1, a column and with a flag
 abbrev fromFlag : ℕ → ℕ → ℕ → List Fact → Run
-fromFlag rule column flag fs = fromSettings (withPlaces (openedSettings rule) (record { line = 1; column = column; top = 1; waiting = flag } ∷ home ∷ [])) (told [] fs ∷ [])
+fromFlag rule column flag fs = fromSettings (withPlaces (openedSettings rule) (record { line = 1; column = column; top = 1; late = flag } ∷ home ∷ [])) (told [] fs ∷ [])
 
--- mode 2 with 20 columns and 59, under rule 2; and a cursor that waits in a column
+-- mode 2 with 20 columns and 59, under rule 2; and a cursor that is late in a column
 abbrev narrow : Settings
 narrow = withMode (openedSettings 2) 2 10 10 20 59 35
 
@@ -39,7 +39,7 @@ lateIn column = lateAt (putAt 1 column home)
 -- the plan's rows, and ours
 unfoldable pub lateWraps : List Run
 lateWraps =
-    -- 1: the cursor waits, nothing is marked; the next byte steps first and marks the line left
+    -- 1: the cursor is late, nothing is marked; the next byte steps first and marks the line left
     late (told full (cursorAt 1 80 ∷ flags 1 0 2 ∷ runOn 1 [] ∷ cell 1 1 80 65 ∷ []) ∷ told (66 ∷ []) (cell 1 2 1 66 ∷ cell 1 1 80 65 ∷ runOn 1 (1 ∷ []) ∷ cursorAt 2 2 ∷ flags 0 0 2 ∷ []) ∷ [])
     -- 2, 3, 4: 13, 8 and 10 clear the flag
     ∷ once (full ++ (13 ∷ 66 ∷ [])) (cell 1 1 1 66 ∷ cell 1 2 1 32 ∷ cursorAt 1 2 ∷ flags 0 0 2 ∷ runOn 1 [] ∷ [])

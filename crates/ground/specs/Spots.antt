@@ -6,7 +6,7 @@ use Rattle.model.specs.Rules.{emptyAt}
 
 -- the cursor so many columns further, and all else as it was
 abbrev pub furtherBy : ℕ → Place → Place
-furtherBy n p = record { line = p .line; column = p .column + n; top = p .top; waiting = p .waiting }
+furtherBy n p = record { line = p .line; column = p .column + n; top = p .top; late = p .late }
 
 -- "emptying writes 0 in both": so many places in a row
 unfoldable pub emptyFrom : ℕ → ℕ → List ℕ → List ℕ

@@ -5,7 +5,7 @@ ghost use Prim.Native.Nat.{_+_, _≤_};
 ghost use Rattle.ground.specs.Spots.{furtherBy};
 ghost use Rattle.model.specs.State.{home, putAt, topAt, lateAt};
 
-// The cursor elsewhere, or put where it stands: it no longer waits.
+// The cursor elsewhere, or put where it stands: it is no longer late.
 pub fn put_at(place: Place, line: u8, column: u8) -> Place
     ensures { λ r. ⌜ r ≡ putAt line column place ⌝ }
 {
@@ -13,11 +13,11 @@ pub fn put_at(place: Place, line: u8, column: u8) -> Place
         line: line,
         column: column,
         top: place.top,
-        waiting: 0,
+        late: 0,
     }
 }
 
-// The cursor so many columns further in its line; whether it waits is as it was.
+// The cursor so many columns further in its line; whether it is late is as it was.
 pub fn further(place: Place, count: u8) -> Place
     requires { ⌜ place .column + count ≤ 255 ⌝ }
     ensures { λ r. ⌜ r ≡ furtherBy count place ⌝ }
@@ -26,7 +26,7 @@ pub fn further(place: Place, count: u8) -> Place
         line: place.line,
         column: place.column + count,
         top: place.top,
-        waiting: place.waiting,
+        late: place.late,
     }
 }
 
@@ -38,7 +38,7 @@ pub fn top_at(place: Place, top: u8) -> Place
         line: place.line,
         column: place.column,
         top: top,
-        waiting: place.waiting,
+        late: place.late,
     }
 }
 
@@ -50,7 +50,7 @@ pub fn late_at(place: Place) -> Place
         line: place.line,
         column: place.column,
         top: place.top,
-        waiting: 1,
+        late: 1,
     }
 }
 
@@ -62,6 +62,6 @@ pub(crate) fn home_place() -> Place
         line: 1,
         column: 1,
         top: 1,
-        waiting: 0,
+        late: 0,
     }
 }

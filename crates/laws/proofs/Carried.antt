@@ -52,7 +52,7 @@ right-rule st =
 
 late-step-rule : (st : State) → ruleOf (lateStep st) ≡ ruleOf st
 unfolding lateStep
-late-step-rule st = cond-rule (eqb (here st .waiting) 1) (onward st) st (ruleOf st) (onward-rule st) refl
+late-step-rule st = cond-rule (eqb (here st .late) 1) (onward st) st (ruleOf st) (onward-rule st) refl
 
 printed-rule : (c : ℕ) (st : State) → ruleOf (printed c st) ≡ ruleOf st
 unfolding printed stored

@@ -65,7 +65,7 @@ module _ (w : List ℕ) (n : ℕ) where
 
   late-step-lined : (st : State) → lateStep (lined w n st) ≡ lined w n (lateStep st)
   unfolding lateStep lined withSettings placeOf
-  late-step-lined st = ap (λ (x : State). cond (eqb (here st .waiting) 1) x (lined w n st)) (onward-lined st) ∙ cond-lined (eqb (here st .waiting) 1) (onward st) st
+  late-step-lined st = ap (λ (x : State). cond (eqb (here st .late) 1) x (lined w n st)) (onward-lined st) ∙ cond-lined (eqb (here st .late) 1) (onward st) st
 
   stored-lined : (c : ℕ) (st : State) → stored c (lined w n st) ≡ lined w n (stored c st)
   unfolding stored shownAt lined withSettings placeOf textRows cellAt lineAt base columnsOf

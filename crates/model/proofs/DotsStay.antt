@@ -51,7 +51,7 @@ right-dots a = cond-at (Stays a) (ltb (here a .column) (columnsHere a)) _ _ (λ 
 
 late-step-dots : (a : State) → Stays a (lateStep a)
 unfolding lateStep
-late-step-dots a = cond-at (Stays a) (eqb (here a .waiting) 1) (onward a) a (λ e. onward-dots a) (λ e. refl)
+late-step-dots a = cond-at (Stays a) (eqb (here a .late) 1) (onward a) a (λ e. onward-dots a) (λ e. refl)
 
 stored-dots : (c : ℕ) (a : State) → Stays a (stored c a)
 unfolding stored

@@ -232,7 +232,7 @@ unchanged {k} {a} {b} s = record {
   cells = same-cell;
   cursor-line = s .same-line;
   cursor-column = s .same-column;
-  waiting = s .same-late;
+  late = s .same-late;
   marks = same-mark;
 }
   where

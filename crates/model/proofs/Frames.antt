@@ -27,14 +27,14 @@ pub record SameScreen (k : ℕ) (a b : State) : Type 0 where
   pub same-cells : cellsOf b k ≡ cellsOf a k
   pub same-marks : marksOf (b .settings) k ≡ marksOf (a .settings) k
 
--- the same but for its window: where it lies, its cursor and whether it waits, its cells and marks
+-- the same but for its window: where it lies, its cursor and whether it is late, its cells and marks
 pub record Spared (k : ℕ) (a b : State) : Type 0 where
   pub same-base : base (b .settings) k ≡ base (a .settings) k
   pub same-lines : linesOf (b .settings) k ≡ linesOf (a .settings) k
   pub same-columns : columnsOf (b .settings) k ≡ columnsOf (a .settings) k
   pub same-line : placeOf (b .settings) k .line ≡ placeOf (a .settings) k .line
   pub same-column : placeOf (b .settings) k .column ≡ placeOf (a .settings) k .column
-  pub same-late : placeOf (b .settings) k .waiting ≡ placeOf (a .settings) k .waiting
+  pub same-late : placeOf (b .settings) k .late ≡ placeOf (a .settings) k .late
   pub same-cells : cellsOf b k ≡ cellsOf a k
   pub same-marks : marksOf (b .settings) k ≡ marksOf (a .settings) k
 

@@ -99,7 +99,7 @@ hidden-right h =
 
 pub hidden-late-step : {a b : State} → Hidden a b → Hidden (lateStep a) (lateStep b)
 unfolding lateStep placeOf
-hidden-late-step h = cond₂ Hidden _ _ _ _ _ _ (same-of (λ (x : State). eqb (here x .waiting) 1) h) (λ e. hidden-onward h) (λ e. h)
+hidden-late-step h = cond₂ Hidden _ _ _ _ _ _ (same-of (λ (x : State). eqb (here x .late) 1) h) (λ e. hidden-onward h) (λ e. h)
 
 hidden-topped : {a b : State} (t u : ℕ) → t ≡ u → Hidden a b → Hidden (topped t a) (topped u b)
 unfolding topped placeOf

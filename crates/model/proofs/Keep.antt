@@ -169,7 +169,7 @@ spared s = record {
   same-columns = s .same-columns;
   same-line = ap (λ (p : Place). p .line) (s .same-place);
   same-column = ap (λ (p : Place). p .column) (s .same-place);
-  same-late = ap (λ (p : Place). p .waiting) (s .same-place);
+  same-late = ap (λ (p : Place). p .late) (s .same-place);
   same-cells = s .same-cells;
   same-marks = s .same-marks;
 }

@@ -1,4 +1,4 @@
--- P9: when the cursor waits, what clears the flag, and that rule 1 is what it was.
+-- P9: when the cursor is late, what clears the flag, and that rule 1 is what it was.
 use mathlib.Core.Path.{_∙_, _≡_, ap, refl, sym}
 use Prim.Native.Nat.{_+_, _-_, _<_, _≤_, max, ℕ}
 use native.Mathlib.Omega.{arith}
@@ -27,27 +27,27 @@ late-where rule columns column x =
     (λ e p q. absurd (omega arith))
 
 module _ (a : State) (g : Good a) where
-  pub late-rule : 1 ≤ here a .waiting → (a .settings .rule ≡ 2) × (here a .column ≡ columnsHere a)
-  late-rule h = late-where (a .settings .rule) (columnsHere a) (here a .column) (here a .waiting) (fits a g .waits) h
+  pub late-rule : 1 ≤ here a .late → (a .settings .rule ≡ 2) × (here a .column ≡ columnsHere a)
+  late-rule h = late-where (a .settings .rule) (columnsHere a) (here a .column) (here a .late) (fits a g .waits) h
 
-  late-no : ((a .settings .rule ≡ 2) × (here a .column ≡ columnsHere a) → ⊥) → here a .waiting ≡ 0
-  late-no h = go (ltb 0 (here a .waiting)) refl
+  late-no : ((a .settings .rule ≡ 2) × (here a .column ≡ columnsHere a) → ⊥) → here a .late ≡ 0
+  late-no h = go (ltb 0 (here a .late)) refl
     where
-      go : (b : Bool) → ltb 0 (here a .waiting) ≡ b → here a .waiting ≡ 0
-      go true e = absurd (h (late-rule (ltb-true 0 (here a .waiting) e)))
-      go false e = omega (arith, ltb-false 0 (here a .waiting) e)
+      go : (b : Bool) → ltb 0 (here a .late) ≡ b → here a .late ≡ 0
+      go true e = absurd (h (late-rule (ltb-true 0 (here a .late) e)))
+      go false e = omega (arith, ltb-false 0 (here a .late) e)
 
-  -- no cursor waits left of the last column (for a line's bytes printed at once), nor under rule 1
-  pub late-not : here a .column < columnsHere a → here a .waiting ≡ 0
+  -- no cursor is late left of the last column (for a line's bytes printed at once), nor under rule 1
+  pub late-not : here a .column < columnsHere a → here a .late ≡ 0
   late-not h = late-no (λ z. omega arith)
 
-  pub late-never : a .settings .rule ≡ 1 → here a .waiting ≡ 0
+  pub late-never : a .settings .rule ≡ 1 → here a .late ≡ 0
   late-never h = late-no (λ z. omega arith)
 
--- nothing is awaited where no cursor waits
-pub late-step-not : (a : State) → here a .waiting ≡ 0 → lateStep a ≡ a
+-- nothing is awaited where no cursor is late
+pub late-step-not : (a : State) → here a .late ≡ 0 → lateStep a ≡ a
 unfolding lateStep
-late-step-not a h = ap (λ (b : Bool). cond b (onward a) a) (ne-eqb (here a .waiting) 1 (λ e. omega arith))
+late-step-not a h = ap (λ (b : Bool). cond b (onward a) a) (ne-eqb (here a .late) 1 (λ e. omega arith))
 
 -- the cursor put where it stands
 placed-same : (x : State) (p : Place) → here x ≡ p → placed p x ≡ x
@@ -60,11 +60,11 @@ placed-same x p e =
 abbrev early : State → State
 early st = cond (ltb (here st .column) (columnsHere st)) (toColumn (here st .column + 1) st) (onward st)
 
-pub down-early : (a : State) → here a .waiting ≡ 0 → down a ≡ cond (ltb (here a .line) (linesHere a)) (placed (putAt (here a .line + 1) (here a .column) (here a)) a) (lifted a)
+pub down-early : (a : State) → here a .late ≡ 0 → down a ≡ cond (ltb (here a .line) (linesHere a)) (placed (putAt (here a .line + 1) (here a .column) (here a)) a) (lifted a)
 unfolding down lifted remarked withSettings onLines emptied withLayer withCells placeOf
 down-early a h =
     ap (λ (x : State). cond (ltb (here a .line) (linesHere a)) (placed (putAt (here a .line + 1) (here a .column) (here a)) a) x)
-    (placed-same (lifted a) (putAt (here a .line) (here a .column) (here a)) (λ i. record { line = here a .line; column = here a .column; top = here a .top; waiting = h i }))
+    (placed-same (lifted a) (putAt (here a .line) (here a .column) (here a)) (λ i. record { line = here a .line; column = here a .column; top = here a .top; late = h i }))
 
 pub printed-early : (a : State) → Good a → a .settings .rule ≡ 1 → (c : ℕ) → printed c a ≡ tracked (early (stored c a))
 unfolding printed right stored
@@ -75,47 +75,47 @@ printed-early a g h c =
 
 -- what puts the cursor anew clears the flag; a window that moves keeps it
 module _ (a : State) (g : Good a) where
-  flag-placed : (p : Place) → here (placed p a) .waiting ≡ p .waiting
-  flag-placed p = ap (λ (x : Place). x .waiting) (place-same a g p)
+  flag-placed : (p : Place) → here (placed p a) .late ≡ p .late
+  flag-placed p = ap (λ (x : Place). x .late) (place-same a g p)
 
-  pub flag-topped : (t : ℕ) → here (topped t a) .waiting ≡ here a .waiting
+  pub flag-topped : (t : ℕ) → here (topped t a) .late ≡ here a .late
   unfolding topped emptied withLayer
-  flag-topped t = cond-at (λ (x : State). here x .waiting ≡ here a .waiting) (eqb t (here a .top)) a (emptied (placed (topAt t (here a)) a)) (λ e. refl) (λ e. flag-placed (topAt t (here a)))
+  flag-topped t = cond-at (λ (x : State). here x .late ≡ here a .late) (eqb t (here a .top)) a (emptied (placed (topAt t (here a)) a)) (λ e. refl) (λ e. flag-placed (topAt t (here a)))
 
-  pub flag-tracked : here (tracked a) .waiting ≡ here a .waiting
+  pub flag-tracked : here (tracked a) .late ≡ here a .late
   unfolding tracked
-  flag-tracked = cond-at (λ (x : State). here x .waiting ≡ here a .waiting) (eqb (a .settings .tracking) 1 && missed a) (topped (nearest a) a) a (λ e. flag-topped (nearest a)) (λ e. refl)
+  flag-tracked = cond-at (λ (x : State). here x .late ≡ here a .late) (eqb (a .settings .tracking) 1 && missed a) (topped (nearest a) a) a (λ e. flag-topped (nearest a)) (λ e. refl)
 
-  pub flag-trackedFar : here (trackedFar a) .waiting ≡ here a .waiting
+  pub flag-trackedFar : here (trackedFar a) .late ≡ here a .late
   unfolding trackedFar
-  flag-trackedFar = cond-at (λ (x : State). here x .waiting ≡ here a .waiting) (eqb (a .settings .tracking) 1 && missed a) (topped (centred a) a) a (λ e. flag-topped (centred a)) (λ e. refl)
+  flag-trackedFar = cond-at (λ (x : State). here x .late ≡ here a .late) (eqb (a .settings .tracking) 1 && missed a) (topped (centred a) a) a (λ e. flag-topped (centred a)) (λ e. refl)
 
-  pub flag-column : (c : ℕ) → here (toColumn c a) .waiting ≡ 0
+  pub flag-column : (c : ℕ) → here (toColumn c a) .late ≡ 0
   unfolding toColumn
   flag-column c = flag-placed (putAt (here a .line) c (here a))
 
 module _ (a : State) (g : Good a) where
   -- a line step, on the last line too
-  pub flag-down : here (down a) .waiting ≡ 0
+  pub flag-down : here (down a) .late ≡ 0
   unfolding down
-  flag-down = cond-at (λ (x : State). here x .waiting ≡ 0) (ltb (here a .line) (linesHere a)) _ _
+  flag-down = cond-at (λ (x : State). here x .late ≡ 0) (ltb (here a .line) (linesHere a)) _ _
       (λ e. flag-placed a g (putAt (here a .line + 1) (here a .column) (here a)))
       (λ e. flag-placed (lifted a) (kept-lifted a g .good) (putAt (here a .line) (here a .column) (here a)))
 
-  pub flag-cleared : here (cleared a) .waiting ≡ 0
+  pub flag-cleared : here (cleared a) .late ≡ 0
   unfolding cleared withDots
   flag-cleared = flag-placed _ (kept-blanked-screen a g .good) home
 
   -- "Codes 8, 10, 12, 13 .. clear the flag"
-  pub flag-control : (c : ℕ) → (eqb c 8 || eqb c 10 || eqb c 12 || eqb c 13) ≡ true → here (control c a) .waiting ≡ 0
+  pub flag-control : (c : ℕ) → (eqb c 8 || eqb c 10 || eqb c 12 || eqb c 13) ≡ true → here (control c a) .late ≡ 0
   unfolding control
   flag-control c = go (eqb c 8) (eqb c 10) (eqb c 13) (eqb c 12)
     where
-      after : (b : State) → Kept a b → here b .waiting ≡ 0 → here (tracked b) .waiting ≡ 0
+      after : (b : State) → Kept a b → here b .late ≡ 0 → here (tracked b) .late ≡ 0
       after b k h = flag-tracked b (k .good) ∙ h
 
       go : (p q r s : Bool) → (p || q || s || r) ≡ true
-          → here (cond p (tracked (toColumn (max 1 (here a .column - 1)) a)) (cond q (tracked (down a)) (cond r (tracked (toColumn 1 a)) (cond s (cleared a) a)))) .waiting ≡ 0
+          → here (cond p (tracked (toColumn (max 1 (here a .column - 1)) a)) (cond q (tracked (down a)) (cond r (tracked (toColumn 1 a)) (cond s (cleared a) a)))) .late ≡ 0
       go true q r s e = after _ (kept-toColumn a g (max 1 (here a .column - 1)) (omega arith) (omega (arith, fits a g))) (flag-column a g (max 1 (here a .column - 1)))
       go false true r s e = after _ (kept-down a g) flag-down
       go false false true s e = after _ (kept-toColumn a g 1 (omega arith) (columns-some a g)) (flag-column a g 1)
@@ -123,7 +123,7 @@ module _ (a : State) (g : Good a) where
       go false false false false e = absurd (differ (sym e))
 
   -- "and accepted .. 61", onto the last column too
-  pub flag-put : (ms : ℕ → ℕ) (l c : ℕ) → InRanges (ranges (Put l c) (limitsOf (a .settings))) → here (obeyed ms (Put l c) a) .waiting ≡ 0
+  pub flag-put : (ms : ℕ → ℕ) (l c : ℕ) → InRanges (ranges (Put l c) (limitsOf (a .settings))) → here (obeyed ms (Put l c) a) .late ≡ 0
   unfolding obeyed
   flag-put ms l c e = flag-trackedFar _ (kept-put a g l c e .good) ∙ flag-placed a g (putAt (l - 31) (c - 31) (here a))
 

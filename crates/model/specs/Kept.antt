@@ -86,14 +86,14 @@ mustFollow (itemRead r) = follows (r .item)
 mustFollow (lineLeft w n) = false
 mustFollow (keySet k x) = false
 
--- each cell, the cursor, whether it waits (P9) and each mark (P5) of screen k are in b as in a
+-- each cell, the cursor, whether it is late (P9) and each mark (P5) of screen k are in b as in a
 pub record Unchanged (k : ℕ) (a b : State) : Type 0 where
   pub lines : linesOf (b .settings) k ≡ linesOf (a .settings) k
   pub columns : columnsOf (b .settings) k ≡ columnsOf (a .settings) k
   pub cells : (l c : ℕ) → On (a .settings) k l c → getD (b .cells) (cellAt (b .settings) k l c) 0 ≡ getD (a .cells) (cellAt (a .settings) k l c) 0
   pub cursor-line : placeOf (b .settings) k .line ≡ placeOf (a .settings) k .line
   pub cursor-column : placeOf (b .settings) k .column ≡ placeOf (a .settings) k .column
-  pub waiting : placeOf (b .settings) k .waiting ≡ placeOf (a .settings) k .waiting
+  pub late : placeOf (b .settings) k .late ≡ placeOf (a .settings) k .late
   pub marks : (l : ℕ) → 1 ≤ l → l ≤ 48 → markOf (b .settings) k l ≡ markOf (a .settings) k l
 
 -- and the window: the lines top to top+H−1

@@ -28,7 +28,7 @@ pub record Fits (rule lines columns height : ℕ) (p : Place) : Type 0 where
   pub column-high : p .column ≤ columns
   pub top-low : 1 ≤ p .top
   pub top-high : p .top + height ≤ lines + 1
-  pub waits : p .waiting ≤ mostLate rule columns (p .column)
+  pub waits : p .late ≤ mostLate rule columns (p .column)
 
 -- "each of its own screen"
 abbrev pub Inside : Settings → ℕ → Type 0
@@ -72,7 +72,7 @@ arrayRanges s =
 -- and screen 2's place; "screen 1 selected" is that the selected one is among the screens
 unfoldable pub aloneRanges : ℕ → ℕ → ℕ → Place → List Check
 aloneRanges mode kind display p =
-    cond (eqb mode 3) (range 3 kind 3 ∷ range 1 display 1 ∷ range 1 (p .line) 1 ∷ range 1 (p .column) 1 ∷ range 1 (p .top) 1 ∷ range 0 (p .waiting) 0 ∷ []) []
+    cond (eqb mode 3) (range 3 kind 3 ∷ range 1 display 1 ∷ range 1 (p .line) 1 ∷ range 1 (p .column) 1 ∷ range 1 (p .top) 1 ∷ range 0 (p .late) 0 ∷ []) []
 
 -- "Settings are sound exactly when"
 pub record Sound (s : Settings) : Type 0 where
@@ -96,7 +96,7 @@ pub record Good (st : State) : Type 0 where
 
 -- the same as a test: a cursor and a window in lines of columns, H tall, and the flag
 unfoldable pub insideRanges : ℕ → ℕ → ℕ → ℕ → Place → List Check
-insideRanges rule lines columns height p = range 1 (p .line) lines ∷ range 1 (p .column) columns ∷ range 1 (p .top) (lines + 1 - height) ∷ range 0 (p .waiting) (mostLate rule columns (p .column)) ∷ []
+insideRanges rule lines columns height p = range 1 (p .line) lines ∷ range 1 (p .column) columns ∷ range 1 (p .top) (lines + 1 - height) ∷ range 0 (p .late) (mostLate rule columns (p .column)) ∷ []
 
 -- the table of modes
 unfoldable pub shapeRanges : ℕ → ℕ → ℕ → ℕ → ℕ → List Check

@@ -127,7 +127,7 @@ fn set(
         line: 1,
         column: 1,
         top: 1,
-        waiting: 0,
+        late: 0,
     };
     let places = [home, home];
     let marks = [0u8; 96];

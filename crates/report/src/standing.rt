@@ -141,11 +141,11 @@ fn say_runs(marks: &[u8; 96]) {
     say(b"\n");
 }
 
-// `rule R flags F F`: how a line is left at its last column, and whether each screen's cursor waits there.
+// `rule R flags F F`: how a line is left at its last column, and whether each screen's cursor is late there.
 fn say_rule(rule: u8, first: Place, second: Place) {
     say_byte(b"rule ", rule);
-    say_byte(b" flags ", first.waiting);
-    say_byte(b" ", second.waiting);
+    say_byte(b" flags ", first.late);
+    say_byte(b" ", second.late);
     say(b"\n");
 }
 

@@ -1,4 +1,4 @@
--- Bytes printed in the cursor's line short of its end, while the window stays: no cursor waits there under either rule, each byte is
+-- Bytes printed in the cursor's line short of its end, while the window stays: no cursor is late there under either rule, each byte is
 -- stored, the cursor moves a column, and tracking does nothing. So they are all stored at once, and as many places emptied. The last of them
 -- may be that of the last column: it is stored with the others, and what comes of it is the step behind it.
 use mathlib.Core.Path.{_∙_, _≡_, refl, subst}
@@ -35,7 +35,7 @@ module _ {f : Frame} where
       (λ s ds e i. rw (cell-is (state s c l ds) e i, ← empty-at-none (shownHere (state s c l ds)) l, k .is (state s c l ds) e i, empty-at-none n l))
 
   -- one byte
-  pub printed-spot : {p : Place} {c l : List ℕ} {n : ℕ} (b : ℕ) → Ready f p c l → p .waiting ≡ 0 → p .column < f .columns → Reads lost f p false → Spot f p n
+  pub printed-spot : {p : Place} {c l : List ℕ} {n : ℕ} (b : ℕ) → Ready f p c l → p .late ≡ 0 → p .column < f .columns → Reads lost f p false → Spot f p n
       → Acts (printed b) f p (putAt (p .line) (suc (p .column)) p) c l (set c (cellIn f p) b) (emptyAt n l)
   unfolding printed tracked
   printed-spot {p} b h w k j i =
@@ -44,12 +44,12 @@ module _ {f : Frame} where
       then-above (then (then (late-step-still h (λ e. omega arith)) a) r) (lost-still nearest (r .ready .stands) (r .ready .layer-are) (lost-next (suc (p .column)) j) refl)
 
   -- all of them
-  chunk-acts : (bs : List ℕ) {p r : Place} {c l c′ l′ : List ℕ} {n : ℕ} → Ready f p c l → p .waiting ≡ 0 → p .column + length bs ≤ f .columns → Reads lost f p false → Spot f p n
+  chunk-acts : (bs : List ℕ) {p r : Place} {c l c′ l′ : List ℕ} {n : ℕ} → Ready f p c l → p .late ≡ 0 → p .column + length bs ≤ f .columns → Reads lost f p false → Spot f p n
       → r ≡ putAt (p .line) (p .column + length bs) p → c′ ≡ sets c (cellIn f p) bs → l′ ≡ emptyFrom n (length bs) l → Acts (printedAll bs) f p r c l c′ l′
   unfolding printedAll emptyFrom
   chunk-acts [] {p} {c = c} {l = l} {n = n} h w room j i a b d =
       let z : p .column + 0 ≡ p .column = omega arith in
-      let y : p ≡ putAt (p .line) (p .column) p = λ o. record { line = p .line; column = p .column; top = p .top; waiting = w o } in
+      let y : p ≡ putAt (p .line) (p .column) p = λ o. record { line = p .line; column = p .column; top = p .top; late = w o } in
       rw (a, b, d, z) (subst (λ (o : Place). Acts (printedAll []) f p o c l c l) y (likewise (λ s ds e k. refl) (still h)))
   chunk-acts (x ∷ xs) {p} {n = n} h w room j i a b d =
       let v = printed-spot x h w (omega arith) j i in
@@ -63,11 +63,11 @@ module _ {f : Frame} where
   unfolding emptyFrom
   laid-one x {p} {c = c} {l = l} {n = n} h i a b d =
       let z : p .column ≡ p .column + 0 = omega arith in
-      let y : p ≡ furtherBy 0 p = λ o. record { line = p .line; column = z o; top = p .top; waiting = p .waiting } in
+      let y : p ≡ furtherBy 0 p = λ o. record { line = p .line; column = z o; top = p .top; late = p .late } in
       rw (a, b, d) (subst (λ (o : Place). Acts (stored x) f p o c l (set c (cellIn f p) x) (emptyAt n l)) y (stored-spot x h i))
 
   -- and those before it
-  pub laid-acts : (x : ℕ) (xs : List ℕ) {p r : Place} {c l c′ l′ : List ℕ} {n : ℕ} → Ready f p c l → p .waiting ≡ 0 → p .column + length xs ≤ f .columns → (1 ≤ length xs → Reads lost f p false) → Spot f p n
+  pub laid-acts : (x : ℕ) (xs : List ℕ) {p r : Place} {c l c′ l′ : List ℕ} {n : ℕ} → Ready f p c l → p .late ≡ 0 → p .column + length xs ≤ f .columns → (1 ≤ length xs → Reads lost f p false) → Spot f p n
       → r ≡ furtherBy (length xs) p → c′ ≡ sets c (cellIn f p) (x ∷ xs) → l′ ≡ emptyFrom n (suc (length xs)) l → Acts (laidAll (x ∷ xs)) f p r c l c′ l′
   unfolding laidAll emptyFrom
   laid-acts x [] h w room j i a b d = likewise (λ s ds e k. refl) (then (late-step-still h (λ e. omega arith)) (laid-one x h i a b d))
@@ -75,7 +75,7 @@ module _ {f : Frame} where
       let seen = j (omega arith) in
       let v = printed-spot x h w (omega arith) seen i in
       let z : p .column + suc (length ys) ≡ suc (p .column) + length ys = omega arith in
-      let t : furtherBy (suc (length ys)) p ≡ furtherBy (length ys) (putAt (p .line) (suc (p .column)) p) = λ o. record { line = p .line; column = z o; top = p .top; waiting = w o } in
+      let t : furtherBy (suc (length ys)) p ≡ furtherBy (length ys) (putAt (p .line) (suc (p .column)) p) = λ o. record { line = p .line; column = z o; top = p .top; late = w o } in
       let u : cellIn f (putAt (p .line) (suc (p .column)) p) ≡ suc (cellIn f p) = omega (arith, h .stands .fits .column-low) in
       likewise (λ s ds e k. refl)
       (then v (laid-acts y ys (v .ready) refl (omega arith) (λ o. lost-next (suc (p .column)) seen) (spot-next (h .stands .fits .column-low) i) (a ∙ t) (rw u b) d))

@@ -149,7 +149,7 @@ module _ {f : Frame} {p q : Place} {c l k c₀ l₀ k₀ : List ℕ} (w : ActsWi
       likewise-with (λ s ds u v o.
       let st : State = state (withHere s q k₀) c₀ l₀ ds in
       let t : lateStep (state s c l ds) ≡ st = w .does s ds u v o in
-      late-step-first (x ∷ y ∷ ys) (state s c l ds) h (ap lateStep t ∙ late-step-not st (ap (λ (z : Place). z .waiting) (placed-there q u) ∙ still) ∙ sym t))
+      late-step-first (x ∷ y ∷ ys) (state s c l ds) h (ap lateStep t ∙ late-step-not st (ap (λ (z : Place). z .late) (placed-there q u) ∙ still) ∙ sym t))
       (then-with w (unmarked-acts (w .marks-are) (laid-acts x (y ∷ ys) (w .ready) still (omega arith) (λ o. seen (omega arith)) i (rw e at a) b d)))
 
   -- those of a message that the line has room for

@@ -138,7 +138,7 @@ fn print_line(
     }
 }
 
-// The bytes up to `end` if they stay in the cursor's line short of its last column, where no cursor waits, and the window does not move; else
+// The bytes up to `end` if they stay in the cursor's line short of its last column, where no cursor is late, and the window does not move; else
 // as many as the line has room for.
 fn print_part(
     frame: Frame,

@@ -63,7 +63,7 @@ pub fn frame_of(settings: Settings, bare: bool) -> Frame
     }
 }
 
-// A printed byte, and ESC 37: where the cursor waits, the step comes first.
+// A printed byte, and ESC 37: where the cursor is late, the step comes first.
 pub fn print(
     frame: Frame,
     place: Place,

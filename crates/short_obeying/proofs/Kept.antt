@@ -36,7 +36,7 @@ onward-hides a = down-hides (toColumn 1 a)
 
 late-step-hides : (a : State) → Hides a (lateStep a)
 unfolding lateStep
-late-step-hides a = cond-at (Hides a) (eqb (here a .waiting) 1) _ _ (λ e. onward-hides a) (λ e. refl)
+late-step-hides a = cond-at (Hides a) (eqb (here a .late) 1) _ _ (λ e. onward-hides a) (λ e. refl)
 
 right-hides : (a : State) → Hides a (right a)
 unfolding right toColumn placed

@@ -50,12 +50,12 @@ seen-more secret [] ys st l = refl
 seen-more secret (x ∷ xs) ys st l = seen-more secret xs ys (printed x st) (set l (printPlace st) (veiled secret x))
 
 -- in the cursor's line, short of its last column, nothing lifts
-line-lifts : {f : Frame} {p : Place} (st : State) → Framed (st .settings) f → here st ≡ p → p .waiting ≡ 0 → p .column < f .columns → printLifts? st ≡ false
+line-lifts : {f : Frame} {p : Place} (st : State) → Framed (st .settings) f → here st ≡ p → p .late ≡ 0 → p .column < f .columns → printLifts? st ≡ false
 unfolding printLifts?
 line-lifts {p = p} st e h w k =
-    let wait : here st .waiting ≡ 0 = ap (λ (q : Place). q .waiting) h ∙ w in
+    let wait : here st .late ≡ 0 = ap (λ (q : Place). q .late) h ∙ w in
     let short : ltb (here st .column) (columnsHere st) ≡ true = lt-ltb (here st .column) (columnsHere st) (omega (arith, ap (λ (q : Place). q .column) h, e .columns-are, k)) in
-    ap (λ (a : State). (eqb (here st .waiting) 1 && lowest? st) || (not (ltb (here a .column) (columnsHere a)) && (not (eqb (a .settings .rule) 2) && lowest? a))) (late-step-not st wait)
+    ap (λ (a : State). (eqb (here st .late) 1 && lowest? st) || (not (ltb (here a .column) (columnsHere a)) && (not (eqb (a .settings .rule) 2) && lowest? a))) (late-step-not st wait)
     ∙ (λ i. (eqb (wait i) 1 && lowest? st) || (not (short i) && (not (eqb (st .settings .rule) 2) && lowest? st)))
 
 module _ {f : Frame} {secret : ℕ} where
@@ -76,7 +76,7 @@ module _ {f : Frame} {secret : ℕ} where
   }
 
   -- bytes that stay there, while the window does not move
-  sees-line : (bs : List ℕ) {p : Place} {c l x : List ℕ} {n : ℕ} (k : List ℕ) → Ready f p c l → p .waiting ≡ 0 → p .column + length bs ≤ f .columns → Reads lost f p false → Spot f p n → length x ≡ 640
+  sees-line : (bs : List ℕ) {p : Place} {c l x : List ℕ} {n : ℕ} (k : List ℕ) → Ready f p c l → p .late ≡ 0 → p .column + length bs ≤ f .columns → Reads lost f p false → Spot f p n → length x ≡ 640
       → Sees bs f p secret false c l k x (shownFrom secret n bs x)
   unfolding wideAll widePrint seenAll shownFrom printPlace
   sees-line [] k h w room j i z = sees-none z
@@ -93,7 +93,7 @@ module _ {f : Frame} {secret : ℕ} where
             sym (still st b lifts top (sym (rest .wide-is (withPlace s q) ds (framed-placed q e) (placed-there q e) u ∙ ap (wideAll bs) (sym (v .does s ds e o)))));
         seen-is = λ s ds e o u.
             let st : State = state s c l ds in
-            let wait : here st .waiting ≡ 0 = ap (λ (a : Place). a .waiting) o ∙ w in
+            let wait : here st .late ≡ 0 = ap (λ (a : Place). a .late) o ∙ w in
             let spot : set x n (veiled secret b) ≡ set x (printPlace st) (veiled secret b) = set-spot x n (printPlace st) (veiled secret b) z (sym (at-cursor st wait ∙ i .is st e o)) in
             rest .seen-is (withPlace s q) ds (framed-placed q e) (placed-there q e) u ∙ (λ m. seenAll secret bs (sym (v .does s ds e o) m) (spot m));
         size = rest .size;
@@ -102,7 +102,7 @@ module _ {f : Frame} {secret : ℕ} where
       still : (st : State) (b : ℕ) → printLifts? st ≡ false → here (printed b st) .top ≡ here st .top → wideAll bs (printed b st) ≡ false → wideAll (b ∷ bs) st ≡ false
       still st b lifts top more = λ m. (lifts m || not (eq-eqb (here (printed b st) .top) (here st .top) top m)) || more m
 
-      at-cursor : (st : State) → here st .waiting ≡ 0 → min 640 (printPlace st) ≡ min 640 (shownHere st)
+      at-cursor : (st : State) → here st .late ≡ 0 → min 640 (printPlace st) ≡ min 640 (shownHere st)
       at-cursor st w = ap (λ (a : State). min 640 (shownHere a)) (late-step-not st w)
 
   -- so a part of a message painted from the place that shows the cursor's cell
@@ -115,7 +115,7 @@ module _ {f : Frame} {secret : ℕ} where
 
   -- one by itself: the step that waited, then the character where the cursor stands
   pub sees-one : {p q r : Place} {b n : ℕ} {late last : Bool} {c l k x c₁ l₁ k₁ c₂ l₂ k₂ x′ : List ℕ} → ActsWith lateStep f p q c l k c₁ l₁ k₁
-      → ActsWith (λ (st : State). tracked (right (stored b st))) f q r c₁ l₁ k₁ c₂ l₂ k₂ → length x ≡ 640 → late ≡ (eqb (p .waiting) 1 && not (ltb (p .line) (f .lines)))
+      → ActsWith (λ (st : State). tracked (right (stored b st))) f q r c₁ l₁ k₁ c₂ l₂ k₂ → length x ≡ 640 → late ≡ (eqb (p .late) 1 && not (ltb (p .line) (f .lines)))
       → last ≡ (not (ltb (q .column) (f .columns)) && (not (eqb (f .rule) 2) && not (ltb (q .line) (f .lines)))) → Reads shownHere f q n → x′ ≡ set x n (veiled secret b)
       → Sees (b ∷ []) f p secret ((late || last) || not (eqb (r .top) (p .top))) c l k x x′
   unfolding wideAll widePrint seenAll printLifts? printPlace lowest? printed placeOf
@@ -125,7 +125,7 @@ module _ {f : Frame} {secret : ℕ} where
         let here₁ : State = state (withHere s q k₁) c₁ l₁ ds in
         let step : lateStep st ≡ here₁ = a .does s ds e o u in
         let done : printed b st ≡ state (withHere s r k₂) _ _ ds = then-with a d .does s ds e o u in
-        let one : late ≡ (eqb (here st .waiting) 1 && lowest? st) = e₁ ∙ (λ m. eqb (sym o m .waiting) 1 && not (ltb (sym o m .line) (e .lines-are m))) in
+        let one : late ≡ (eqb (here st .late) 1 && lowest? st) = e₁ ∙ (λ m. eqb (sym o m .late) 1 && not (ltb (sym o m .line) (e .lines-are m))) in
         let f₁ = framed-here q k₁ e in
         let there : here here₁ ≡ q = placed-there q e in
         let two : last ≡ (not (ltb (here here₁ .column) (columnsHere here₁)) && (not (eqb (here₁ .settings .rule) 2) && lowest? here₁)) =

@@ -113,7 +113,7 @@ pub fn print_code(
     requires { ⌜ (length (now marks) ≡ 96) × (length (now shown) ≡ 640) ⌝ }
     ensures { λ r. ⌜ (ActsWith (printed code) frame place (r .place) (now (cells .entry)) (now (layer .entry)) (now (marks .entry)) (now (cells .exit)) (now (layer .exit)) (now (marks .exit))) × (Sees (code ∷ []) frame place secret (r .wide) (now (cells .entry)) (now (layer .entry)) (now (marks .entry)) (now (shown .entry)) (now (shown .exit))) ⌝ }
 {
-    let late = (place.waiting == 1) & lowest(frame, place);
+    let late = (place.late == 1) & lowest(frame, place);
     let first = cursor::late_step(frame, place, cells, layer, marks);
     let last = !(first.column < frame.columns) & ((frame.rule != 2) & lowest(frame, first));
     paint_code(secret, cursor::shown(frame, first), code, shown);

@@ -67,19 +67,19 @@ module _ (l1 l2 c1 c2 : ℕ) where
   mode-3 m = five (leb 3 m) (leb m 3) (leb 80 c1) (leb c1 80) (leb 0 c2) (leb c2 0) (leb 8 l1) (leb l1 8) (leb 0 l2) (leb l2 0)
 
 pub window : (rule lines columns less : ℕ) (p : Place)
-    → (leb 1 (p .line) && leb (p .line) lines && leb 1 (p .column) && leb (p .column) columns && leb 1 (p .top) && leb (p .top) (lines - less) && leb 0 (p .waiting) && leb (p .waiting) (mostLate rule columns (p .column)))
+    → (leb 1 (p .line) && leb (p .line) lines && leb 1 (p .column) && leb (p .column) columns && leb 1 (p .top) && leb (p .top) (lines - less) && leb 0 (p .late) && leb (p .late) (mostLate rule columns (p .column)))
     ≡ inRanges? (insideRanges rule lines columns (less + 1) p)
 unfolding inRanges? passes insideRanges
 window rule lines columns less p =
     let e : lines + 1 - (less + 1) ≡ lines - less = omega arith in
-    rw e (four (leb 1 (p .line)) (leb (p .line) lines) (leb 1 (p .column)) (leb (p .column) columns) (leb 1 (p .top)) (leb (p .top) (lines - less)) (leb 0 (p .waiting)) (leb (p .waiting) (mostLate rule columns (p .column))))
+    rw e (four (leb 1 (p .line)) (leb (p .line) lines) (leb 1 (p .column)) (leb (p .column) columns) (leb 1 (p .top)) (leb (p .top) (lines - less)) (leb 0 (p .late)) (leb (p .late) (mostLate rule columns (p .column))))
 
 pub alone-of : (kind display : ℕ) (p : Place)
-    → (leb 3 kind && leb kind 3 && leb 1 display && leb display 1 && leb 1 (p .line) && leb (p .line) 1 && leb 1 (p .column) && leb (p .column) 1 && leb 1 (p .top) && leb (p .top) 1 && leb 0 (p .waiting) && leb (p .waiting) 0)
+    → (leb 3 kind && leb kind 3 && leb 1 display && leb display 1 && leb 1 (p .line) && leb (p .line) 1 && leb 1 (p .column) && leb (p .column) 1 && leb 1 (p .top) && leb (p .top) 1 && leb 0 (p .late) && leb (p .late) 0)
     ≡ inRanges? (aloneRanges 3 kind display p)
 unfolding inRanges? passes aloneRanges
 alone-of kind display p =
-    six (leb 3 kind) (leb kind 3) (leb 1 display) (leb display 1) (leb 1 (p .line)) (leb (p .line) 1) (leb 1 (p .column)) (leb (p .column) 1) (leb 1 (p .top)) (leb (p .top) 1) (leb 0 (p .waiting)) (leb (p .waiting) 0)
+    six (leb 3 kind) (leb kind 3) (leb 1 display) (leb display 1) (leb 1 (p .line)) (leb (p .line) 1) (leb 1 (p .column)) (leb (p .column) 1) (leb 1 (p .top)) (leb (p .top) 1) (leb 0 (p .late)) (leb (p .late) 0)
 
 -- "screen 1 selected", said of the number of screens
 below : (x n : ℕ) → ltb x n ≡ leb (x + 1) n

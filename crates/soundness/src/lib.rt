@@ -99,8 +99,8 @@ fn inside(rule: u8, lines: u8, columns: u8, less: u8, p: Place) -> bool
         & (p.column <= columns)
         & (1 <= p.top)
         & (p.top <= top)
-        & (0 <= p.waiting)
-        & (p.waiting <= most)
+        & (0 <= p.late)
+        & (p.late <= most)
 }
 
 // P11, mode 3: "type 3, key display 1, .. screen 2's cursor and top at 1, its flag off"
@@ -117,8 +117,8 @@ fn alone(kind: u8, display: u8, p: Place) -> bool
         & (p.column <= 1)
         & (1 <= p.top)
         & (p.top <= 1)
-        & (0 <= p.waiting)
-        & (p.waiting <= 0)
+        & (0 <= p.late)
+        & (p.late <= 0)
 }
 
 // screen 2: a cursor and a window, or in mode 3 the place of none; `less` is H less one

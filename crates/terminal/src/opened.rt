@@ -13,7 +13,7 @@ pub(crate) fn opened_settings(rule: u8) -> Settings
         line: 1,
         column: 1,
         top: 1,
-        waiting: 0,
+        late: 0,
     };
     let keys = Keys {
         leds: [0, 0, 0],

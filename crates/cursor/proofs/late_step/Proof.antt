@@ -1,4 +1,4 @@
--- `lateStep` meets its contract: the step where the cursor waits, else nothing.
+-- `lateStep` meets its contract: the step where the cursor is late, else nothing.
 use native.Mathlib.Omega.{arith}
 use borrow.Author.Needs.{needs}
 use Rattle.ground.proofs.Carried.{unmarked-acts}

@@ -1,4 +1,4 @@
--- `right` meets its contract: a column further; in the last one it waits, or goes to column 1 of the next line, as the rule says.
+-- `right` meets its contract: a column further; in the last one it is late, or goes to column 1 of the next line, as the rule says.
 use native.Mathlib.Omega.{arith}
 use borrow.Author.Needs.{needs}
 use Rattle.ground.proofs.Carried.{unmarked-acts}

@@ -36,7 +36,7 @@ returns c =
     let q = first .late-step .result in (
       then-with (first .late-step .ensures) (done .print-here .ensures),
       sees-one (first .late-step .ensures) (done .print-here .ensures) (entry .pre .1 .1)
-          (ap (λ (b : Bool). eqb (entry .args .place .waiting) 1 && b) (first .before .before .before .before .lowest .ensures))
+          (ap (λ (b : Bool). eqb (entry .args .place .late) 1 && b) (first .before .before .before .before .lowest .ensures))
           (ap (λ (b : Bool). not (ltb (q .column) (f .columns)) && (not (eqb (f .rule) 2) && b)) (spot .before .lowest2 .ensures)) (spot .shown .ensures) (painted .paint-code .ensures),
     )
 
