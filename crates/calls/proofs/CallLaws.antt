@@ -15,7 +15,6 @@ use Rattle.model.specs.State.{State, opened, openedKeys, openedSettings}
 use Rattle.model.specs.Checks.{Passes, inRanges?, member, passes, range}
 use Rattle.model.specs.Screens.{base, cellAt, columnsOf, height, lineAt, linesOf, placeOf, screens, textRows}
 use Rattle.model.specs.Line.{heldIn, limit, padded}
-use Rattle.model.specs.Marks.{markOf}
 use Rattle.model.specs.Sound.{Good, Inside, Sound, arrayRanges, keyRanges, mode0, plainRanges, aloneRanges}
 use Rattle.model.specs.Picture.{painting, picture, pictureAt}
 use Rattle.model.specs.Reading.{Read, remaining, uncut}
@@ -317,7 +316,7 @@ module _ (rule : ℕ) where
   shown-opened = subst Shown (λ i. record { state = opened rule; shown = sym opened-blank i }) (shown-painting (opened rule))
 
   pub resumed-opened : ruled rule ≡ true → Resumed (openedTerminal rule)
-  unfolding linesOf columnsOf height textRows placeOf inRanges? passes member keyRanges plainRanges arrayRanges markOf screens aloneRanges
+  unfolding linesOf columnsOf height textRows placeOf inRanges? passes member keyRanges plainRanges arrayRanges screens aloneRanges
   resumed-opened e = record {
     sound = record {
       arrays = ranges-true (arrayRanges (openedSettings rule)) refl;

@@ -115,7 +115,7 @@ module _ {f : Frame} {p : Place} {c l : List ℕ} where
   late-step-still h k = when-false _ (flag-test (ne-eqb (p .late) 1 k)) (still h)
 
   -- P5: the line above the cursor's is marked after the step
-  pub onward-marks : {r : Place} {m c′ l′ m₁ m₂ : List ℕ} → ActsWith (λ (st : State). down (toColumn 1 st)) f p r c l m c′ l′ m₁ → Remarks (f .first) (runningOn (r .line - 1)) m₁ m₂ → ActsWith onward f p r c l m c′ l′ m₂
+  pub onward-marks : {r : Place} {m c′ l′ m₁ m₂ : List ℕ} → ActsWith (λ (st : State). down (toColumn 1 st)) f p r c l m c′ l′ m₁ → Remarks (f .screen) (runningOn (r .line - 1)) m₁ m₂ → ActsWith onward f p r c l m c′ l′ m₂
   unfolding onward runsOn
   onward-marks {r} a w = then-with a (at-value-with (λ (x : Place) (st : State). remarked (runningOn (x .line - 1)) st) here-is (remarked-acts (a .ready) (runningOn (r .line - 1)) (a .marks-are) w))
 

@@ -73,10 +73,10 @@ pub fn down(
     place: Place,
     cells: &mut [u8],
     layer: &mut [u8],
-    marks: &mut [u8],
+    marks: &mut [u64],
 ) -> Place
     requires { ⌜ Ready frame place (now cells) (now layer) ⌝ }
-    requires { ⌜ length (now marks) ≡ 96 ⌝ }
+    requires { ⌜ length (now marks) ≡ 2 ⌝ }
     ensures { λ r. ⌜ (ActsWith down frame place r (now (cells .entry)) (now (layer .entry)) (now (marks .entry)) (now (cells .exit)) (now (layer .exit)) (now (marks .exit))) × (2 ≤ r .line) ⌝ }
 {
     if place.line < frame.lines {
@@ -93,10 +93,10 @@ pub fn right(
     place: Place,
     cells: &mut [u8],
     layer: &mut [u8],
-    marks: &mut [u8],
+    marks: &mut [u64],
 ) -> Place
     requires { ⌜ Ready frame place (now cells) (now layer) ⌝ }
-    requires { ⌜ length (now marks) ≡ 96 ⌝ }
+    requires { ⌜ length (now marks) ≡ 2 ⌝ }
     ensures { λ r. ⌜ ActsWith right frame place r (now (cells .entry)) (now (layer .entry)) (now (marks .entry)) (now (cells .exit)) (now (layer .exit)) (now (marks .exit)) ⌝ }
 {
     if place.column < frame.columns {
@@ -114,10 +114,10 @@ pub fn late_step(
     place: Place,
     cells: &mut [u8],
     layer: &mut [u8],
-    marks: &mut [u8],
+    marks: &mut [u64],
 ) -> Place
     requires { ⌜ Ready frame place (now cells) (now layer) ⌝ }
-    requires { ⌜ length (now marks) ≡ 96 ⌝ }
+    requires { ⌜ length (now marks) ≡ 2 ⌝ }
     ensures { λ r. ⌜ ActsWith lateStep frame place r (now (cells .entry)) (now (layer .entry)) (now (marks .entry)) (now (cells .exit)) (now (layer .exit)) (now (marks .exit)) ⌝ }
 {
     if place.late == 1 {
@@ -129,9 +129,15 @@ pub fn late_step(
 
 // The step to column 1 of the next line, the one step of both rules, and "the mark on the line left": after the step, or a lift, that is
 // the line above.
-fn onward(frame: Frame, place: Place, cells: &mut [u8], layer: &mut [u8], marks: &mut [u8]) -> Place
+fn onward(
+    frame: Frame,
+    place: Place,
+    cells: &mut [u8],
+    layer: &mut [u8],
+    marks: &mut [u64],
+) -> Place
     requires { ⌜ Ready frame place (now cells) (now layer) ⌝ }
-    requires { ⌜ length (now marks) ≡ 96 ⌝ }
+    requires { ⌜ length (now marks) ≡ 2 ⌝ }
     ensures { λ r. ⌜ ActsWith onward frame place r (now (cells .entry)) (now (layer .entry)) (now (marks .entry)) (now (cells .exit)) (now (layer .exit)) (now (marks .exit)) ⌝ }
 {
     let first = places::put_at(place, place.line, 1);

@@ -8,7 +8,7 @@ use lib.ListN.{take}
 use Rattle.model.specs.Bytes.{blanked, joined, onPart, put, scrolledDown, scrolledUp}
 use Rattle.model.specs.Checks.{firstBad, inRanges?, member, passes}
 use Rattle.model.specs.Screens.{base, cellAt, columnsOf, height, lineAt, linesOf, placeOf, size, textRows, screens}
-use Rattle.model.specs.Marks.{endOf, endUnmarked, listed, markOf, marked?, marksDown, marksUp, running, runningOn, unmarkedFrom}
+use Rattle.model.specs.Marks.{endOf, endUnmarked, markOf, marked?, marksDown, marksUp, numbered, running, runningOn, unmarkedFrom}
 use Rattle.model.specs.Line.{line?, padded, zeros?}
 use Rattle.model.specs.Sound.{arrayRanges, inside?, insideRanges, keyRanges, marks?, otherRanges, plainRanges, shapeRanges, sound?, aloneRanges, second?}
 use Rattle.model.specs.Picture.{copied, copiedRows, covered, halves, painting, picture, pictureAt, sides, textAt, under, windowAt, copySizeOf, dotCopy, pictureCopy}
@@ -38,16 +38,16 @@ use Rattle.examples.proofs.Computing.{allComputed, answered, copiedBy, 
 use Rattle.calls.proofs.ByRows.{below, byRows, overlaid, row, rowsFrom}
 
 pub examples : allComputed (provedRows ++ (otherRows ++ (added ++ (parameters ++ loadCurve)))) ≡ true
-unfolding copySizeOf dotCopy pictureCopy withDots dotsCleared weight dotAt withDot acted longer shorter flat offsetAt strokePlaced lineDot maskBit stepped drawn stroke idle? judgedRanges screens aloneRanges second? joined onPart blanked scrolledUp scrolledDown put member passes inRanges? firstBad linesOf columnsOf placeOf textRows height base size lineAt cellAt keyRanges plainRanges arrayRanges insideRanges shapeRanges otherRanges inside? zeros? line? markOf marked? marks? sound? windowAt halves sides textAt under covered pictureAt picture painting copiedRows copied find rowOf modeRowOf afterMode afterEscape needed unfinished? gathered remaining kindOf decoded ended itemOf byteOf legal? badOf allowed fitting withSettings withCells withLayer placed emptied shownAt emptyAt cover stored onLines listed remarked lifted down toColumn runningOn runsOn onward right lateStep topped held centred nearest missed tracked trackedFar printed unmarkedFrom cleared control blankFrom running endOf erased marksUp marksDown endUnmarked shifted modeSet flagged displaying keyLine withKeys withKindPatterns obeyed applyItem readsOf happened applyAll copies countedAll itemBytes sized soundIn firstOf allFree reasons numberOf granted noneWaits countable keyable besideItems startOf takenBy readsBy eventsBy holds allHold provedRows otherRows added parameters loadCurve overlaid below row rowsFrom byRows left answered copiedBy servedRight refusedRight computedRight allComputed
+unfolding copySizeOf dotCopy pictureCopy withDots dotsCleared weight dotAt withDot acted longer shorter flat offsetAt strokePlaced lineDot maskBit stepped drawn stroke idle? judgedRanges screens aloneRanges second? joined onPart blanked scrolledUp scrolledDown put member passes inRanges? firstBad linesOf columnsOf placeOf textRows height base size lineAt cellAt keyRanges plainRanges arrayRanges insideRanges shapeRanges otherRanges inside? zeros? line? markOf marked? marks? sound? windowAt halves sides textAt under covered pictureAt picture painting copiedRows copied find rowOf modeRowOf afterMode afterEscape needed unfinished? gathered remaining kindOf decoded ended itemOf byteOf legal? badOf allowed fitting withSettings withCells withLayer placed emptied shownAt emptyAt cover stored onLines numbered remarked lifted down toColumn runningOn runsOn onward right lateStep topped held centred nearest missed tracked trackedFar printed unmarkedFrom cleared control blankFrom running endOf erased marksUp marksDown endUnmarked shifted modeSet flagged displaying keyLine withKeys withKindPatterns obeyed applyItem readsOf happened applyAll copies countedAll itemBytes sized soundIn firstOf allFree reasons numberOf granted noneWaits countable keyable besideItems startOf takenBy readsBy eventsBy holds allHold provedRows otherRows added parameters loadCurve overlaid below row rowsFrom byRows left answered copiedBy servedRight refusedRight computedRight allComputed
 examples = refl
 
 pub runs : computedRuns (streams ++ (keyLines ++ (logicalLines ++ (lateWraps ++ curveRuns)))) ≡ true
-unfolding copySizeOf dotCopy pictureCopy withDots dotsCleared weight dotAt withDot acted longer shorter flat offsetAt strokePlaced lineDot maskBit stepped drawn stroke idle? judgedRanges screens aloneRanges second? padded lined texted joined onPart blanked scrolledUp scrolledDown put member passes inRanges? firstBad linesOf columnsOf placeOf textRows height base size lineAt cellAt keyRanges plainRanges arrayRanges insideRanges shapeRanges otherRanges inside? zeros? line? markOf marked? marks? sound? windowAt halves sides textAt under covered pictureAt picture painting copiedRows copied find rowOf modeRowOf afterMode afterEscape needed unfinished? gathered remaining kindOf decoded ended itemOf byteOf legal? badOf allowed fitting withSettings withCells withLayer placed emptied shownAt emptyAt cover stored onLines listed remarked lifted down toColumn runningOn runsOn onward right lateStep topped held centred nearest missed tracked trackedFar printed unmarkedFrom cleared control blankFrom running endOf erased marksUp marksDown endUnmarked shifted modeSet flagged displaying keyLine withKeys withKindPatterns obeyed applyItem readsOf happened applyAll copies countedAll itemBytes sized soundIn firstOf allFree reasons numberOf granted noneWaits countable keyable besideItems startOf takenBy readsBy eventsBy holds allHold streams keyLines logicalLines lateWraps curveRuns overlaid below row rowsFrom byRows left answered copiedBy servedRight refusedRight computedTurns computedRuns
+unfolding copySizeOf dotCopy pictureCopy withDots dotsCleared weight dotAt withDot acted longer shorter flat offsetAt strokePlaced lineDot maskBit stepped drawn stroke idle? judgedRanges screens aloneRanges second? padded lined texted joined onPart blanked scrolledUp scrolledDown put member passes inRanges? firstBad linesOf columnsOf placeOf textRows height base size lineAt cellAt keyRanges plainRanges arrayRanges insideRanges shapeRanges otherRanges inside? zeros? line? markOf marked? marks? sound? windowAt halves sides textAt under covered pictureAt picture painting copiedRows copied find rowOf modeRowOf afterMode afterEscape needed unfinished? gathered remaining kindOf decoded ended itemOf byteOf legal? badOf allowed fitting withSettings withCells withLayer placed emptied shownAt emptyAt cover stored onLines numbered remarked lifted down toColumn runningOn runsOn onward right lateStep topped held centred nearest missed tracked trackedFar printed unmarkedFrom cleared control blankFrom running endOf erased marksUp marksDown endUnmarked shifted modeSet flagged displaying keyLine withKeys withKindPatterns obeyed applyItem readsOf happened applyAll copies countedAll itemBytes sized soundIn firstOf allFree reasons numberOf granted noneWaits countable keyable besideItems startOf takenBy readsBy eventsBy holds allHold streams keyLines logicalLines lateWraps curveRuns overlaid below row rowsFrom byRows left answered copiedBy servedRight refusedRight computedTurns computedRuns
 runs = refl
 
 -- "A piece takes all its bytes" is of the definition that these forms pass by
 pub first-run : allRun (take 1 streams) ≡ true
-unfolding copySizeOf dotCopy pictureCopy withDots dotsCleared weight dotAt withDot acted longer shorter flat offsetAt strokePlaced lineDot maskBit stepped drawn stroke idle? judgedRanges screens aloneRanges second? padded lined texted joined onPart blanked scrolledUp scrolledDown put member passes inRanges? firstBad linesOf columnsOf placeOf textRows height base size lineAt cellAt keyRanges plainRanges arrayRanges insideRanges shapeRanges otherRanges inside? zeros? line? markOf marked? marks? sound? windowAt halves sides textAt under covered pictureAt picture painting copiedRows copied find rowOf modeRowOf afterMode afterEscape needed unfinished? gathered remaining kindOf decoded ended itemOf byteOf legal? badOf allowed fitting withSettings withCells withLayer placed emptied shownAt emptyAt cover stored onLines listed remarked lifted down toColumn runningOn runsOn onward right lateStep topped held centred nearest missed tracked trackedFar printed unmarkedFrom cleared control blankFrom running endOf erased marksUp marksDown endUnmarked shifted modeSet flagged displaying keyLine withKeys withKindPatterns obeyed applyItem readsOf happened applyAll copies countedAll itemBytes sized soundIn firstOf allFree reasons numberOf granted noneWaits countable keyable besideItems startOf takenBy takenIn readsBy readsIn eventsBy eventsIn shownAfter served answerOf printedBy holds allHold turnsHold allRun streams
+unfolding copySizeOf dotCopy pictureCopy withDots dotsCleared weight dotAt withDot acted longer shorter flat offsetAt strokePlaced lineDot maskBit stepped drawn stroke idle? judgedRanges screens aloneRanges second? padded lined texted joined onPart blanked scrolledUp scrolledDown put member passes inRanges? firstBad linesOf columnsOf placeOf textRows height base size lineAt cellAt keyRanges plainRanges arrayRanges insideRanges shapeRanges otherRanges inside? zeros? line? markOf marked? marks? sound? windowAt halves sides textAt under covered pictureAt picture painting copiedRows copied find rowOf modeRowOf afterMode afterEscape needed unfinished? gathered remaining kindOf decoded ended itemOf byteOf legal? badOf allowed fitting withSettings withCells withLayer placed emptied shownAt emptyAt cover stored onLines numbered remarked lifted down toColumn runningOn runsOn onward right lateStep topped held centred nearest missed tracked trackedFar printed unmarkedFrom cleared control blankFrom running endOf erased marksUp marksDown endUnmarked shifted modeSet flagged displaying keyLine withKeys withKindPatterns obeyed applyItem readsOf happened applyAll copies countedAll itemBytes sized soundIn firstOf allFree reasons numberOf granted noneWaits countable keyable besideItems startOf takenBy takenIn readsBy readsIn eventsBy eventsIn shownAfter served answerOf printedBy holds allHold turnsHold allRun streams
 first-run = refl
 
 pub opens : openings ≡ true
@@ -55,7 +55,7 @@ unfolding openings openingNumber openedBy ruled sized
 opens = refl
 
 pub kept : dotsKept ≡ true
-unfolding copySizeOf dotCopy pictureCopy withDots dotsCleared weight dotAt withDot acted longer shorter flat offsetAt strokePlaced lineDot maskBit stepped drawn stroke idle? judgedRanges screens aloneRanges second? padded lined texted joined onPart blanked scrolledUp scrolledDown put member passes inRanges? firstBad linesOf columnsOf placeOf textRows height base size lineAt cellAt keyRanges plainRanges arrayRanges insideRanges shapeRanges otherRanges inside? zeros? line? markOf marked? marks? sound? windowAt halves sides textAt under covered pictureAt picture painting copiedRows copied find rowOf modeRowOf afterMode afterEscape needed unfinished? gathered remaining kindOf decoded ended itemOf byteOf legal? badOf allowed fitting withSettings withCells withLayer placed emptied shownAt emptyAt cover stored onLines listed remarked lifted down toColumn runningOn runsOn onward right lateStep topped held centred nearest missed tracked trackedFar printed unmarkedFrom cleared control blankFrom running endOf erased marksUp marksDown endUnmarked shifted modeSet flagged displaying keyLine withKeys withKindPatterns obeyed applyItem readsOf happened applyAll copies countedAll itemBytes sized soundIn firstOf allFree reasons numberOf granted noneWaits countable keyable besideItems startOf takenBy takenIn readsBy readsIn eventsBy eventsIn shownAfter served answerOf printedBy dotsKept
+unfolding copySizeOf dotCopy pictureCopy withDots dotsCleared weight dotAt withDot acted longer shorter flat offsetAt strokePlaced lineDot maskBit stepped drawn stroke idle? judgedRanges screens aloneRanges second? padded lined texted joined onPart blanked scrolledUp scrolledDown put member passes inRanges? firstBad linesOf columnsOf placeOf textRows height base size lineAt cellAt keyRanges plainRanges arrayRanges insideRanges shapeRanges otherRanges inside? zeros? line? markOf marked? marks? sound? windowAt halves sides textAt under covered pictureAt picture painting copiedRows copied find rowOf modeRowOf afterMode afterEscape needed unfinished? gathered remaining kindOf decoded ended itemOf byteOf legal? badOf allowed fitting withSettings withCells withLayer placed emptied shownAt emptyAt cover stored onLines numbered remarked lifted down toColumn runningOn runsOn onward right lateStep topped held centred nearest missed tracked trackedFar printed unmarkedFrom cleared control blankFrom running endOf erased marksUp marksDown endUnmarked shifted modeSet flagged displaying keyLine withKeys withKindPatterns obeyed applyItem readsOf happened applyAll copies countedAll itemBytes sized soundIn firstOf allFree reasons numberOf granted noneWaits countable keyable besideItems startOf takenBy takenIn readsBy readsIn eventsBy eventsIn shownAfter served answerOf printedBy dotsKept
 kept = refl
 
 pub stores : dotsSized ≡ true
@@ -63,7 +63,7 @@ unfolding dotsSized openedBy openingNumber sized firstOf reasons numberOf ruled 
 stores = refl
 
 pub packed : allPacked packRuns ≡ true
-unfolding copySizeOf dotCopy pictureCopy withDots dotsCleared weight dotAt withDot acted longer shorter flat offsetAt strokePlaced lineDot maskBit stepped drawn stroke idle? judgedRanges screens aloneRanges second? padded lined texted joined onPart blanked scrolledUp scrolledDown put member passes inRanges? firstBad linesOf columnsOf placeOf textRows height base size lineAt cellAt keyRanges plainRanges arrayRanges insideRanges shapeRanges otherRanges inside? zeros? line? markOf marked? marks? sound? windowAt halves sides textAt under covered pictureAt picture painting copiedRows copied find rowOf modeRowOf afterMode afterEscape needed unfinished? gathered remaining kindOf decoded ended itemOf byteOf legal? badOf allowed fitting withSettings withCells withLayer placed emptied shownAt emptyAt cover stored onLines listed remarked lifted down toColumn runningOn runsOn onward right lateStep topped held centred nearest missed tracked trackedFar printed unmarkedFrom cleared control blankFrom running endOf erased marksUp marksDown endUnmarked shifted modeSet flagged displaying keyLine withKeys withKindPatterns obeyed applyItem readsOf happened applyAll copies countedAll itemBytes sized soundIn firstOf allFree reasons numberOf granted noneWaits countable keyable besideItems startOf takenBy takenIn readsBy readsIn eventsBy eventsIn shownAfter served answerOf printedBy numberIn lengthIn kindIn bodyIn recordIn recordsAfter lacking uncut? all? bodiesOf known? packable knownIn sendableIn readsEach recordFrom recordOf holds allHold recordsHold allPacked packRuns
+unfolding copySizeOf dotCopy pictureCopy withDots dotsCleared weight dotAt withDot acted longer shorter flat offsetAt strokePlaced lineDot maskBit stepped drawn stroke idle? judgedRanges screens aloneRanges second? padded lined texted joined onPart blanked scrolledUp scrolledDown put member passes inRanges? firstBad linesOf columnsOf placeOf textRows height base size lineAt cellAt keyRanges plainRanges arrayRanges insideRanges shapeRanges otherRanges inside? zeros? line? markOf marked? marks? sound? windowAt halves sides textAt under covered pictureAt picture painting copiedRows copied find rowOf modeRowOf afterMode afterEscape needed unfinished? gathered remaining kindOf decoded ended itemOf byteOf legal? badOf allowed fitting withSettings withCells withLayer placed emptied shownAt emptyAt cover stored onLines numbered remarked lifted down toColumn runningOn runsOn onward right lateStep topped held centred nearest missed tracked trackedFar printed unmarkedFrom cleared control blankFrom running endOf erased marksUp marksDown endUnmarked shifted modeSet flagged displaying keyLine withKeys withKindPatterns obeyed applyItem readsOf happened applyAll copies countedAll itemBytes sized soundIn firstOf allFree reasons numberOf granted noneWaits countable keyable besideItems startOf takenBy takenIn readsBy readsIn eventsBy eventsIn shownAfter served answerOf printedBy numberIn lengthIn kindIn bodyIn recordIn recordsAfter lacking uncut? all? bodiesOf known? packable knownIn sendableIn readsEach recordFrom recordOf holds allHold recordsHold allPacked packRuns
 packed = refl
 
 pub pack-numbers : packNumbers ≡ true
@@ -71,13 +71,13 @@ unfolding packNumbers sized firstOf reasons numberOf soundIn noneWaits sound? se
 pack-numbers = refl
 
 pub pack-claims : packClaims ≡ true
-unfolding copySizeOf dotCopy pictureCopy withDots dotsCleared weight dotAt withDot acted longer shorter flat offsetAt strokePlaced lineDot maskBit stepped drawn stroke idle? judgedRanges screens aloneRanges second? padded lined texted joined onPart blanked scrolledUp scrolledDown put member passes inRanges? firstBad linesOf columnsOf placeOf textRows height base size lineAt cellAt keyRanges plainRanges arrayRanges insideRanges shapeRanges otherRanges inside? zeros? line? markOf marked? marks? sound? windowAt halves sides textAt under covered pictureAt picture painting copiedRows copied find rowOf modeRowOf afterMode afterEscape needed unfinished? gathered remaining kindOf decoded ended itemOf byteOf legal? badOf allowed fitting withSettings withCells withLayer placed emptied shownAt emptyAt cover stored onLines listed remarked lifted down toColumn runningOn runsOn onward right lateStep topped held centred nearest missed tracked trackedFar printed unmarkedFrom cleared control blankFrom running endOf erased marksUp marksDown endUnmarked shifted modeSet flagged displaying keyLine withKeys withKindPatterns obeyed applyItem readsOf happened applyAll copies countedAll itemBytes sized soundIn firstOf allFree reasons numberOf granted noneWaits countable keyable besideItems startOf takenBy takenIn readsBy readsIn eventsBy eventsIn shownAfter served answerOf printedBy numberIn lengthIn kindIn bodyIn recordIn recordsAfter lacking uncut? all? bodiesOf known? packable knownIn sendableIn readsEach claims claimedBy claimed packClaims
+unfolding copySizeOf dotCopy pictureCopy withDots dotsCleared weight dotAt withDot acted longer shorter flat offsetAt strokePlaced lineDot maskBit stepped drawn stroke idle? judgedRanges screens aloneRanges second? padded lined texted joined onPart blanked scrolledUp scrolledDown put member passes inRanges? firstBad linesOf columnsOf placeOf textRows height base size lineAt cellAt keyRanges plainRanges arrayRanges insideRanges shapeRanges otherRanges inside? zeros? line? markOf marked? marks? sound? windowAt halves sides textAt under covered pictureAt picture painting copiedRows copied find rowOf modeRowOf afterMode afterEscape needed unfinished? gathered remaining kindOf decoded ended itemOf byteOf legal? badOf allowed fitting withSettings withCells withLayer placed emptied shownAt emptyAt cover stored onLines numbered remarked lifted down toColumn runningOn runsOn onward right lateStep topped held centred nearest missed tracked trackedFar printed unmarkedFrom cleared control blankFrom running endOf erased marksUp marksDown endUnmarked shifted modeSet flagged displaying keyLine withKeys withKindPatterns obeyed applyItem readsOf happened applyAll copies countedAll itemBytes sized soundIn firstOf allFree reasons numberOf granted noneWaits countable keyable besideItems startOf takenBy takenIn readsBy readsIn eventsBy eventsIn shownAfter served answerOf printedBy numberIn lengthIn kindIn bodyIn recordIn recordsAfter lacking uncut? all? bodiesOf known? packable knownIn sendableIn readsEach claims claimedBy claimed packClaims
 pack-claims = refl
 
 pub short-looks : allLooks shortLooks ≡ true
-unfolding copySizeOf dotCopy pictureCopy withDots dotsCleared weight dotAt withDot acted longer shorter flat offsetAt strokePlaced lineDot maskBit stepped drawn stroke idle? judgedRanges screens aloneRanges second? padded lined texted joined onPart blanked scrolledUp scrolledDown put member passes inRanges? firstBad linesOf columnsOf placeOf textRows height base size lineAt cellAt keyRanges plainRanges arrayRanges insideRanges shapeRanges otherRanges inside? zeros? line? markOf marked? marks? sound? windowAt halves sides textAt under covered pictureAt picture painting copiedRows copied find rowOf modeRowOf afterMode afterEscape needed unfinished? gathered remaining kindOf decoded ended itemOf byteOf legal? badOf allowed fitting withSettings withCells withLayer placed emptied shownAt emptyAt cover stored onLines listed remarked lifted down toColumn runningOn runsOn onward right lateStep topped held centred nearest missed tracked trackedFar printed unmarkedFrom cleared control blankFrom running endOf erased marksUp marksDown endUnmarked shifted modeSet flagged displaying keyLine withKeys withKindPatterns obeyed applyItem readsOf happened applyAll copies countedAll itemBytes sized soundIn firstOf allFree reasons numberOf granted noneWaits countable keyable besideItems startOf takenBy takenIn readsBy readsIn eventsBy eventsIn shownAfter served answerOf printedBy calm? lowest? printLifts? lifts? movesTop? wide? printPlace placeBy wideIn placesIn painted? repainted sighted allSighted afterAll allLooks shortLooks
+unfolding copySizeOf dotCopy pictureCopy withDots dotsCleared weight dotAt withDot acted longer shorter flat offsetAt strokePlaced lineDot maskBit stepped drawn stroke idle? judgedRanges screens aloneRanges second? padded lined texted joined onPart blanked scrolledUp scrolledDown put member passes inRanges? firstBad linesOf columnsOf placeOf textRows height base size lineAt cellAt keyRanges plainRanges arrayRanges insideRanges shapeRanges otherRanges inside? zeros? line? markOf marked? marks? sound? windowAt halves sides textAt under covered pictureAt picture painting copiedRows copied find rowOf modeRowOf afterMode afterEscape needed unfinished? gathered remaining kindOf decoded ended itemOf byteOf legal? badOf allowed fitting withSettings withCells withLayer placed emptied shownAt emptyAt cover stored onLines numbered remarked lifted down toColumn runningOn runsOn onward right lateStep topped held centred nearest missed tracked trackedFar printed unmarkedFrom cleared control blankFrom running endOf erased marksUp marksDown endUnmarked shifted modeSet flagged displaying keyLine withKeys withKindPatterns obeyed applyItem readsOf happened applyAll copies countedAll itemBytes sized soundIn firstOf allFree reasons numberOf granted noneWaits countable keyable besideItems startOf takenBy takenIn readsBy readsIn eventsBy eventsIn shownAfter served answerOf printedBy calm? lowest? printLifts? lifts? movesTop? wide? printPlace placeBy wideIn placesIn painted? repainted sighted allSighted afterAll allLooks shortLooks
 short-looks = refl
 
 pub short-claims : shortClaims ≡ true
-unfolding copySizeOf dotCopy pictureCopy withDots dotsCleared weight dotAt withDot acted longer shorter flat offsetAt strokePlaced lineDot maskBit stepped drawn stroke idle? judgedRanges screens aloneRanges second? padded lined texted joined onPart blanked scrolledUp scrolledDown put member passes inRanges? firstBad linesOf columnsOf placeOf textRows height base size lineAt cellAt keyRanges plainRanges arrayRanges insideRanges shapeRanges otherRanges inside? zeros? line? markOf marked? marks? sound? windowAt halves sides textAt under covered pictureAt picture painting copiedRows copied find rowOf modeRowOf afterMode afterEscape needed unfinished? gathered remaining kindOf decoded ended itemOf byteOf legal? badOf allowed fitting withSettings withCells withLayer placed emptied shownAt emptyAt cover stored onLines listed remarked lifted down toColumn runningOn runsOn onward right lateStep topped held centred nearest missed tracked trackedFar printed unmarkedFrom cleared control blankFrom running endOf erased marksUp marksDown endUnmarked shifted modeSet flagged displaying keyLine withKeys withKindPatterns obeyed applyItem readsOf happened applyAll copies countedAll itemBytes sized soundIn firstOf allFree reasons numberOf granted noneWaits countable keyable besideItems startOf takenBy takenIn readsBy readsIn eventsBy eventsIn shownAfter served answerOf printedBy claims claimedBy claimed shortClaims
+unfolding copySizeOf dotCopy pictureCopy withDots dotsCleared weight dotAt withDot acted longer shorter flat offsetAt strokePlaced lineDot maskBit stepped drawn stroke idle? judgedRanges screens aloneRanges second? padded lined texted joined onPart blanked scrolledUp scrolledDown put member passes inRanges? firstBad linesOf columnsOf placeOf textRows height base size lineAt cellAt keyRanges plainRanges arrayRanges insideRanges shapeRanges otherRanges inside? zeros? line? markOf marked? marks? sound? windowAt halves sides textAt under covered pictureAt picture painting copiedRows copied find rowOf modeRowOf afterMode afterEscape needed unfinished? gathered remaining kindOf decoded ended itemOf byteOf legal? badOf allowed fitting withSettings withCells withLayer placed emptied shownAt emptyAt cover stored onLines numbered remarked lifted down toColumn runningOn runsOn onward right lateStep topped held centred nearest missed tracked trackedFar printed unmarkedFrom cleared control blankFrom running endOf erased marksUp marksDown endUnmarked shifted modeSet flagged displaying keyLine withKeys withKindPatterns obeyed applyItem readsOf happened applyAll copies countedAll itemBytes sized soundIn firstOf allFree reasons numberOf granted noneWaits countable keyable besideItems startOf takenBy takenIn readsBy readsIn eventsBy eventsIn shownAfter served answerOf printedBy claims claimedBy claimed shortClaims
 short-claims = refl

@@ -1,5 +1,5 @@
 -- Document 02, P11, by examples: one message each, from an opening, most behind 27,208,3; and several calls one after the other.
-use Prim.Native.Nat.{ℕ, _+_}
+use Prim.Native.Nat.{ℕ, _+_, _-_, _^_}
 use mathlib.Core.Bool.{Bool, _&&_}
 use mathlib.Core.List.{List, [], _∷_, _++_}
 use lib.ListN.{getD, length, replicate, set}
@@ -98,9 +98,9 @@ set3 = withMode3 (openedSettings 1)
 abbrev unsound : Settings → Run
 unsound s = fromSettings s (turn (message []) (refusedBy 3 ∷ []) ∷ [])
 
--- mark i of the 96 set there
-abbrev marked3 : ℕ → Settings
-marked3 i = withMarks set3 (set (replicate 96 0) i 1)
+-- line l of screen k marked there
+abbrev marked3 : ℕ → ℕ → Settings
+marked3 k l = withMarks set3 (set (replicate 2 0) (k - 1) (2 ^ (l - 1)))
 
 -- under rule 2 line 1 runs on, and the cursor is late at the end of line 2
 abbrev overAndWaiting : List ℕ
@@ -122,9 +122,9 @@ curveRuns =
     ∷ unsound (withPlaces set3 (home ∷ lateAt home ∷ []))
     ∷ unsound (withMode (withStored (openedSettings 1) 3 openedKeys (replicate 248 0)) 3 8 8 80 80 32)
     -- P5: screen 2 has no line to mark, and screen 1's last is its eighth
-    ∷ unsound (marked3 48)
-    ∷ unsound (marked3 7)
-    ∷ fromSettings (marked3 6) (turn (message []) (counts 0 0 0 0 ∷ runOn 1 (7 ∷ []) ∷ []) ∷ [])
+    ∷ unsound (marked3 2 1)
+    ∷ unsound (marked3 1 8)
+    ∷ fromSettings (marked3 1 7) (turn (message []) (counts 0 0 0 0 ∷ runOn 1 (7 ∷ []) ∷ []) ∷ [])
     -- P9: screen 1's cursor may wait there; 208,3 clears both flags (and, P5, all marks) and keeps the rule
     ∷ fromSettings (withPlaces (withMode3 (openedSettings 2)) (lateAt (putAt 1 80 home) ∷ home ∷ [])) (turn (message []) (counts 0 0 0 0 ∷ flags 1 0 2 ∷ []) ∷ [])
     ∷ fromSettings (openedSettings 2) (turn (message (overAndWaiting ++ (27 ∷ 209 ∷ 1 ∷ overAndWaiting))) (flags 1 1 2 ∷ runOn 1 (1 ∷ []) ∷ runOn 2 (1 ∷ []) ∷ [])

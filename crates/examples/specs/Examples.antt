@@ -10,7 +10,7 @@ use Rattle.model.specs.declared.Answer.{Answer}
 use Rattle.model.specs.Bytes.{listFrom}
 use Rattle.model.specs.Checks.{member}
 use Rattle.model.specs.Line.{padded}
-use Rattle.model.specs.Marks.{marksOf}
+use Rattle.model.specs.Marks.{marksOf, numbered}
 use Rattle.model.specs.Screens.{linesOf, columnsOf, placeOf, cellAt}
 use Rattle.calls.specs.Calls.{Terminal, Request, request, message, served, answerOf, printedBy}
 use Rattle.calls.specs.Opening.{openedTerminal}
@@ -94,7 +94,7 @@ holds (pattern c r b) d w bs = eqb (getD (d .state .settings .patterns) ((c - 22
 holds (refusedBy n) d w bs = eqb (w .number) n && eqb (w .taken) 0 && eqb (w .accepted) 0 && eqb (w .refused) 0 && eqb (w .first) 0 && eqb (w .offset) 0 && eqb (w .printed) 0 && eqb (length bs) 0
 holds (waits v n) d w bs = let s = d .state .settings in same? (s .waiting) (padded v) && eqb (s .held) (length v) && eqb (s .count) n
 holds (text k x) d w bs = same? (take 8 (drop ((k - 1) * 8) (d .state .settings .texts))) x
-holds (runOn k ls) d w bs = same? (marksOf (d .state .settings) (k - 1)) (listFrom (λ l. cond (member l ls) 1 0) 1 48)
+holds (runOn k ls) d w bs = eqb (marksOf (d .state .settings) (k - 1)) (numbered (λ l. cond (member l ls) 1 0) 1 48)
 holds (flags a b r) d w bs = let s = d .state .settings in eqb (placeOf s 0 .late) a && eqb (placeOf s 1 .late) b && eqb (s .rule) r
 holds (keySettings c s r a b h) d w bs = let k = d .state .settings .keys in eqb (k .charset) c && eqb (k .strings) s && eqb (k .repeat) r && eqb (k .delay) a && eqb (k .interval) b && eqb (k .shift) h
 holds (dotByte n b) d w bs = eqb (getD (d .state .dots) n 0) b

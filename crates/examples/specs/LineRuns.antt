@@ -1,5 +1,5 @@
 -- Document 02, P5, by examples: the plan's rows by their numbers (8 is must-fail/ of the crate `model`), then rows of ours. A mark is made from bytes.
-use Prim.Native.Nat.{ℕ, _+_}
+use Prim.Native.Nat.{ℕ, _+_, _-_, _^_}
 use mathlib.Core.List.{List, [], _∷_, _++_}
 use lib.ListN.{replicate, set}
 use Rattle.model.specs.State.{openedSettings, withMarks}
@@ -23,9 +23,9 @@ told m fs = turn (message m) fs
 abbrev once : List ℕ → List Fact → Run
 once m fs = fromOpening (told m fs ∷ [])
 
--- from the opening settings with mark x at place i of the 96
+-- from the opening settings with the mark of line l of screen k
 abbrev fromMark : ℕ → ℕ → List Turn → Run
-fromMark i x = fromSettings (withMarks (openedSettings 1) (set (replicate 96 0) i x))
+fromMark k l = fromSettings (withMarks (openedSettings 1) (set (replicate 2 0) (k - 1) (2 ^ (l - 1))))
 
 -- the plan's rows, and ours
 unfoldable pub logicalLines : List Run
@@ -55,12 +55,12 @@ logicalLines =
     ∷ once (wrap 1 ++ (wrap 2 ++ (wrap 3 ++ (to 24 ++ (10 ∷ []))))) (runOn 1 (1 ∷ 2 ∷ []) ∷ cursorAt 24 1 ∷ cell 1 2 80 65 ∷ cell 1 3 80 32 ∷ [])
     -- 6: a screen of one column
     ∷ once (27 ∷ 208 ∷ 2 ∷ 8 ∷ 1 ∷ 35 ∷ 65 ∷ 66 ∷ []) (columns 1 78 ∷ runOn 1 (1 ∷ 2 ∷ []) ∷ runOn 2 [] ∷ cursorAt 3 1 ∷ [])
-    -- 7: unsound marks: on the last line, beyond it, 2, on screen 2's last line; and a sound one
-    ∷ fromMark 23 1 (told [] (refusedBy 3 ∷ []) ∷ [])
-    ∷ fromMark 47 1 (told [] (refusedBy 3 ∷ []) ∷ [])
-    ∷ fromMark 0 2 (told [] (refusedBy 3 ∷ []) ∷ [])
-    ∷ fromMark 71 1 (told [] (refusedBy 3 ∷ []) ∷ [])
-    ∷ fromMark 70 1 (told [] (counts 0 0 0 0 ∷ runOn 1 [] ∷ runOn 2 (23 ∷ []) ∷ []) ∷ [])
+    -- 7: unsound marks: on the last line, beyond it, beyond any line, on screen 2's last line; and a sound one
+    ∷ fromMark 1 24 (told [] (refusedBy 3 ∷ []) ∷ [])
+    ∷ fromMark 1 48 (told [] (refusedBy 3 ∷ []) ∷ [])
+    ∷ fromMark 1 64 (told [] (refusedBy 3 ∷ []) ∷ [])
+    ∷ fromMark 2 24 (told [] (refusedBy 3 ∷ []) ∷ [])
+    ∷ fromMark 2 23 (told [] (counts 0 0 0 0 ∷ runOn 1 [] ∷ runOn 2 (23 ∷ []) ∷ []) ∷ [])
     -- 37 in the last column too; 8, 10, 13, 61, 209 and printing elsewhere in the line keep the mark
     ∷ once (27 ∷ 61 ∷ 32 ∷ 111 ∷ 27 ∷ 37 ∷ 7 ∷ []) (runOn 1 (1 ∷ []) ∷ cursorAt 2 1 ∷ [])
     ∷ once (wrap 1 ++ (8 ∷ 13 ∷ 10 ∷ to 1 ++ (66 ∷ 27 ∷ 209 ∷ 1 ∷ 27 ∷ 209 ∷ 0 ∷ []))) (runOn 1 (1 ∷ []) ∷ cell 1 1 1 66 ∷ [])

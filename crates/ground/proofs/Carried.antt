@@ -1,6 +1,6 @@
 -- Laws of ActsWith, which speaks of the marks as well, from those of Acts.
 use mathlib.Core.Path.{_∙_, _≡_, ap, refl, subst, sym}
-use Prim.Native.Nat.{_*_, ℕ}
+use Prim.Native.Nat.{ℕ}
 use mathlib.Core.Bool.{Bool, cond, false, true}
 use mathlib.Core.List.{List}
 use lib.ListN.{length}
@@ -16,6 +16,7 @@ use Rattle.ground.specs.declared.Frame.{Frame}
 use Rattle.ground.specs.Frame.{Framed, Ready}
 use Rattle.ground.specs.Acts.{Acts, ActsAbove, ActsWith, Reads, exceptDots, withHere}
 use Rattle.ground.specs.Logical.{Remarks}
+use Rattle.ground.proofs.LogicalLaws.{remarks-length}
 use Rattle.ground.proofs.Acting.{framed-placed, placed-there, same-place, still}
 
 -- a frame looks at no mark
@@ -27,7 +28,7 @@ framed-here p m e = let d = framed-placed p e in record {
   lines-are = d .lines-are;
   columns-are = d .columns-are;
   base-is = d .base-is;
-  first-is = d .first-is;
+  screen-is = d .screen-is;
   rows-are = d .rows-are;
   height-is = d .height-is;
   shift-is = d .shift-is;
@@ -49,7 +50,7 @@ carried-here {s} {p = p} {r = r} {m = m} {c′ = c′} {l′ = l′} {m′ = m�
     a .does (withHere s p m) ds (framed-here p m e) (placed-there p e) refl ∙ ap (λ (ps : List Place). state (withMarks (withPlaces s ps) m′) c′ l′ ds) (set-set (s .places) (s .selected) p r)
 
 -- what is done to the cells and the layer leaves the marks
-pub unmarked-acts : {rule : State → State} {f : Frame} {p r : Place} {c l m c′ l′ : List ℕ} → length m ≡ 96 → Acts rule f p r c l c′ l′ → ActsWith rule f p r c l m c′ l′ m
+pub unmarked-acts : {rule : State → State} {f : Frame} {p r : Place} {c l m c′ l′ : List ℕ} → length m ≡ 2 → Acts rule f p r c l c′ l′ → ActsWith rule f p r c l m c′ l′ m
 unmarked-acts {r = r} {c′ = c′} {l′ = l′} n a = record { does = λ s ds e h k. a .does s ds e h ∙ ap (λ (x : List ℕ). state (withHere s r x) c′ l′ ds) k; ready = a .ready; marks-are = n }
 
 module _ {f : Frame} {p q : Place} {c l m c₁ l₁ m₁ : List ℕ} where
@@ -77,19 +78,19 @@ module _ {f : Frame} {p q : Place} {c l m c₁ l₁ m₁ : List ℕ} where
   when-false-with {two = two} one h a = likewise-with (λ s ds e i k. ap (λ (b : Bool). cond b (one (state s c l ds)) (two (state s c l ds))) (h (state s c l ds) e i)) a
 
 module _ {f : Frame} {p : Place} {c l m : List ℕ} (h : Ready f p c l) where
-  pub still-with : length m ≡ 96 → ActsWith (λ (st : State). st) f p p c l m c l m
+  pub still-with : length m ≡ 2 → ActsWith (λ (st : State). st) f p p c l m c l m
   still-with n = unmarked-acts n (still h)
 
   -- other marks of the screen's lines
-  pub remarked-acts : {m′ : List ℕ} (rule : (ℕ → ℕ) → ℕ → ℕ) → length m ≡ 96 → Remarks (f .first) rule m m′ → ActsWith (remarked rule) f p p c l m c l m′
+  pub remarked-acts : {m′ : List ℕ} (rule : (ℕ → ℕ) → ℕ → ℕ) → length m ≡ 2 → Remarks (f .screen) rule m m′ → ActsWith (remarked rule) f p p c l m c l m′
   unfolding remarked withSettings markOf
   remarked-acts {m′} rule n w = record {
     does = λ s ds e i k.
-        let v : Remarks (48 * s .selected) rule (s .marks) m′ = subst (λ (x : List ℕ). Remarks (48 * s .selected) rule x m′) (sym k) (subst (λ (x : ℕ). Remarks x rule m m′) (e .first-is) w) in
-        ap (λ (x : List ℕ). state (withMarks s x) c l ds) (marks-by rule (state s c l ds) (ap length k ∙ n) (e .selected-low) m′ (w .size ∙ n) (v .lines) (v .before) (v .behind))
+        let v : Remarks (s .selected) rule (s .marks) m′ = subst (λ (x : List ℕ). Remarks (s .selected) rule x m′) (sym k) (subst (λ (x : ℕ). Remarks x rule m m′) (e .screen-is) w) in
+        ap (λ (x : List ℕ). state (withMarks s x) c l ds) (marks-by rule (state s c l ds) (ap length k ∙ n) (e .selected-low) (v .number) (v .fits) (v .lines) ∙ sym (v .stored))
         ∙ ap (λ (x : Settings). state (withMarks x m′) c l ds) (sym (same-place s p i));
     ready = h;
-    marks-are = w .size ∙ n;
+    marks-are = remarks-length w ∙ n;
   }
 
 -- what a rule that leaves the dots does, it does with the dots set aside too

@@ -19,7 +19,7 @@ use Rattle.ground.proofs.Rows.{empty-at-bare}
 
 -- another place of the same frame
 pub moved : {f : Frame} {p r : Place} → Stands f p → Fits (f .rule) (f .lines) (f .columns) (f .height) r → Stands f r
-moved h k = record { among = h .among; columns-low = h .columns-low; marks-among = h .marks-among; lines-high = h .lines-high; height-low = h .height-low; height-high = h .height-high; whole = h .whole; step-high = h .step-high; fits = k }
+moved h k = record { among = h .among; columns-low = h .columns-low; screen-low = h .screen-low; lines-high = h .lines-high; height-low = h .height-low; height-high = h .height-high; whole = h .whole; step-high = h .step-high; fits = k }
 
 pub put-stands : {f : Frame} {p r : Place} {line column : ℕ} → Stands f p → 1 ≤ line → line ≤ f .lines → 1 ≤ column → column ≤ f .columns → r ≡ putAt line column p → Stands f r
 put-stands h a b c d k = rw k (moved h (record { line-low = a; line-high = b; column-low = c; column-high = d; top-low = h .fits .top-low; top-high = h .fits .top-high; waits = omega arith }))

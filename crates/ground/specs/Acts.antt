@@ -30,7 +30,7 @@ withHere s r marks = withMarks (withPlace s r) marks
 pub record ActsWith (rule : State → State) (f : Frame) (p r : Place) (cells layer marks cells′ layer′ marks′ : List ℕ) : Type 0 where
   pub does : (s : Settings) (dots : List ℕ) → Framed s f → placeOf s (s .selected) ≡ p → s .marks ≡ marks → rule (state s cells layer dots) ≡ state (withHere s r marks′) cells′ layer′ dots
   pub ready : Ready f r cells′ layer′
-  pub marks-are : length marks′ ≡ 96
+  pub marks-are : length marks′ ≡ 2
 
 -- the same of a function that is lent the layer alone: the cells stay, whatever they are
 abbrev pub ActsAbove : (State → State) → Frame → Place → Place → List ℕ → List ℕ → Type 0

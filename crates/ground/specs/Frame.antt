@@ -21,7 +21,7 @@ pub record Framed (s : Settings) (f : Frame) : Type 0 where
   pub lines-are : f .lines ≡ linesOf s (s .selected)
   pub columns-are : f .columns ≡ columnsOf s (s .selected)
   pub base-is : f .base ≡ base s (s .selected)
-  pub first-is : f .first ≡ 48 * s .selected
+  pub screen-is : f .screen ≡ s .selected
   pub rows-are : f .rows ≡ textRows s
   pub height-is : f .height ≡ height s
   pub shift-is : f .shift ≡ cond (eqb (s .mode) 2 && eqb (s .selected) 1) (s .columns1 + 1) 0
@@ -30,12 +30,12 @@ pub record Framed (s : Settings) (f : Frame) : Type 0 where
   pub rule-is : f .rule ≡ s .rule
   pub mode-is : f .mode ≡ s .mode
 
--- the screen of f lies among the cells and its marks among the marks, its window is no taller than it and in mode 3 (P11) as tall, and p is a
+-- the screen of f is one of two and lies among the cells, its window is no taller than it and in mode 3 (P11) as tall, and p is a
 -- place of it
 pub record Stands (f : Frame) (p : Place) : Type 0 where
   pub among : f .base + f .lines * f .columns ≤ 3840
   pub columns-low : 1 ≤ f .columns
-  pub marks-among : f .first + 48 ≤ 96
+  pub screen-low : f .screen < 2
   pub lines-high : f .lines ≤ 48
   pub height-low : 2 ≤ f .height
   pub height-high : f .height ≤ f .lines

@@ -8,13 +8,13 @@ ghost use mathlib.Core.Path.{_≡_};
 ghost use Prim.Native.Nat.{_*_, _<_};
 use store::sizes::as_size;
 
-// Of the selected screen: its first cell, its first mark, its lines and columns; the rows of the shown screen that show text and the window's height H; by
+// Of the selected screen: its first cell, which screen it is (0 or 1), its lines and columns; the rows of the shown screen that show text and the window's height H; by
 // how many columns the picture shows it further right (mode 2, screen 2); the step of the window, whether it tracks the cursor, the rule of the last column, and
 // the mode, which no function here asks.
 // `bare` is no setting: it says that the layer is known to be empty, so that it need not be emptied again.
 pub struct Frame {
     pub base: usize,
-    pub first: usize,
+    pub screen: usize,
     pub lines: u8,
     pub columns: u8,
     pub rows: u8,

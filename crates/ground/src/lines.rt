@@ -59,9 +59,9 @@ fn scroll(
 }
 
 // A lift: the whole screen goes up, and its marks with it, which are moved first: it was a little quicker so.
-pub fn lift(frame: Frame, place: Place, cells: &mut [u8], layer: &mut [u8], marks: &mut [u8])
+pub fn lift(frame: Frame, place: Place, cells: &mut [u8], layer: &mut [u8], marks: &mut [u64])
     requires { ⌜ Ready frame place (now cells) (now layer) ⌝ }
-    requires { ⌜ length (now marks) ≡ 96 ⌝ }
+    requires { ⌜ length (now marks) ≡ 2 ⌝ }
     ensures { λ _. ⌜ ActsWith lifted frame place place (now (cells .entry)) (now (layer .entry)) (now (marks .entry)) (now (cells .exit)) (now (layer .exit)) (now (marks .exit)) ⌝ }
 {
     logical::carry(frame, UP, 0, frame.lines, marks);
@@ -77,10 +77,10 @@ pub fn shift(
     count: u8,
     cells: &mut [u8],
     layer: &mut [u8],
-    marks: &mut [u8],
+    marks: &mut [u64],
 )
     requires { ⌜ Ready frame place (now cells) (now layer) ⌝ }
-    requires { ⌜ length (now marks) ≡ 96 ⌝ }
+    requires { ⌜ length (now marks) ≡ 2 ⌝ }
     requires { ⌜ (1 ≤ count) × (from + count ≤ frame .lines) ⌝ }
     ensures { λ _. ⌜ ActsWith (λ (st : State). shifted from count (cond down scrolledDown scrolledUp (columnsHere st)) (carried down from count) st) frame place place (now (cells .entry)) (now (layer .entry)) (now (marks .entry)) (now (cells .exit)) (now (layer .exit)) (now (marks .exit)) ⌝ }
 {
@@ -95,10 +95,10 @@ pub fn clear(
     place: Place,
     cells: &mut [u8],
     layer: &mut [u8],
-    marks: &mut [u8],
+    marks: &mut [u64],
 ) -> Place
     requires { ⌜ Ready frame place (now cells) (now layer) ⌝ }
-    requires { ⌜ length (now marks) ≡ 96 ⌝ }
+    requires { ⌜ length (now marks) ≡ 2 ⌝ }
     ensures { λ r. ⌜ ActsWith (exceptDots cleared) frame place r (now (cells .entry)) (now (layer .entry)) (now (marks .entry)) (now (cells .exit)) (now (layer .exit)) (now (marks .exit)) ⌝ }
 {
     store::blank(cells, frame.base, times(frame.lines, frame.columns));
@@ -125,10 +125,10 @@ fn erase_through(
     to: u8,
     cells: &mut [u8],
     layer: &mut [u8],
-    marks: &mut [u8],
+    marks: &mut [u64],
 )
     requires { ⌜ Ready frame place (now cells) (now layer) ⌝ }
-    requires { ⌜ length (now marks) ≡ 96 ⌝ }
+    requires { ⌜ length (now marks) ≡ 2 ⌝ }
     requires { ⌜ (place .line ≤ to) × (to ≤ frame .lines) ⌝ }
     ensures { λ _. ⌜ ActsWith (erased to) frame place place (now (cells .entry)) (now (layer .entry)) (now (marks .entry)) (now (cells .exit)) (now (layer .exit)) (now (marks .exit)) ⌝ }
 {
@@ -139,9 +139,9 @@ fn erase_through(
 }
 
 // 84: "blanks through the first unmarked line at or after the cursor's".
-pub fn erase_line(frame: Frame, place: Place, cells: &mut [u8], layer: &mut [u8], marks: &mut [u8])
+pub fn erase_line(frame: Frame, place: Place, cells: &mut [u8], layer: &mut [u8], marks: &mut [u64])
     requires { ⌜ Ready frame place (now cells) (now layer) ⌝ }
-    requires { ⌜ length (now marks) ≡ 96 ⌝ }
+    requires { ⌜ length (now marks) ≡ 2 ⌝ }
     ensures { λ _. ⌜ ActsWith (λ (st : State). erased (endOf (marksHere st) (linesHere st) (here st .line)) st) frame place place (now (cells .entry)) (now (layer .entry)) (now (marks .entry)) (now (cells .exit)) (now (layer .exit)) (now (marks .exit)) ⌝ }
 {
     let to = logical::end_of(frame, place.line, marks);
@@ -149,9 +149,9 @@ pub fn erase_line(frame: Frame, place: Place, cells: &mut [u8], layer: &mut [u8]
 }
 
 // 89: "to the end of the screen".
-pub fn erase_rest(frame: Frame, place: Place, cells: &mut [u8], layer: &mut [u8], marks: &mut [u8])
+pub fn erase_rest(frame: Frame, place: Place, cells: &mut [u8], layer: &mut [u8], marks: &mut [u64])
     requires { ⌜ Ready frame place (now cells) (now layer) ⌝ }
-    requires { ⌜ length (now marks) ≡ 96 ⌝ }
+    requires { ⌜ length (now marks) ≡ 2 ⌝ }
     ensures { λ _. ⌜ ActsWith (λ (st : State). erased (linesHere st) st) frame place place (now (cells .entry)) (now (layer .entry)) (now (marks .entry)) (now (cells .exit)) (now (layer .exit)) (now (marks .exit)) ⌝ }
 {
     erase_through(frame, place, frame.lines, cells, layer, marks);

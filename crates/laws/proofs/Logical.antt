@@ -18,8 +18,8 @@ use Rattle.model.specs.Rules.{blankFrom, down, emptied, erased, lifted, marksHe
 use Rattle.model.proofs.Tests.{and-both, cond-at, differ}
 use Rattle.model.proofs.MarkLaws.{end-own, last-unmarked}
 use Rattle.model.proofs.Keep.{Kept, place-same}
-use Rattle.model.proofs.Marking.{mark-here}
-use Rattle.model.proofs.Steps.{columns-some, fits, kept-down, kept-lifted, kept-toColumn, lines-here, sound-marks}
+use Rattle.model.proofs.Marking.{bits-ends, bits-here, bits-running, bits-unmarked, bits-up, mark-here}
+use Rattle.model.proofs.Steps.{columns-some, fits, kept-down, kept-lifted, kept-toColumn, sound-marks}
 
 -- one of three tests
 one-of : {P : Type 0} (x y z : Bool) → (x ≡ true → P) → (y ≡ true → P) → (z ≡ true → P) → (x || y || z) ≡ true → P
@@ -50,31 +50,31 @@ module _ (a : State) (g : Good a) where
       (λ e. let h : r ≤ l + 1 = one-of (eqb l 0) (eqb l (0 + r - 1)) (eqb l (0 + r)) (λ t. omega (arith, eqb-true l 0 t)) (λ t. omega (arith, eqb-true l (0 + r - 1) t)) (λ t. omega (arith, eqb-true l (0 + r) t)) e in
       sym (cond-at (λ (x : ℕ). x ≡ 0) (ltb 0 l && leb l (0 + r)) _ (m l)
       (λ t. cond-at (λ (x : ℕ). x ≡ 0) (ltb l (0 + r)) (m (l + 1)) 0
-      (λ u. let v : l < 0 + r = ltb-true l (0 + r) u in last-unmarked r (l + 1) (m (l + 1)) h (sound-marks a g (l + 1) (omega arith) (omega (arith, lines-here a g)))) (λ u. refl))
+      (λ u. let v : l < 0 + r = ltb-true l (0 + r) u in last-unmarked r (l + 1) (m (l + 1)) h (sound-marks a g (l + 1) (omega arith))) (λ u. refl))
       (λ t. out t (leb l (0 + r)) refl)))
       (λ e. refl)
     where
       out : (ltb 0 l && leb l (0 + linesHere a)) ≡ false → (b : Bool) → leb l (0 + linesHere a) ≡ b → marksHere a l ≡ 0
       out t true e = absurd (differ (sym (and-both (ltb 0 l) _ (lt-ltb 0 l p) e) ∙ t))
-      out t false e = last-unmarked (linesHere a) l (marksHere a l) (omega (arith, leb-false l (0 + linesHere a) e)) (sound-marks a g l p q)
+      out t false e = last-unmarked (linesHere a) l (marksHere a l) (omega (arith, leb-false l (0 + linesHere a) e)) (sound-marks a g l p)
 
   -- the marks of the selected screen after 84 or 89 through line n, after 144 or 145, after a lift
   pub erase-marks : (n : ℕ) → here a .line ≤ n → n ≤ linesHere a → (l : ℕ) → 1 ≤ l → l ≤ 48 → marksHere (erased n a) l ≡ unmarkedFrom (here a .line) n (marksHere a) l
   unfolding erased blankFrom emptied withLayer withCells remarked withSettings
-  erase-marks n p q l r s = mark-here (unmarkedFrom (here a .line) n) a g l r s
+  erase-marks n p q l r s = mark-here (unmarkedFrom (here a .line) n) a g (bits-unmarked (marksHere a) (bits-here a) (here a .line) n) l r s
 
-  pub shift-marks : (x m : ℕ) (f : List ℕ → List ℕ) (h : (ℕ → ℕ) → ℕ → ℕ) → (l : ℕ) → 1 ≤ l → l ≤ 48 → marksHere (shifted x m f h a) l ≡ endUnmarked x m (h (marksHere a)) l
+  pub shift-marks : (x m : ℕ) (f : List ℕ → List ℕ) (h : (ℕ → ℕ) → ℕ → ℕ) → ((l : ℕ) → h (marksHere a) l < 2) → (l : ℕ) → 1 ≤ l → l ≤ 48 → marksHere (shifted x m f h a) l ≡ endUnmarked x m (h (marksHere a)) l
   unfolding shifted onLines emptied withLayer withCells remarked withSettings
-  shift-marks x m f h l r s = mark-here (λ ms. endUnmarked x m (h ms)) a g l r s
+  shift-marks x m f h b l r s = mark-here (λ ms. endUnmarked x m (h ms)) a g (bits-ends (h (marksHere a)) b x m) l r s
 
   pub lift-marks : (l : ℕ) → 1 ≤ l → l ≤ 48 → marksHere (lifted a) l ≡ marksUp 0 (linesHere a) (marksHere a) l
   unfolding lifted onLines emptied withLayer withCells remarked withSettings
-  lift-marks l r s = mark-here (marksUp 0 (linesHere a)) a g l r s
+  lift-marks l r s = mark-here (marksUp 0 (linesHere a)) a g (bits-up (marksHere a) (bits-here a) 0 (linesHere a)) l r s
 
   -- the line above the cursor's runs on
   runs-marks : (l : ℕ) → 1 ≤ l → l ≤ 48 → marksHere (runsOn a) l ≡ runningOn (here a .line - 1) (marksHere a) l
   unfolding runsOn remarked withSettings
-  runs-marks l p q = mark-here (runningOn (here a .line - 1)) a g l p q
+  runs-marks l p q = mark-here (runningOn (here a .line - 1)) a g (bits-running (marksHere a) (bits-here a) (here a .line - 1)) l p q
 
 -- a lift, the cursor put anew where it stands
 abbrev liftedAt : State → State

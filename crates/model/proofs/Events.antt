@@ -15,7 +15,7 @@ use Rattle.model.specs.declared.Item.the-variants.{Control, Printed, Ref
 use Rattle.model.specs.Bytes.{put}
 use Rattle.model.specs.State.{State}
 use Rattle.model.specs.Screens.{base, cellAt, columnsOf, height, lineAt, linesOf, placeOf, screens, size, textRows}
-use Rattle.model.specs.Marks.{markOf}
+use Rattle.model.specs.Marks.{markIn, markOf}
 use Rattle.model.specs.Line.{LineSound, line?, padded}
 use Rattle.model.specs.Sound.{Good, arrayRanges, keyRanges, plainRanges}
 use Rattle.model.specs.Sequences.{codeOf}
@@ -237,9 +237,7 @@ unchanged {k} {a} {b} s = record {
 }
   where
     same-mark : (l : ℕ) → 1 ≤ l → l ≤ 48 → markOf (b .settings) k l ≡ markOf (a .settings) k l
-    same-mark l p q =
-        sym (getD-part (b .settings .marks) (48 * k) 48 (l - 1) (omega arith)) ∙ ap (λ (xs : List ℕ). getD xs (l - 1) 0) (s .same-marks)
-        ∙ getD-part (a .settings .marks) (48 * k) 48 (l - 1) (omega arith)
+    same-mark l p q = ap (λ (n : ℕ). markIn n l) (s .same-marks)
 
     same-cell : (l c : ℕ) → On (a .settings) k l c → getD (b .cells) (cellAt (b .settings) k l c) 0 ≡ getD (a .cells) (cellAt (a .settings) k l c) 0
     same-cell l c o =

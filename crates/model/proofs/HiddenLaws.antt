@@ -282,7 +282,7 @@ hidden-texted {a} {b} k x y e h =
 sound-shared : (s : Settings) → sound? (shared s) ≡ sound? s
 unfolding sound? arrayRanges blanked inside? second? marks? plainRanges linesOf columnsOf placeOf screens textRows height markOf
 sound-shared s =
-    let others : ℕ → Bool = λ n. inRanges? (range 2 (length (s .places)) 2 ∷ range 3 (length (s .keys .leds)) 3 ∷ range 12 (length (s .keys .arrows)) 12 ∷ range 248 (length (s .patterns)) 248 ∷ range 12 (length (s .waiting)) 12 ∷ range 80 n 80 ∷ range 96 (length (s .marks)) 96 ∷ []) in
+    let others : ℕ → Bool = λ n. inRanges? (range 2 (length (s .places)) 2 ∷ range 3 (length (s .keys .leds)) 3 ∷ range 12 (length (s .keys .arrows)) 12 ∷ range 248 (length (s .patterns)) 248 ∷ range 12 (length (s .waiting)) 12 ∷ range 80 n 80 ∷ range 2 (length (s .marks)) 2 ∷ []) in
     ap (λ (n : ℕ). others n && (inRanges? (shapeRanges (s .mode) (s .lines1) (s .lines2) (s .columns1) (s .columns2))
     && (inRanges? (otherRanges (screens s) (s .selected) (s .step) (height s)) && (inRanges? (plainRanges s)
     && (inside? s 0 && (second? s && (line? (s .waiting) (s .held) (s .count) && (marks? s 0 && marks? s 1)))))))) (length-replicate {A = ℕ} (length (s .texts)) 32)

@@ -28,7 +28,7 @@ use Rattle.model.proofs.ByteLaws.{length-down, length-listFrom, length-
 use Rattle.model.proofs.MarkLaws.{end-high, end-low, none-marked, sound-ends-down, sound-ends-up}
 use Rattle.model.proofs.Keep.{Kept, height-high, height-low, kept-emptied, kept-flags, kept-layer, kept-refl, kept-stored-only, kept-trans, same-emptied, same-refl, same-trans, shaped-columns, shaped-height, spared, spared-refl, alone-by, both-there, screens-low, screens-most, second-columns, second-height, kept-dots}
 use Rattle.model.proofs.DotLaws.{length-lined, length-withDot}
-use Rattle.model.proofs.Steps.{fits, height-fits, kept-at, kept-cleared, kept-control, kept-erased, kept-held, kept-printed, kept-shifted, kept-top, kept-trackedFar, length-mark, lines-here, sound-marks}
+use Rattle.model.proofs.Steps.{fits, height-fits, kept-at, kept-cleared, kept-control, kept-erased, kept-held, kept-printed, kept-shifted, kept-top, kept-trackedFar, length-mark, sound-marks}
 
 -- what an item does: the state stays good; all but a mode setting leave each cell and the cursor of the screen that is not selected as they
 -- were, and what is still, all but that and a changed 211, its window too
@@ -218,7 +218,7 @@ obeyed-all ms EraseLine a g e d = of-kept (kept-erased a g _ (end-low _ _ _ (fit
 obeyed-all ms EraseRest a g e d = of-kept (kept-erased a g _ (fits a g .line-high) (omega arith))
 obeyed-all ms SecretOn a g e d = good-flags a g _ _ _ _ (g .sound .plain .0) (g .sound .step-low) (g .sound .step-high) (omega arith) (g .sound .plain .1 .1 .0)
 obeyed-all ms SecretOff a g e d = good-flags a g _ _ _ _ (g .sound .plain .0) (g .sound .step-low) (g .sound .step-high) (omega arith) (g .sound .plain .1 .1 .0)
-obeyed-all ms (LinesUp x m) a g e d = of-kept (kept-shifted a g x m _ (marksUp x m) (length-up (columnsHere a)) (omega arith) (sound-ends-up _ _ (sound-marks a g) x m (omega arith) (lines-here a g)))
+obeyed-all ms (LinesUp x m) a g e d = of-kept (kept-shifted a g x m _ (marksUp x m) (length-up (columnsHere a)) (omega arith) (sound-ends-up _ _ (sound-marks a g) x m (omega arith)))
 obeyed-all ms (LinesDown x m) a g e d = of-kept (kept-shifted a g x m _ (marksDown x m) (length-down (columnsHere a)) (omega arith) (sound-ends-down _ _ (sound-marks a g) x m (omega arith)))
 obeyed-all ms (Step n) a g e d = good-flags a g _ _ _ _ (g .sound .plain .0) (e .0 .0) (e .0 .1) (g .sound .plain .1 .0) (g .sound .plain .1 .1 .0)
 obeyed-all ms (Tracking n) a g e d = good-flags a g _ _ _ _ (omega arith) (g .sound .step-low) (g .sound .step-high) (g .sound .plain .1 .0) (g .sound .plain .1 .1 .0)

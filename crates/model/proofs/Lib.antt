@@ -4,6 +4,7 @@ pub mod Cases
 pub mod ByteLaws
 pub mod Gathering
 pub mod LineLaws
+pub mod Numbering
 pub mod MarkLaws
 pub mod SoundLaws
 pub mod Frames

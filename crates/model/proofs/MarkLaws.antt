@@ -1,31 +1,25 @@
--- P5, the marks of one screen: the test agrees with the claim, the end of a logical line is the first unmarked line, and what the rules
+-- P5, the marks of one screen: what sound ones are, line by line; the end of a logical line is the first unmarked line; and what the rules
 -- make of sound marks is sound.
 use mathlib.Core.Path.{_∙_, _≡_, ap, refl, sym}
 use Prim.Native.Nat.{_*_, _+_, _-_, _<_, _≤_, suc, zero, ℕ}
 use native.Mathlib.Nat.{add-zero}
 use native.Mathlib.Omega.{arith}
 use native.Mathlib.Decide.{ℕ-discrete}
-use mathlib.Core.Bool.{Bool, _&&_, _||_, false, true}
+use mathlib.Core.Bool.{Bool, _&&_, _||_, cond, false, true}
 use lib.ListN.{getD, getD-replicate, replicate}
 use lib.Dec.{eqb, leb, ltb}
-use borrow.Author.Tests.{eqb-false, eqb-true, le-leb, leb-true, ltb-false, ltb-true}
-use Rattle.model.specs.Marks.{Marked, endOf, endUnmarked, marked?, marksDown, marksUp, mostMark, running, runningOn, unmarkedFrom}
-use Rattle.model.proofs.Tests.{and-both, and-left, and-right, cond-at, differ}
+use lib.Pow.{pow-pos}
+use borrow.Author.Tests.{eqb-false, eqb-true, leb-true, ltb-false, ltb-true}
+use Rattle.model.specs.Marks.{Marked, endOf, endUnmarked, markIn, marksDown, marksUp, numbered, running, runningOn, unmarkedFrom}
+use Rattle.model.proofs.Numbering.{mark-behind, number-marked}
+use Rattle.model.proofs.Tests.{and-right, cond-at, differ}
 
--- the test of the first n marks, and the claim
-pub marked-true : (n lines : ℕ) (m : ℕ → ℕ) → marked? n lines m ≡ true → (l : ℕ) → 1 ≤ l → l ≤ n → m l ≤ mostMark lines l
-unfolding marked?
-marked-true zero lines m e l p q = absurd (omega arith)
-marked-true (suc n) lines m e l p q = go (marked-true n lines m (and-right (leb (m (suc n)) (mostMark lines (suc n))) _ e) l p) (ℕ-discrete l (suc n))
-  where
-    go : (l ≤ n → m l ≤ mostMark lines l) → Dec (l ≡ suc n) → m l ≤ mostMark lines l
-    go f (yes z) = rw z (leb-true (m (suc n)) (mostMark lines (suc n)) (and-left _ (marked? n lines m) e))
-    go f (no z) = f (omega arith)
+-- the greatest mark of line l of so many lines, and marks that are 0 or 1, and 0 from the last line on
+abbrev mostMark : ℕ → ℕ → ℕ
+mostMark lines l = cond (ltb l lines) 1 0
 
-pub true-marked : (n lines : ℕ) (m : ℕ → ℕ) → ((l : ℕ) → 1 ≤ l → l ≤ n → m l ≤ mostMark lines l) → marked? n lines m ≡ true
-unfolding marked?
-true-marked zero lines m h = refl
-true-marked (suc n) lines m h = and-both _ _ (le-leb _ _ (h (suc n) (omega arith) (omega arith))) (true-marked n lines m (λ l p q. h l p (omega arith)))
+abbrev pub Above : ℕ → (ℕ → ℕ) → Type 0
+Above lines m = (l : ℕ) → 1 ≤ l → m l ≤ mostMark lines l
 
 -- the greatest mark: of a line above the last, and of the others
 most-one : (lines l x : ℕ) → l < lines → x ≤ 1 → x ≤ mostMark lines l
@@ -41,9 +35,19 @@ one-most lines l x = cond-at (λ (y : ℕ). x ≤ y → x ≤ 1) (ltb l lines) 1
 pub last-unmarked : (lines l x : ℕ) → lines ≤ l → x ≤ mostMark lines l → x ≡ 0
 last-unmarked lines l x h = cond-at (λ (y : ℕ). x ≤ y → x ≡ 0) (ltb l lines) 1 0 (λ e. absurd (omega (arith, ltb-true l lines e))) (λ e k. omega arith)
 
+-- so are those of a sound number, and a number of such marks is sound
+pub marked-above : (lines n : ℕ) → Marked lines n → Above lines (markIn n)
+marked-above lines n h l p = cond-at (λ (y : ℕ). markIn n l ≤ y) (ltb l lines) 1 0 (λ e. omega arith) (λ e. omega (arith, mark-behind n lines l h p (ltb-false l lines e)))
+
+pub above-bits : (lines : ℕ) (m : ℕ → ℕ) → Above lines m → (l : ℕ) → 1 ≤ l → m l < 2
+above-bits lines m s l p = omega (arith, one-most lines l (m l) (s l p))
+
+pub above-marked : (lines n : ℕ) (m : ℕ → ℕ) → Above lines m → Marked lines (numbered m 1 n)
+above-marked lines n m s = number-marked m n lines (above-bits lines m s) (λ l p q. last-unmarked lines l (m l) q (s l p))
+
 -- no mark at all
-pub none-marked : (lines k : ℕ) → k < 2 → Marked lines (λ l. getD (replicate 96 0) (48 * k + (l - 1)) 0)
-none-marked lines k h l p q = rw (getD-replicate {A = ℕ} 96 (48 * k + (l - 1)) 0 0 (omega arith)) (omega arith)
+pub none-marked : (lines k : ℕ) → k < 2 → Marked lines (getD (replicate 2 0) k 0)
+none-marked lines k h = rw (getD-replicate {A = ℕ} 2 k 0 0 h) (pow-pos (lines - 1))
 
 -- "the first unmarked line at or after": at most n lines on; every line before it is marked; it is not
 pub running-most : (m : ℕ → ℕ) (l n : ℕ) → running m l n ≤ n
@@ -82,12 +86,12 @@ module _ (m : ℕ → ℕ) (lines l : ℕ) (low : 1 ≤ l) (high : l ≤ lines) 
   end-after i p q = running-marked m l (lines - l) i p q
 
   -- and it is not
-  pub end-unmarked : lines ≤ 48 → Marked lines m → m (endOf m lines l) ≡ 0
+  pub end-unmarked : Above lines m → m (endOf m lines l) ≡ 0
   unfolding endOf
-  end-unmarked h s = go (ℕ-discrete (running m l (lines - l)) (lines - l))
+  end-unmarked s = go (ℕ-discrete (running m l (lines - l)) (lines - l))
     where
       go : Dec (running m l (lines - l) ≡ lines - l) → m (l + running m l (lines - l)) ≡ 0
-      go (yes e) = let z : l + running m l (lines - l) ≡ lines = omega arith in ap m z ∙ last-unmarked lines lines (m lines) (omega arith) (s lines (omega arith) h)
+      go (yes e) = let z : l + running m l (lines - l) ≡ lines = omega arith in ap m z ∙ last-unmarked lines lines (m lines) (omega arith) (s lines (omega arith))
       go (no d) = running-ends m l (lines - l) (omega (arith, running-most m l (lines - l)))
 
   -- an unmarked line is its own end: 84 as document 01 had it
@@ -100,50 +104,50 @@ module _ (m : ℕ → ℕ) (lines l : ℕ) (low : 1 ≤ l) (high : l ≤ lines) 
       go (suc n) = cond-at (λ (x : ℕ). l + x ≡ l) (eqb (m l) 0) 0 (suc (running m (suc l) n)) (λ e. add-zero l) (λ e. absurd (eqb-false (m l) 0 e z))
 
 -- what the rules make of sound marks is sound
-module _ (lines : ℕ) (m : ℕ → ℕ) (s : Marked lines m) where
-  pub sound-running : (line : ℕ) → line < lines → Marked lines (runningOn line m)
+module _ (lines : ℕ) (m : ℕ → ℕ) (s : Above lines m) where
+  pub sound-running : (line : ℕ) → line < lines → Above lines (runningOn line m)
   unfolding runningOn
-  sound-running line h l p q = cond-at (λ (x : ℕ). x ≤ mostMark lines l) (eqb l line) 1 (m l) (λ e. most-one lines l 1 (omega (arith, eqb-true l line e)) (omega arith)) (λ e. s l p q)
+  sound-running line h l p = cond-at (λ (x : ℕ). x ≤ mostMark lines l) (eqb l line) 1 (m l) (λ e. most-one lines l 1 (omega (arith, eqb-true l line e)) (omega arith)) (λ e. s l p)
 
-  pub sound-unmarked : (from to : ℕ) → Marked lines (unmarkedFrom from to m)
+  pub sound-unmarked : (from to : ℕ) → Above lines (unmarkedFrom from to m)
   unfolding unmarkedFrom
-  sound-unmarked from to l p q = cond-at (λ (x : ℕ). x ≤ mostMark lines l) (leb from l && leb l to) 0 (m l) (λ e. most-zero lines l) (λ e. s l p q)
+  sound-unmarked from to l p = cond-at (λ (x : ℕ). x ≤ mostMark lines l) (leb from l && leb l to) 0 (m l) (λ e. most-zero lines l) (λ e. s l p)
 
-  pub sound-up : (a n : ℕ) → a + n ≤ lines → lines ≤ 48 → Marked lines (marksUp a n m)
+  pub sound-up : (a n : ℕ) → a + n ≤ lines → Above lines (marksUp a n m)
   unfolding marksUp
-  sound-up a n h k l p q =
+  sound-up a n h l p =
       cond-at (λ (x : ℕ). x ≤ mostMark lines l) (ltb a l && leb l (a + n)) _ (m l)
       (λ e. cond-at (λ (x : ℕ). x ≤ mostMark lines l) (ltb l (a + n)) (m (l + 1)) 0
-      (λ f. let z : l < a + n = ltb-true l (a + n) f in most-one lines l _ (omega arith) (one-most lines (l + 1) _ (s (l + 1) (omega arith) (omega arith))))
+      (λ f. let z : l < a + n = ltb-true l (a + n) f in most-one lines l _ (omega arith) (one-most lines (l + 1) _ (s (l + 1) (omega arith))))
       (λ f. most-zero lines l))
-      (λ e. s l p q)
+      (λ e. s l p)
 
   -- all but the last line of the region
-  down-but-last : (a n : ℕ) → a + n ≤ lines → (l : ℕ) → 1 ≤ l → l ≤ 48 → (l ≡ a + n → ⊥) → marksDown a n m l ≤ mostMark lines l
+  down-but-last : (a n : ℕ) → a + n ≤ lines → (l : ℕ) → 1 ≤ l → (l ≡ a + n → ⊥) → marksDown a n m l ≤ mostMark lines l
   unfolding marksDown
-  down-but-last a n h l p q d =
+  down-but-last a n h l p d =
       cond-at (λ (x : ℕ). x ≤ mostMark lines l) (ltb a l && leb l (a + n)) _ (m l)
       (λ e. let z : l ≤ a + n = leb-true l (a + n) (and-right (ltb a l) _ e) in
       cond-at (λ (x : ℕ). x ≤ mostMark lines l) (ltb (a + 1) l) (m (l - 1)) 0
-      (λ f. let y : a + 1 < l = ltb-true (a + 1) l f in most-one lines l _ (omega arith) (one-most lines (l - 1) _ (s (l - 1) (omega arith) (omega arith))))
+      (λ f. let y : a + 1 < l = ltb-true (a + 1) l f in most-one lines l _ (omega arith) (one-most lines (l - 1) _ (s (l - 1) (omega arith))))
       (λ f. most-zero lines l))
-      (λ e. s l p q)
+      (λ e. s l p)
 
 -- marks that are sound but in the region's last line are sound once that line is unmarked
-sound-ends : (lines a n : ℕ) (m : ℕ → ℕ) → ((l : ℕ) → 1 ≤ l → l ≤ 48 → (l ≡ a + n → ⊥) → m l ≤ mostMark lines l) → Marked lines (endUnmarked a n m)
+sound-ends : (lines a n : ℕ) (m : ℕ → ℕ) → ((l : ℕ) → 1 ≤ l → (l ≡ a + n → ⊥) → m l ≤ mostMark lines l) → Above lines (endUnmarked a n m)
 unfolding endUnmarked
-sound-ends lines a n m s l p q =
+sound-ends lines a n m s l p =
     cond-at (λ (x : ℕ). x ≤ mostMark lines l) (eqb l a || eqb l (a + n - 1) || eqb l (a + n)) 0 (m l) (λ e. most-zero lines l)
-    (λ e. s l p q (eqb-false l (a + n) (or-last (eqb l a) (eqb l (a + n - 1)) (eqb l (a + n)) e)))
+    (λ e. s l p (eqb-false l (a + n) (or-last (eqb l a) (eqb l (a + n - 1)) (eqb l (a + n)) e)))
   where
     or-last : (x y z : Bool) → (x || y || z) ≡ false → z ≡ false
     or-last true y z e = absurd (differ e)
     or-last false true z e = absurd (differ e)
     or-last false false z e = e
 
-module _ (lines : ℕ) (m : ℕ → ℕ) (s : Marked lines m) (a n : ℕ) (h : a + n ≤ lines) where
-  pub sound-ends-up : lines ≤ 48 → Marked lines (λ l. endUnmarked a n (marksUp a n m) l)
-  sound-ends-up k = sound-ends lines a n (marksUp a n m) (λ l p q d. sound-up lines m s a n h k l p q)
+module _ (lines : ℕ) (m : ℕ → ℕ) (s : Above lines m) (a n : ℕ) (h : a + n ≤ lines) where
+  pub sound-ends-up : Above lines (λ l. endUnmarked a n (marksUp a n m) l)
+  sound-ends-up = sound-ends lines a n (marksUp a n m) (λ l p d. sound-up lines m s a n h l p)
 
-  pub sound-ends-down : Marked lines (λ l. endUnmarked a n (marksDown a n m) l)
+  pub sound-ends-down : Above lines (λ l. endUnmarked a n (marksDown a n m) l)
   sound-ends-down = sound-ends lines a n (marksDown a n m) (down-but-last lines m s a n h)

@@ -1,37 +1,36 @@
 -- Document 02, P5: "Settings now mark each line that runs on": the mark of a line, when marks are sound, as a claim (Marked) and as a test
--- (marked?), and what the rules make of a screen's marks. Here m l is the mark of line l, from 1, of one screen: 1 if it runs on, else 0.
-use Prim.Native.Nat.{ℕ, zero, suc, _+_, _-_, _*_, _≤_}
-use mathlib.Core.Bool.{Bool, true, cond, _&&_, _||_}
-use mathlib.Core.List.{List}
-use lib.ListN.{length, getD, take, drop}
+-- (marked?), and what the rules make of a screen's marks. The marks of a screen are one number, bit l − 1 for line l; m l is the mark of line l,
+-- from 1: 1 if it runs on, else 0.
+use Prim.Native.Nat.{ℕ, zero, suc, _+_, _-_, _*_, _/_, _%_, _^_, _<_}
+use mathlib.Core.Bool.{Bool, cond, _&&_, _||_}
+use lib.ListN.{getD}
 use lib.Dec.{leb, ltb, eqb}
 use Rattle.model.specs.declared.Settings.{Settings}
-use Rattle.model.specs.Bytes.{listFrom}
 
--- the mark of line l of screen k: 48 to a screen, since none has more lines
+-- the marks of screen k, a number
+abbrev pub marksOf : Settings → ℕ → ℕ
+marksOf s k = getD (s .marks) k 0
+
+-- the mark of line l in such a number
+abbrev pub markIn : ℕ → ℕ → ℕ
+markIn n l = n / 2 ^ (l - 1) % 2
+
+-- the mark of line l of screen k
 unfoldable pub markOf : Settings → ℕ → ℕ → ℕ
-markOf s k l = getD (s .marks) (48 * k + (l - 1)) 0
+markOf s k l = markIn (marksOf s k) l
 
--- the marks of screen k
-abbrev pub marksOf : Settings → ℕ → List ℕ
-marksOf s k = take 48 (drop (48 * k) (s .marks))
+-- "A screen's last line is never marked; sound settings include that": no bit is set from the last line's on, of so many lines
+abbrev pub Marked : ℕ → ℕ → Type 0
+Marked lines n = n < 2 ^ (lines - 1)
 
--- "A screen's last line is never marked", nor what lies beyond it: the greatest mark of line l of so many lines
-abbrev pub mostMark : ℕ → ℕ → ℕ
-mostMark lines l = cond (ltb l lines) 1 0
+-- the same as a test
+unfoldable pub marked? : ℕ → ℕ → Bool
+marked? lines n = ltb n (2 ^ (lines - 1))
 
--- "sound settings include that": each mark of a screen is 0 or 1, and 0 from its last line on
-abbrev pub Marked : ℕ → (ℕ → ℕ) → Type 0
-Marked lines m = (l : ℕ) → 1 ≤ l → l ≤ 48 → m l ≤ mostMark lines l
-
--- the same as a test, of the first n marks
-unfoldable pub marked? : ℕ → ℕ → (ℕ → ℕ) → Bool
-marked? zero lines m = true
-marked? (suc n) lines m = leb (m (suc n)) (mostMark lines (suc n)) && marked? n lines m
-
--- as many marks as there are, m l for line l
-unfoldable pub listed : (ℕ → ℕ) → List ℕ → List ℕ
-listed m xs = listFrom m 1 (length xs)
+-- so many marks from line l on, as a number: m l in its lowest bit
+unfoldable pub numbered : (ℕ → ℕ) → ℕ → ℕ → ℕ
+numbered m l zero = 0
+numbered m l (suc n) = m l + 2 * numbered m (suc l) n
 
 -- how many lines in a row run on, from line l, at most n
 unfoldable pub running : (ℕ → ℕ) → ℕ → ℕ → ℕ

@@ -13,7 +13,7 @@ use Rattle.model.specs.declared.Settings.{Settings}
 use Rattle.model.specs.Checks.{Check, range, among, inRanges?, InRanges}
 use Rattle.model.specs.State.{State}
 use Rattle.model.specs.Line.{LineSound, line?}
-use Rattle.model.specs.Marks.{markOf, Marked, marked?}
+use Rattle.model.specs.Marks.{marksOf, Marked, marked?}
 use Rattle.model.specs.Screens.{linesOf, columnsOf, placeOf, screens, height}
 
 -- P9: "the flag is sound only in the last column under rule 2": its greatest value
@@ -62,11 +62,11 @@ unfoldable pub plainRanges : Settings → List Check
 plainRanges s = range 0 (s .tracking) 1 ∷ range 0 (s .secret) 1 ∷ range 0 (s .cursor) 1 ∷ range 0 (s .display) 1 ∷ range 1 (s .rule) 2 ∷ keyRanges (s .kind) (s .keys)
 
 -- the arrays are as long as their types say: two screens, three LEDs, twelve arrow codes, 31 patterns of 8 rows, twelve waiting bytes, ten key texts of
--- 8 codes (P2), which are free, and 48 marks of each screen (P5)
+-- 8 codes (P2), which are free, and the marks of two screens (P5)
 unfoldable pub arrayRanges : Settings → List Check
 arrayRanges s =
     range 2 (length (s .places)) 2 ∷ range 3 (length (s .keys .leds)) 3 ∷ range 12 (length (s .keys .arrows)) 12 ∷ range 248 (length (s .patterns)) 248 ∷ range 12 (length (s .waiting)) 12 ∷ range 80 (length (s .texts)) 80
-    ∷ range 96 (length (s .marks)) 96 ∷ []
+    ∷ range 2 (length (s .marks)) 2 ∷ []
 
 -- P11: "Mode 3 is sound with type 3, key display 1, screen 1 selected, screen 2's cursor and top at 1, its flag off": of mode, type, key display
 -- and screen 2's place; "screen 1 selected" is that the selected one is among the screens
@@ -84,7 +84,7 @@ pub record Sound (s : Settings) : Type 0 where
   pub step-high : s .step ≤ height s
   pub plain : InRanges (plainRanges s)
   pub line : LineSound (s .waiting) (s .held) (s .count)
-  pub marked : (k : ℕ) → k < 2 → Marked (linesOf s k) (markOf s k)
+  pub marked : (k : ℕ) → k < 2 → Marked (linesOf s k) (marksOf s k)
   pub alone : InRanges (aloneRanges (s .mode) (s .kind) (s .display) (placeOf s 1))
 
 -- what stands, fit to be served and painted: sound settings, "Cells: 3,840 bytes. Layer: 1,280 bytes", P11: "a dot store of 3,840 bytes"
@@ -123,7 +123,7 @@ second? s = cond (eqb (s .mode) 3) (inRanges? (aloneRanges (s .mode) (s .kind) (
 
 -- the marks of screen k
 unfoldable pub marks? : Settings → ℕ → Bool
-marks? s k = marked? 48 (linesOf s k) (markOf s k)
+marks? s k = marked? (linesOf s k) (marksOf s k)
 
 -- the test of soundness
 unfoldable pub sound? : Settings → Bool

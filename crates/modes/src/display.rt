@@ -38,7 +38,7 @@ fn hold(place: Place, lines: u8, height: u8) -> Place
         line: place.line,
         column: place.column,
         top: lesser(place.top, lines - (height - 1)),
-        waiting: place.late,
+        late: place.late,
     }
 }
 

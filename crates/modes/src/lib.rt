@@ -130,7 +130,7 @@ fn set(
         late: 0,
     };
     let places = [home, home];
-    let marks = [0u8; 96];
+    let marks = [0u64; 2];
     let mut s = settings;
     s.mode = mode;
     s.lines1 = lines1;

@@ -32,7 +32,7 @@ pub fn say_standing(
     let waiting = settings.waiting;
     say_stream(settings.count, &waiting, settings.held);
     let marks = settings.marks;
-    say_runs(&marks);
+    say_runs(marks[0], marks[1]);
     say_rule(settings.rule, places[0], places[1]);
     say_number(b"sums cells ", adler32(1, cells) as u64);
     say_number(b" layer ", adler32(1, layer) as u64);
@@ -125,20 +125,21 @@ fn say_stream(count: u32, waiting: &[u8; 12], held: u8) {
 }
 
 // `runs 1 L L ..` and `runs 2 L L ..`: of each screen the lines that run on, none after the number where none does.
-fn say_runs(marks: &[u8; 96]) {
+fn say_runs(one: u64, two: u64) {
     say(b"runs 1");
-    let mut i: usize = 0;
+    say_marked(one);
+    say(b"\nruns 2");
+    say_marked(two);
+    say(b"\n");
+}
+
+// The lines of a screen that run on.
+fn say_marked(marks: u64) {
+    let mut i: u8 = 0;
     while i < 48 {
-        say_line(i as u8 + 1, marks[i]);
+        say_line(i + 1, ((marks >> i) % 2) as u8);
         i += 1;
     }
-    say(b"\nruns 2");
-    let mut k: usize = 48;
-    while k < 96 {
-        say_line(k as u8 - 47, marks[k]);
-        k += 1;
-    }
-    say(b"\n");
 }
 
 // `rule R flags F F`: how a line is left at its last column, and whether each screen's cursor is late there.

@@ -119,12 +119,12 @@ pub record Along (m : List ℕ) (f : Frame) (from : ℕ) (p : Place) (c l k : Li
   pub acts : ActsWith (printedAll (take (at - from) (drop from m))) f p q c l k c′ l′ k′
 
 module _ {m : List ℕ} {f : Frame} {p : Place} {c l k : List ℕ} where
-  pub along-none : (from : ℕ) → Ready f p c l → length k ≡ 96 → Along m f from p c l k from p c l k
+  pub along-none : (from : ℕ) → Ready f p c l → length k ≡ 2 → Along m f from p c l k from p c l k
   unfolding printedAll
   along-none from r n = record { low = omega arith; acts = let z : from - from ≡ 0 = omega arith in likewise-with (λ s ds e i j. rw z) (still-with r n) }
 
   -- a part that stays in the line
-  pub part-many : {at to : ℕ} {r : Run} {c₁ l₁ : List ℕ} → length k ≡ 96 → at < to → r .at ≡ to → Acts (printedAll (take (to - at) (drop at m))) f p (r .place) c l c₁ l₁ → Part m at to f p r c l k c₁ l₁ k
+  pub part-many : {at to : ℕ} {r : Run} {c₁ l₁ : List ℕ} → length k ≡ 2 → at < to → r .at ≡ to → Acts (printedAll (take (to - at) (drop at m))) f p (r .place) c l c₁ l₁ → Part m at to f p r c l k c₁ l₁ k
   part-many n h e a = record { some = omega (arith, h, e); most = omega (arith, e); acts = rw e (unmarked-acts n a) }
 
   pub along-part : {from at to : ℕ} {q : Place} {r : Run} {c₁ l₁ k₁ c₂ l₂ k₂ : List ℕ} → Along m f from p c l k at q c₁ l₁ k₁ → Part m at to f q r c₁ l₁ k₁ c₂ l₂ k₂ → Along m f from p c l k (r .at) (r .place) c₂ l₂ k₂

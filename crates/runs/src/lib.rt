@@ -117,10 +117,10 @@ fn print_line(
     end: usize,
     cells: &mut [u8],
     layer: &mut [u8],
-    marks: &mut [u8],
+    marks: &mut [u64],
 ) -> Run
     requires { ⌜ Ready frame place (now cells) (now layer) ⌝ }
-    requires { ⌜ length (now marks) ≡ 96 ⌝ }
+    requires { ⌜ length (now marks) ≡ 2 ⌝ }
     requires { ⌜ (at < end) × (end ≤ length (now message)) ⌝ }
     ensures { λ r. ⌜ Part (now (message .entry)) at end frame place r (now (cells .entry)) (now (layer .entry)) (now (marks .entry)) (now (cells .exit)) (now (layer .exit)) (now (marks .exit)) ⌝ }
 {
@@ -148,10 +148,10 @@ fn print_part(
     end: usize,
     cells: &mut [u8],
     layer: &mut [u8],
-    marks: &mut [u8],
+    marks: &mut [u64],
 ) -> Run
     requires { ⌜ Ready frame place (now cells) (now layer) ⌝ }
-    requires { ⌜ length (now marks) ≡ 96 ⌝ }
+    requires { ⌜ length (now marks) ≡ 2 ⌝ }
     requires { ⌜ (at < end) × (end ≤ length (now message)) ⌝ }
     ensures { λ r. ⌜ Part (now (message .entry)) at end frame place r (now (cells .entry)) (now (layer .entry)) (now (marks .entry)) (now (cells .exit)) (now (layer .exit)) (now (marks .exit)) ⌝ }
 {
@@ -175,10 +175,10 @@ pub fn print_run(
     at: usize,
     cells: &mut [u8],
     layer: &mut [u8],
-    marks: &mut [u8],
+    marks: &mut [u64],
 ) -> Run
     requires { ⌜ Ready frame place (now cells) (now layer) ⌝ }
-    requires { ⌜ length (now marks) ≡ 96 ⌝ }
+    requires { ⌜ length (now marks) ≡ 2 ⌝ }
     requires { ⌜ prints? (now message) at ≡ true ⌝ }
     ensures { λ r. ⌜ Ran (now (message .entry)) at frame place r (now (cells .entry)) (now (layer .entry)) (now (marks .entry)) (now (cells .exit)) (now (layer .exit)) (now (marks .exit)) ⌝ }
 {

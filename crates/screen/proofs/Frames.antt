@@ -51,7 +51,7 @@ module _ {s : Settings} (h : Sound s) where
   stands-of e = record {
     among = rw (e .base-is, e .lines-are, e .columns-are) (within s h (s .selected) (chosen s h));
     columns-low = rw (e .columns-are) (wide s h (s .selected) (h .selected));
-    marks-among = omega (arith, e .first-is, chosen s h);
+    screen-low = omega (arith, e .screen-is, chosen s h);
     lines-high = rw (e .lines-are) (lines-high (s .selected));
     height-low = rw (e .height-is) (omega (arith, height-low s));
     height-high = rw (e .height-is, e .lines-are) (tall s h (s .selected) (h .selected));
@@ -60,12 +60,12 @@ module _ {s : Settings} (h : Sound s) where
     fits = rw (e .rule-is, e .lines-are, e .columns-are, e .height-is) (h .inside (s .selected) (h .selected));
   }
 
-  pub frame : {f : Frame} → f .lines ≡ linesOf s (s .selected) → f .columns ≡ columnsOf s (s .selected) → f .base ≡ base s (s .selected) → f .first ≡ 48 * s .selected
+  pub frame : {f : Frame} → f .lines ≡ linesOf s (s .selected) → f .columns ≡ columnsOf s (s .selected) → f .base ≡ base s (s .selected) → f .screen ≡ s .selected
       → f .height ≡ height s → f .shift ≡ cond (eqb (s .mode) 2 && eqb (s .selected) 1) (s .columns1 + 1) 0
       → f .rows ≡ textRows s → f .step ≡ s .step → f .tracking ≡ s .tracking → f .rule ≡ s .rule → f .mode ≡ s .mode → FrameOf s f
   unfolding arrayRanges
   frame {f} a b c o d e g i j r n =
-      let k : Framed s f = record { two-places = omega (arith, h .arrays .0); selected-low = chosen s h; lines-are = a; columns-are = b; base-is = c; first-is = o; rows-are = g; height-is = d; shift-is = e; step-is = i; tracking-is = j; rule-is = r; mode-is = n } in
+      let k : Framed s f = record { two-places = omega (arith, h .arrays .0); selected-low = chosen s h; lines-are = a; columns-are = b; base-is = c; screen-is = o; rows-are = g; height-is = d; shift-is = e; step-is = i; tracking-is = j; rule-is = r; mode-is = n } in
       record { framed = k; stands = stands-of k }
 
 -- which columns of the picture are another screen's

@@ -58,7 +58,7 @@ module _ {q : Seq} {f : Frame} {p r : Place} {c l m c′ l′ m′ : List ℕ} w
 
 -- P11: one that turns the window, which is idle in mode 3
 pub turns : {q : Seq} {f : Frame} {p r : Place} {c l m l′ : List ℕ} {q′ : Seq} {value : State → ℕ} {t : ℕ} → q ≡ q′ → onScreen? q′ ≡ true → member (codeOf q′) drawing ≡ false
-    → ((n : ℕ → ℕ) (st : State) → obeyed n q′ st ≡ topped (value st) st) → Ready f p c l → length m ≡ 96 → Top value f p t → ActsAbove (topped t) f p r l l′ → Obeys q f p r c l m c l′ m
+    → ((n : ℕ → ℕ) (st : State) → obeyed n q′ st ≡ topped (value st) st) → Ready f p c l → length m ≡ 2 → Top value f p t → ActsAbove (topped t) f p r l l′ → Obeys q f p r c l m c l′ m
 turns {c = c} {l} {q′ = q′} e h j o g n k a =
     does e h (λ m s ds u i z. o m (state s c l ds) ∙ topped-whole (g .stands) (u .mode-is ∙ idle-there (s .mode) (codeOf q′) j z) k (state s c l ds) u i)
     (λ m. dots-aside (likewise-with (λ s ds u i x. o m (state s c l ds)) (unmarked-acts n (topped-at k a c (g .cells-are)))))

@@ -33,7 +33,7 @@ pub fn frame_of(settings: Settings, bare: bool) -> Frame
     if settings.selected == 0 {
         Frame {
             base: 0,
-            first: 0,
+            screen: 0,
             lines: settings.lines1,
             columns: settings.columns1,
             rows: tables::text_rows(settings.display),
@@ -48,7 +48,7 @@ pub fn frame_of(settings: Settings, bare: bool) -> Frame
     } else {
         Frame {
             base: times(settings.lines1, settings.columns1),
-            first: 48,
+            screen: 1,
             lines: settings.lines2,
             columns: settings.columns2,
             rows: tables::text_rows(settings.display),
@@ -70,10 +70,10 @@ pub fn print(
     code: u8,
     cells: &mut [u8],
     layer: &mut [u8],
-    marks: &mut [u8],
+    marks: &mut [u64],
 ) -> Place
     requires { ⌜ Ready frame place (now cells) (now layer) ⌝ }
-    requires { ⌜ length (now marks) ≡ 96 ⌝ }
+    requires { ⌜ length (now marks) ≡ 2 ⌝ }
     ensures { λ r. ⌜ ActsWith (printed code) frame place r (now (cells .entry)) (now (layer .entry)) (now (marks .entry)) (now (cells .exit)) (now (layer .exit)) (now (marks .exit)) ⌝ }
 {
     let first = cursor::late_step(frame, place, cells, layer, marks);
@@ -87,10 +87,10 @@ pub fn print_here(
     code: u8,
     cells: &mut [u8],
     layer: &mut [u8],
-    marks: &mut [u8],
+    marks: &mut [u64],
 ) -> Place
     requires { ⌜ Ready frame place (now cells) (now layer) ⌝ }
-    requires { ⌜ length (now marks) ≡ 96 ⌝ }
+    requires { ⌜ length (now marks) ≡ 2 ⌝ }
     ensures { λ r. ⌜ ActsWith (λ (st : State). tracked (right (stored code st))) frame place r (now (cells .entry)) (now (layer .entry)) (now (marks .entry)) (now (cells .exit)) (now (layer .exit)) (now (marks .exit)) ⌝ }
 {
     cursor::store(frame, place, code, cells, layer);
@@ -106,10 +106,10 @@ pub fn control(
     code: u8,
     cells: &mut [u8],
     layer: &mut [u8],
-    marks: &mut [u8],
+    marks: &mut [u64],
 ) -> Place
     requires { ⌜ Ready frame place (now cells) (now layer) ⌝ }
-    requires { ⌜ length (now marks) ≡ 96 ⌝ }
+    requires { ⌜ length (now marks) ≡ 2 ⌝ }
     ensures { λ r. ⌜ ActsWith (exceptDots (control code)) frame place r (now (cells .entry)) (now (layer .entry)) (now (marks .entry)) (now (cells .exit)) (now (layer .exit)) (now (marks .exit)) ⌝ }
 {
     match code {
@@ -139,10 +139,10 @@ pub fn obey_sequence(
     q: Sequence,
     cells: &mut [u8],
     layer: &mut [u8],
-    marks: &mut [u8],
+    marks: &mut [u64],
 ) -> Place
     requires { ⌜ Ready frame place (now cells) (now layer) ⌝ }
-    requires { ⌜ length (now marks) ≡ 96 ⌝ }
+    requires { ⌜ length (now marks) ≡ 2 ⌝ }
     requires { ⌜ legal? q (limitsIn frame) ≡ true ⌝ }
     ensures { λ r. ⌜ Obeys q frame place r (now (cells .entry)) (now (layer .entry)) (now (marks .entry)) (now (cells .exit)) (now (layer .exit)) (now (marks .exit)) ⌝ }
 {

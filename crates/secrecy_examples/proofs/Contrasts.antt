@@ -7,7 +7,7 @@ use lib.ListN.{getD, length, replicate}
 use Rattle.model.specs.Bytes.{blanked, joined, onPart, put, scrolledDown, scrolledUp}
 use Rattle.model.specs.Checks.{firstBad, inRanges?, member, passes}
 use Rattle.model.specs.Screens.{base, cellAt, columnsOf, height, lineAt, linesOf, placeOf, size, textRows, screens}
-use Rattle.model.specs.Marks.{endOf, endUnmarked, listed, markOf, marked?, marksDown, marksUp, running, runningOn, unmarkedFrom}
+use Rattle.model.specs.Marks.{endOf, endUnmarked, markOf, marked?, marksDown, marksUp, numbered, running, runningOn, unmarkedFrom}
 use Rattle.model.specs.Line.{line?, padded, zeros?}
 use Rattle.model.specs.Sound.{arrayRanges, inside?, insideRanges, keyRanges, marks?, otherRanges, plainRanges, shapeRanges, sound?, aloneRanges, second?}
 use Rattle.model.specs.Picture.{copied, copiedRows, covered, halves, painting, picture, pictureAt, sides, textAt, under, windowAt, copySizeOf, dotCopy, pictureCopy}
@@ -33,12 +33,12 @@ use Rattle.secrecy.proofs.Secrecy.{secrecy}
 
 -- two runs that lack one thing are told apart
 pub rows : allTold told ≡ true
-unfolding copySizeOf dotCopy pictureCopy withDots dotsCleared weight dotAt withDot acted longer shorter flat offsetAt strokePlaced lineDot maskBit stepped drawn stroke idle? judgedRanges screens aloneRanges second? padded lined texted joined onPart blanked scrolledUp scrolledDown put member passes inRanges? firstBad linesOf columnsOf placeOf textRows height base size lineAt cellAt keyRanges plainRanges arrayRanges insideRanges shapeRanges otherRanges inside? zeros? line? markOf marked? marks? sound? windowAt halves sides textAt under covered pictureAt picture painting copiedRows copied find rowOf modeRowOf afterMode afterEscape needed unfinished? gathered remaining kindOf decoded ended itemOf byteOf legal? badOf allowed fitting withSettings withCells withLayer placed emptied shownAt emptyAt cover stored onLines listed remarked lifted down toColumn runningOn runsOn onward right lateStep topped held centred nearest missed tracked trackedFar printed unmarkedFrom cleared control blankFrom running endOf erased marksUp marksDown endUnmarked shifted modeSet flagged displaying keyLine withKeys withKindPatterns obeyed applyItem readsOf happened applyAll copies countedAll itemBytes sized soundIn firstOf allFree reasons numberOf granted noneWaits countable keyable besideItems startOf takenBy takenIn readsBy readsIn eventsBy eventsIn shownAfter served answerOf printedBy numberIn lengthIn kindIn bodyIn recordIn recordsAfter lacking uncut? all? bodiesOf known? packable knownIn sendableIn readsEach recordFrom recordOf holds allHold calm? lowest? printLifts? lifts? movesTop? wide? printPlace placeBy wideIn placesIn painted? repainted turnsHold allTold told
+unfolding copySizeOf dotCopy pictureCopy withDots dotsCleared weight dotAt withDot acted longer shorter flat offsetAt strokePlaced lineDot maskBit stepped drawn stroke idle? judgedRanges screens aloneRanges second? padded lined texted joined onPart blanked scrolledUp scrolledDown put member passes inRanges? firstBad linesOf columnsOf placeOf textRows height base size lineAt cellAt keyRanges plainRanges arrayRanges insideRanges shapeRanges otherRanges inside? zeros? line? markOf marked? marks? sound? windowAt halves sides textAt under covered pictureAt picture painting copiedRows copied find rowOf modeRowOf afterMode afterEscape needed unfinished? gathered remaining kindOf decoded ended itemOf byteOf legal? badOf allowed fitting withSettings withCells withLayer placed emptied shownAt emptyAt cover stored onLines numbered remarked lifted down toColumn runningOn runsOn onward right lateStep topped held centred nearest missed tracked trackedFar printed unmarkedFrom cleared control blankFrom running endOf erased marksUp marksDown endUnmarked shifted modeSet flagged displaying keyLine withKeys withKindPatterns obeyed applyItem readsOf happened applyAll copies countedAll itemBytes sized soundIn firstOf allFree reasons numberOf granted noneWaits countable keyable besideItems startOf takenBy takenIn readsBy readsIn eventsBy eventsIn shownAfter served answerOf printedBy numberIn lengthIn kindIn bodyIn recordIn recordsAfter lacking uncut? all? bodiesOf known? packable knownIn sendableIn readsEach recordFrom recordOf holds allHold calm? lowest? printLifts? lifts? movesTop? wide? printPlace placeBy wideIn placesIn painted? repainted turnsHold allTold told
 rows = refl
 
 -- two that lack none are not
 pub same-rows : allTold unseen ≡ true
-unfolding copySizeOf dotCopy pictureCopy withDots dotsCleared weight dotAt withDot acted longer shorter flat offsetAt strokePlaced lineDot maskBit stepped drawn stroke idle? judgedRanges screens aloneRanges second? padded lined texted joined onPart blanked scrolledUp scrolledDown put member passes inRanges? firstBad linesOf columnsOf placeOf textRows height base size lineAt cellAt keyRanges plainRanges arrayRanges insideRanges shapeRanges otherRanges inside? zeros? line? markOf marked? marks? sound? windowAt halves sides textAt under covered pictureAt picture painting copiedRows copied find rowOf modeRowOf afterMode afterEscape needed unfinished? gathered remaining kindOf decoded ended itemOf byteOf legal? badOf allowed fitting withSettings withCells withLayer placed emptied shownAt emptyAt cover stored onLines listed remarked lifted down toColumn runningOn runsOn onward right lateStep topped held centred nearest missed tracked trackedFar printed unmarkedFrom cleared control blankFrom running endOf erased marksUp marksDown endUnmarked shifted modeSet flagged displaying keyLine withKeys withKindPatterns obeyed applyItem readsOf happened applyAll copies countedAll itemBytes sized soundIn firstOf allFree reasons numberOf granted noneWaits countable keyable besideItems startOf takenBy takenIn readsBy readsIn eventsBy eventsIn shownAfter served answerOf printedBy numberIn lengthIn kindIn bodyIn recordIn recordsAfter lacking uncut? all? bodiesOf known? packable knownIn sendableIn readsEach recordFrom recordOf holds allHold calm? lowest? printLifts? lifts? movesTop? wide? printPlace placeBy wideIn placesIn painted? repainted turnsHold allTold unseen
+unfolding copySizeOf dotCopy pictureCopy withDots dotsCleared weight dotAt withDot acted longer shorter flat offsetAt strokePlaced lineDot maskBit stepped drawn stroke idle? judgedRanges screens aloneRanges second? padded lined texted joined onPart blanked scrolledUp scrolledDown put member passes inRanges? firstBad linesOf columnsOf placeOf textRows height base size lineAt cellAt keyRanges plainRanges arrayRanges insideRanges shapeRanges otherRanges inside? zeros? line? markOf marked? marks? sound? windowAt halves sides textAt under covered pictureAt picture painting copiedRows copied find rowOf modeRowOf afterMode afterEscape needed unfinished? gathered remaining kindOf decoded ended itemOf byteOf legal? badOf allowed fitting withSettings withCells withLayer placed emptied shownAt emptyAt cover stored onLines numbered remarked lifted down toColumn runningOn runsOn onward right lateStep topped held centred nearest missed tracked trackedFar printed unmarkedFrom cleared control blankFrom running endOf erased marksUp marksDown endUnmarked shifted modeSet flagged displaying keyLine withKeys withKindPatterns obeyed applyItem readsOf happened applyAll copies countedAll itemBytes sized soundIn firstOf allFree reasons numberOf granted noneWaits countable keyable besideItems startOf takenBy takenIn readsBy readsIn eventsBy eventsIn shownAfter served answerOf printedBy numberIn lengthIn kindIn bodyIn recordIn recordsAfter lacking uncut? all? bodiesOf known? packable knownIn sendableIn readsEach recordFrom recordOf holds allHold calm? lowest? printLifts? lifts? movesTop? wide? printPlace placeBy wideIn placesIn painted? repainted turnsHold allTold unseen
 same-rows = refl
 
 -- calls worked out by the rules keep their promises
@@ -75,7 +75,7 @@ module _ (x y : ℕ) (ys : List ℕ) where
 
 -- the claim is not empty: these two runs meet all that is asked
 pub two-runs : TwoRuns (filled 32) (filled 33) (typedCalls 32 125 65) (typedCalls 33 120 66)
-unfolding copySizeOf dotCopy pictureCopy withDots dotsCleared weight dotAt withDot acted longer shorter flat offsetAt strokePlaced lineDot maskBit stepped drawn stroke idle? judgedRanges screens aloneRanges second? padded lined texted joined onPart blanked scrolledUp scrolledDown put member passes inRanges? firstBad linesOf columnsOf placeOf textRows height base size lineAt cellAt keyRanges plainRanges arrayRanges insideRanges shapeRanges otherRanges inside? zeros? line? markOf marked? marks? sound? windowAt halves sides textAt under covered pictureAt picture painting copiedRows copied find rowOf modeRowOf afterMode afterEscape needed unfinished? gathered remaining kindOf decoded ended itemOf byteOf legal? badOf allowed fitting withSettings withCells withLayer placed emptied shownAt emptyAt cover stored onLines listed remarked lifted down toColumn runningOn runsOn onward right lateStep topped held centred nearest missed tracked trackedFar printed unmarkedFrom cleared control blankFrom running endOf erased marksUp marksDown endUnmarked shifted modeSet flagged displaying keyLine withKeys withKindPatterns obeyed applyItem readsOf happened applyAll copies countedAll itemBytes sized soundIn firstOf allFree reasons numberOf granted noneWaits countable keyable besideItems startOf takenBy takenIn readsBy readsIn eventsBy eventsIn shownAfter served answerOf printedBy numberIn lengthIn kindIn bodyIn recordIn recordsAfter lacking uncut? all? bodiesOf known? packable knownIn sendableIn readsEach recordFrom recordOf holds allHold calm? lowest? printLifts? lifts? movesTop? wide? printPlace placeBy wideIn placesIn painted? repainted callsOf eventsOver revealed inBoth readAsPrinted printedInPack printedAt
+unfolding copySizeOf dotCopy pictureCopy withDots dotsCleared weight dotAt withDot acted longer shorter flat offsetAt strokePlaced lineDot maskBit stepped drawn stroke idle? judgedRanges screens aloneRanges second? padded lined texted joined onPart blanked scrolledUp scrolledDown put member passes inRanges? firstBad linesOf columnsOf placeOf textRows height base size lineAt cellAt keyRanges plainRanges arrayRanges insideRanges shapeRanges otherRanges inside? zeros? line? markOf marked? marks? sound? windowAt halves sides textAt under covered pictureAt picture painting copiedRows copied find rowOf modeRowOf afterMode afterEscape needed unfinished? gathered remaining kindOf decoded ended itemOf byteOf legal? badOf allowed fitting withSettings withCells withLayer placed emptied shownAt emptyAt cover stored onLines numbered remarked lifted down toColumn runningOn runsOn onward right lateStep topped held centred nearest missed tracked trackedFar printed unmarkedFrom cleared control blankFrom running endOf erased marksUp marksDown endUnmarked shifted modeSet flagged displaying keyLine withKeys withKindPatterns obeyed applyItem readsOf happened applyAll copies countedAll itemBytes sized soundIn firstOf allFree reasons numberOf granted noneWaits countable keyable besideItems startOf takenBy takenIn readsBy readsIn eventsBy eventsIn shownAfter served answerOf printedBy numberIn lengthIn kindIn bodyIn recordIn recordsAfter lacking uncut? all? bodiesOf known? packable knownIn sendableIn readsEach recordFrom recordOf holds allHold calm? lowest? printLifts? lifts? movesTop? wide? printPlace placeBy wideIn placesIn painted? repainted callsOf eventsOver revealed inBoth readAsPrinted printedInPack printedAt
 two-runs = record {
   made₁ = made-of 32 (filled 32) (askedIn (typed 125 65));
   made₂ = made-of 33 (filled 33) (askedIn (typed 120 66));

@@ -29,7 +29,7 @@ use Rattle.model.specs.Items.{copyOf, printerBytes}
 use Rattle.model.specs.OnScreen.{onScreen?, onScreenCodes, staysOnScreen?}
 use Rattle.model.proofs.Tests.{cond-at, differ}
 use Rattle.model.proofs.ItemLaws.{obeyed-item}
-use Rattle.model.proofs.Marking.{marks-96}
+use Rattle.model.proofs.Marking.{marks-two}
 use Rattle.calls.proofs.Printing.{fits-room}
 use Rattle.reader.specs.declared.Reading.{Reading}
 use Rattle.reader.specs.Reading.{ReadAt}
@@ -87,7 +87,7 @@ redotted st e h = λ i. record { settings = e i .settings; cells = e i .cells; l
 
 -- a frame that says otherwise of the layer
 abbrev pub bared : Frame → Bool → Frame
-bared f b = record { base = f .base; first = f .first; lines = f .lines; columns = f .columns; rows = f .rows; height = f .height; shift = f .shift; step = f .step; tracking = f .tracking; rule = f .rule; mode = f .mode; bare = b }
+bared f b = record { base = f .base; screen = f .screen; lines = f .lines; columns = f .columns; rows = f .rows; height = f .height; shift = f .shift; step = f .step; tracking = f .tracking; rule = f .rule; mode = f .mode; bare = b }
 
 framed-bared : {s : Settings} {f : Frame} (b : Bool) → Framed s f → Framed s (bared f b)
 framed-bared b e = record {
@@ -96,7 +96,7 @@ framed-bared b e = record {
   lines-are = e .lines-are;
   columns-are = e .columns-are;
   base-is = e .base-is;
-  first-is = e .first-is;
+  screen-is = e .screen-is;
   rows-are = e .rows-are;
   height-is = e .height-is;
   shift-is = e .shift-is;
@@ -108,7 +108,7 @@ framed-bared b e = record {
 
 ready-bared : {f : Frame} {p : Place} {c l : List ℕ} (b : Bool) → Ready f p c l → (b ≡ true → l ≡ replicate 1280 0) → Ready (bared f b) p c l
 ready-bared b h k = let d = h .stands in record {
-  stands = record { among = d .among; columns-low = d .columns-low; marks-among = d .marks-among; lines-high = d .lines-high; height-low = d .height-low; height-high = d .height-high; whole = d .whole; step-high = d .step-high; fits = d .fits };
+  stands = record { among = d .among; columns-low = d .columns-low; screen-low = d .screen-low; lines-high = d .lines-high; height-low = d .height-low; height-high = d .height-high; whole = d .whole; step-high = d .step-high; fits = d .fits };
   cells-are = h .cells-are;
   layer-are = record { size = h .layer-are .size; empty = k };
 }
@@ -139,8 +139,8 @@ module _ (m : List ℕ) (from : ℕ) (c₀ : Counts) (cells₀ layer₀ dots₀ 
     abbrev pub st : State
     st = state (withHere s p marks) cells layer dots
 
-    pub marks-are : length marks ≡ 96
-    marks-are = marks-96 st (g .going .good)
+    pub marks-are : length marks ≡ 2
+    marks-are = marks-two st (g .going .good)
 
     limits : limitsIn f ≡ limitsOf (withHere s p marks)
     limits = sym (limits-are (framed-here p marks (g .framed)))

@@ -86,10 +86,10 @@ pub fn obey_item(
     cells: &mut [u8],
     layer: &mut [u8],
     shown: &mut [u8],
-    marks: &mut [u8],
+    marks: &mut [u64],
 ) -> Seen
     requires { ⌜ Ready frame place (now cells) (now layer) ⌝ }
-    requires { ⌜ (length (now marks) ≡ 96) × (length (now shown) ≡ 640) ⌝ }
+    requires { ⌜ (length (now marks) ≡ 2) × (length (now shown) ≡ 640) ⌝ }
     requires { ⌜ Offered (now message) at size item (limitsIn frame) ⌝ }
     ensures { λ r. ⌜ (Moves (now (message .entry)) at size item frame place (runOf r) (now (cells .entry)) (now (layer .entry)) (now (marks .entry)) (now (cells .exit)) (now (layer .exit)) (now (marks .exit))) × (Watches (now (message .entry)) at item frame place secret r (now (cells .entry)) (now (layer .entry)) (now (marks .entry)) (now (shown .entry)) (now (shown .exit))) ⌝ }
 {
@@ -130,10 +130,10 @@ fn obey(
     size: usize,
     cells: &mut [u8],
     layer: &mut [u8],
-    marks: &mut [u8],
+    marks: &mut [u64],
 ) -> Seen
     requires { ⌜ Ready frame place (now cells) (now layer) ⌝ }
-    requires { ⌜ length (now marks) ≡ 96 ⌝ }
+    requires { ⌜ length (now marks) ≡ 2 ⌝ }
     requires { ⌜ (Offered (now message) at size item (limitsIn frame)) × (printing? item ≡ false) ⌝ }
     ensures { λ r. ⌜ (Moves (now (message .entry)) at size item frame place (runOf r) (now (cells .entry)) (now (layer .entry)) (now (marks .entry)) (now (cells .exit)) (now (layer .exit)) (now (marks .exit))) × ((secret : ℕ) (shown : List ℕ) → length shown ≡ 640 → SeesItem item frame place secret (r .wide) (now (cells .entry)) (now (layer .entry)) (now (marks .entry)) shown shown) ⌝ }
 {

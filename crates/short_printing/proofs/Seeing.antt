@@ -147,7 +147,7 @@ pub record SeenAlong (m : List ℕ) (f : Frame) (secret from : ℕ) (p : Place) 
   pub sees : Sees (take (at - from) (drop from m)) f p secret w c l k x x′
 
 module _ {m : List ℕ} {f : Frame} {secret : ℕ} {p : Place} {c l k x : List ℕ} where
-  pub seen-none : (from : ℕ) → Ready f p c l → length k ≡ 96 → length x ≡ 640 → SeenAlong m f secret from p c l k x from p false c l k x
+  pub seen-none : (from : ℕ) → Ready f p c l → length k ≡ 2 → length x ≡ 640 → SeenAlong m f secret from p c l k x from p false c l k x
   seen-none from h n z = record { along = along-none from h n; sees = let y : from - from ≡ 0 = omega arith in rw y (sees-none z) }
 
   -- a part of one byte, of as many as stay in the line
@@ -161,7 +161,7 @@ module _ {m : List ℕ} {f : Frame} {secret : ℕ} {p : Place} {c l k x : List �
         record { part = record { some = omega arith; most = omega arith; acts = likewise-with (λ s ds y z v. rw bs) a }; sees = rw bs u }
 
   module _ {at to : ℕ} {r : Seen} {c₁ l₁ x₁ : List ℕ} where
-    pub part-line : {n : ℕ} → 1 ≤ n → at + n ≤ to → r .at ≡ at + n → r .wide ≡ false → length k ≡ 96 → Acts (printedAll (take n (drop at m))) f p (r .place) c l c₁ l₁
+    pub part-line : {n : ℕ} → 1 ≤ n → at + n ≤ to → r .at ≡ at + n → r .wide ≡ false → length k ≡ 2 → Acts (printedAll (take n (drop at m))) f p (r .place) c l c₁ l₁
         → Sees (take n (drop at m)) f p secret false c l k x x₁ → SeenPart m at to f p secret r c l k x c₁ l₁ k x₁
     part-line {n} h j e w i a u =
         let z : r .at - at ≡ n = omega (arith, e) in

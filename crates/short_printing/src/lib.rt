@@ -107,10 +107,10 @@ pub fn print_code(
     cells: &mut [u8],
     layer: &mut [u8],
     shown: &mut [u8],
-    marks: &mut [u8],
+    marks: &mut [u64],
 ) -> Letter
     requires { ⌜ Ready frame place (now cells) (now layer) ⌝ }
-    requires { ⌜ (length (now marks) ≡ 96) × (length (now shown) ≡ 640) ⌝ }
+    requires { ⌜ (length (now marks) ≡ 2) × (length (now shown) ≡ 640) ⌝ }
     ensures { λ r. ⌜ (ActsWith (printed code) frame place (r .place) (now (cells .entry)) (now (layer .entry)) (now (marks .entry)) (now (cells .exit)) (now (layer .exit)) (now (marks .exit))) × (Sees (code ∷ []) frame place secret (r .wide) (now (cells .entry)) (now (layer .entry)) (now (marks .entry)) (now (shown .entry)) (now (shown .exit))) ⌝ }
 {
     let late = (place.late == 1) & lowest(frame, place);
@@ -135,10 +135,10 @@ fn print_part(
     cells: &mut [u8],
     layer: &mut [u8],
     shown: &mut [u8],
-    marks: &mut [u8],
+    marks: &mut [u64],
 ) -> Seen
     requires { ⌜ Ready frame place (now cells) (now layer) ⌝ }
-    requires { ⌜ (length (now marks) ≡ 96) × (length (now shown) ≡ 640) ⌝ }
+    requires { ⌜ (length (now marks) ≡ 2) × (length (now shown) ≡ 640) ⌝ }
     requires { ⌜ (at < end) × (end ≤ length (now message)) ⌝ }
     ensures { λ r. ⌜ SeenPart (now (message .entry)) at end frame place secret r (now (cells .entry)) (now (layer .entry)) (now (marks .entry)) (now (shown .entry)) (now (cells .exit)) (now (layer .exit)) (now (marks .exit)) (now (shown .exit)) ⌝ }
 {
@@ -189,10 +189,10 @@ pub fn print_run(
     cells: &mut [u8],
     layer: &mut [u8],
     shown: &mut [u8],
-    marks: &mut [u8],
+    marks: &mut [u64],
 ) -> Seen
     requires { ⌜ Ready frame place (now cells) (now layer) ⌝ }
-    requires { ⌜ (length (now marks) ≡ 96) × (length (now shown) ≡ 640) ⌝ }
+    requires { ⌜ (length (now marks) ≡ 2) × (length (now shown) ≡ 640) ⌝ }
     requires { ⌜ prints? (now message) at ≡ true ⌝ }
     ensures { λ r. ⌜ SeenRun (now (message .entry)) at frame place secret r (now (cells .entry)) (now (layer .entry)) (now (marks .entry)) (now (shown .entry)) (now (cells .exit)) (now (layer .exit)) (now (marks .exit)) (now (shown .exit)) ⌝ }
 {

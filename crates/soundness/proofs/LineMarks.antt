@@ -1,38 +1,24 @@
--- P5: the test of a screen's marks, one line after the other; and that no mark at all is sound.
-use mathlib.Core.Path.{_∙_, _≡_, ap, refl, sym}
-use Prim.Native.Nat.{_*_, _+_, _-_, _≤_, suc, zero, ℕ}
-use native.Mathlib.Numerals.{add-one}
+-- P5: the test of a screen's marks, by a shift.
+use mathlib.Core.Path.{_∙_, _≡_, refl, sym}
+use Prim.Native.Nat.{_/_, _<_, _^_, _≤_, ℕ}
+use native.Mathlib.Nat.{div-eq-of-lt, le-div-iff-mul-le, lt-of-lt-of-le}
 use native.Mathlib.Omega.{arith}
-use mathlib.Core.Bool.{Bool, _&&_, true}
-use mathlib.Core.List.{List}
-use lib.ListN.{getD, length, replicate}
-use lib.Dec.{leb}
-use Rattle.model.specs.declared.Settings.{Settings}
-use Rattle.model.specs.Marks.{markOf, marked?, mostMark}
-use Rattle.model.specs.Screens.{linesOf}
-use Rattle.model.specs.Sound.{marks?}
-use Rattle.model.proofs.MarkLaws.{true-marked}
-use Rattle.model.proofs.Tests.{and-both}
+use mathlib.Core.Bool.{Bool, false, true}
+use lib.Dec.{eqb, ltb}
+use lib.Pow.{pow-mono, pow-pos}
+use borrow.Author.Tests.{eq-eqb, lt-ltb, ltb-false, ltb-true, ne-eqb}
 
--- one line more
-pub line-more : (marks : List ℕ) (from lines n : ℕ) {y : ℕ} {b : Bool} → y ≡ mostMark lines (n + 1) → b ≡ marked? n lines (λ (l : ℕ). getD marks (from + (l - 1)) 0)
-    → (leb (getD marks (from + n) 0) y && b) ≡ marked? (n + 1) lines (λ (l : ℕ). getD marks (from + (l - 1)) 0)
-unfolding marked?
-line-more marks from lines n {y} {b} e f =
-    let z : n ≡ suc n - 1 = omega arith in
-    (λ i. leb (getD marks (from + z i) 0) ((e ∙ ap (mostMark lines) (add-one n)) i) && f i) ∙ ap (λ (k : ℕ). marked? k lines (λ (l : ℕ). getD marks (from + (l - 1)) 0)) (sym (add-one n))
-
-alike : (n i x : ℕ) → getD (replicate n x) i x ≡ x
-alike zero i x = refl
-alike (suc n) zero x = refl
-alike (suc n) (suc i) x = alike n i x
-
-pub none-sound : (s : Settings) → s .marks ≡ replicate (length (s .marks)) 0 → (marks? s 0 && marks? s 1) ≡ true
-unfolding marks? markOf
-none-sound s e = and-both _ _ (each 0) (each 1)
+-- nothing is left of a number that has no more bits than are shifted out, and of no other
+pub shifted-out : (n k : ℕ) → eqb (n / 2 ^ k) 0 ≡ ltb n (2 ^ k)
+shifted-out n k = go (ltb n (2 ^ k)) refl
   where
-    none : (k l : ℕ) → getD (s .marks) (48 * k + (l - 1)) 0 ≡ 0
-    none k l = ap (λ (xs : List ℕ). getD xs (48 * k + (l - 1)) 0) e ∙ alike (length (s .marks)) (48 * k + (l - 1)) 0
+    go : (b : Bool) → ltb n (2 ^ k) ≡ b → eqb (n / 2 ^ k) 0 ≡ ltb n (2 ^ k)
+    go true e = eq-eqb (n / 2 ^ k) 0 (div-eq-of-lt (ltb-true n (2 ^ k) e)) ∙ sym e
+    go false e =
+        let h : 2 ^ k ≤ n = ltb-false n (2 ^ k) e in
+        let some : 1 ≤ n / 2 ^ k = le-div-iff-mul-le (pow-pos k) .1 (omega arith) in
+        ne-eqb (n / 2 ^ k) 0 (λ z. omega arith) ∙ sym e
 
-    each : (k : ℕ) → marked? 48 (linesOf s k) (markOf s k) ≡ true
-    each k = true-marked 48 (linesOf s k) (markOf s k) (λ l p q. omega (arith, none k l))
+-- every number of the code has as few as 64
+pub none-beyond : (n k : ℕ) → n < 2 ^ 64 → 64 ≤ k → true ≡ ltb n (2 ^ k)
+none-beyond n k h l = sym (lt-ltb n (2 ^ k) (lt-of-lt-of-le h (pow-mono {i = 64} {j = k} l)))

@@ -2,13 +2,13 @@
 // comparisons in the same order; the arrays' lengths are those of their types. A message call asks the parts one by one, every other caller the whole.
 ghost use mathlib.Core.Path.{_≡_};
 ghost use mathlib.Core.Bool.{true, _&&_};
-ghost use lib.ListN.{getD, length};
+ghost use lib.ListN.{length};
 ghost use Prim.Native.Nat.{_+_, _-_, _≤_, ℕ};
 ghost use mathlib.Core.List.{[], _∷_};
 ghost use Rattle.model.specs.declared.Settings.{Settings};
 ghost use Rattle.model.specs.Checks.{inRanges?, range};
 ghost use Rattle.model.specs.Screens.{height, screens};
-ghost use Rattle.model.specs.Marks.{marked?, mostMark};
+ghost use Rattle.model.specs.Marks.{marked?};
 ghost use Rattle.model.specs.Sound.{aloneRanges, arrayRanges, inside?, insideRanges, keyRanges, marks?, mostLate, otherRanges, plainRanges, second?, shapeRanges, sound?};
 use model::Keys;
 use model::Place;
@@ -233,38 +233,25 @@ pub fn stored(settings: Settings) -> bool
         & ranged
 }
 
-// P5, the greatest mark of a line: "A screen's last line is never marked", nor what lies beyond it
-fn most(lines: u8, line: u8) -> u8
-    ensures { λ r. ⌜ r ≡ mostMark lines line ⌝ }
+// P5, the marks of a screen of so many lines: "A screen's last line is never marked", nor what lies beyond it
+fn marked_in(lines: u8, number: u64) -> bool
+    ensures { λ r. ⌜ r ≡ marked? lines number ⌝ }
 {
-    if line < lines { 1 } else { 0 }
-}
-
-// the 48 marks of a screen from an index on. The loop never stops early, so that a compiler tests many at once
-fn marked_from(lines: u8, marks: &[u8], from: usize) -> bool
-    requires { ⌜ from + 48 ≤ length (now marks) ⌝ }
-    ensures { λ r. ⌜ r ≡ marked? 48 lines (λ (l : ℕ). getD (now (marks .entry)) (from + (l - 1)) 0) ⌝ }
-{
-    let mut all = true;
-    let mut above: u8 = 0;
-    while above < 48 {
-        let line = above + 1;
-        all = (marks[from + (above as usize)] <= most(lines, line)) & all;
-        above = line;
+    let above = minus(lines, 1);
+    if 64 <= above {
+        return true;
     }
-    all
+    number >> above == 0
 }
 
-// the marks of both screens; where there is none, as most of the time, no line is looked at
+// the marks of both screens
 pub fn marked(settings: Settings) -> bool
     ensures { λ r. ⌜ r ≡ (marks? settings 0 && marks? settings 1) ⌝ }
 {
-    let marks = settings.marks;
-    if store::all_zero(&marks) {
-        return true;
-    }
-    let one = marked_from(settings.lines1, &marks, 0);
-    let two = marked_from(settings.lines2, &marks, 48);
+    let first = settings.marks[0];
+    let second = settings.marks[1];
+    let one = marked_in(settings.lines1, first);
+    let two = marked_in(settings.lines2, second);
     one & two
 }
 

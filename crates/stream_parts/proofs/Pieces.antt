@@ -12,7 +12,6 @@ use Rattle.model.specs.State.{State, withLine}
 use Rattle.model.specs.Checks.{inRanges?, range}
 use Rattle.model.specs.Screens.{base, cellAt, columnsOf, height, lineAt, linesOf, placeOf, screens, textRows}
 use Rattle.model.specs.Line.{heldIn, line?}
-use Rattle.model.specs.Marks.{markOf}
 use Rattle.model.specs.Sound.{aloneRanges, arrayRanges, inside?, insideRanges, keyRanges, marks?, otherRanges, plainRanges, second?, shapeRanges, sound?}
 use Rattle.model.specs.Picture.{covered, halves, painting, picture, pictureAt, sides, textAt, under, windowAt}
 use Rattle.model.specs.Reading.{Read, gathered, remaining, uncut}
@@ -159,11 +158,11 @@ promised-not a t buffer n answer e z w =
 
 -- soundness apart from the line: two sound lines, and the same settings otherwise
 pub sound-either : (s : Settings) (w : List ℕ) (h n : ℕ) (w′ : List ℕ) (h′ n′ : ℕ) → length w ≡ 12 → length w′ ≡ 12 → line? w h n ≡ true → line? w′ h′ n′ ≡ true → sound? (withLine s w h n) ≡ sound? (withLine s w′ h′ n′)
-unfolding sound? arrayRanges shapeRanges otherRanges plainRanges keyRanges inside? second? aloneRanges insideRanges marks? markOf linesOf columnsOf height screens textRows placeOf
+unfolding sound? arrayRanges shapeRanges otherRanges plainRanges keyRanges inside? second? aloneRanges insideRanges marks? linesOf columnsOf height screens textRows placeOf
 sound-either s w h n w′ h′ n′ e e′ f f′ = (λ i. body (e i) (f i)) ∙ (λ i. body (sym e′ i) (sym f′ i))
   where
     body : ℕ → Bool → Bool
     body k b =
-        inRanges? (range 2 (length (s .places)) 2 ∷ range 3 (length (s .keys .leds)) 3 ∷ range 12 (length (s .keys .arrows)) 12 ∷ range 248 (length (s .patterns)) 248 ∷ range 12 k 12 ∷ range 80 (length (s .texts)) 80 ∷ range 96 (length (s .marks)) 96 ∷ [])
+        inRanges? (range 2 (length (s .places)) 2 ∷ range 3 (length (s .keys .leds)) 3 ∷ range 12 (length (s .keys .arrows)) 12 ∷ range 248 (length (s .patterns)) 248 ∷ range 12 k 12 ∷ range 80 (length (s .texts)) 80 ∷ range 2 (length (s .marks)) 2 ∷ [])
         && (inRanges? (shapeRanges (s .mode) (s .lines1) (s .lines2) (s .columns1) (s .columns2))
         && (inRanges? (otherRanges (screens s) (s .selected) (s .step) (height s)) && (inRanges? (plainRanges s) && (inside? s 0 && (second? s && (b && (marks? s 0 && marks? s 1)))))))

@@ -47,7 +47,7 @@ pub(crate) fn opened_settings(rule: u8) -> Settings
         held: 0,
         count: 0,
         texts: [32u8; 80],
-        marks: [0u8; 96],
+        marks: [0u64; 2],
         rule,
     }
 }

@@ -3,7 +3,7 @@ use mathlib.Core.Path.{refl}
 use Rattle.model.specs.Bytes.{onPart, put}
 use Rattle.model.specs.Checks.{firstBad, inRanges?, member, passes}
 use Rattle.model.specs.Screens.{columnsOf, height, linesOf, placeOf, screens, textRows}
-use Rattle.model.specs.Marks.{markOf, marked?}
+use Rattle.model.specs.Marks.{marked?}
 use Rattle.model.specs.Line.{line?, padded, zeros?}
 use Rattle.model.specs.Sound.{aloneRanges, arrayRanges, inside?, insideRanges, keyRanges, marks?, otherRanges, plainRanges, second?, shapeRanges, sound?}
 use Rattle.model.specs.Picture.{copySizeOf}
@@ -17,7 +17,7 @@ use Rattle.writer.specs.Writing.{bufferAfter, numberIn, numberOf, parame
 use Rattle.writer.specs.Examples.{Examples}
 
 pub examples : Examples
-unfolding onPart put member passes inRanges? firstBad linesOf columnsOf placeOf textRows height screens markOf marked? padded zeros? line? keyRanges plainRanges arrayRanges aloneRanges insideRanges shapeRanges otherRanges inside? second? marks? sound? copySizeOf find rowOf modeRowOf idle? afterMode afterEscape needed unfinished? gathered remaining kindOf decoded ended itemOf judgedRanges legal? badOf allowed fitting bytesOf paramsOf givenBytes said saidOfAll numberIn parameterIn space? firstOf numberOf parameterOf placeAfter bufferAfter
+unfolding onPart put member passes inRanges? firstBad linesOf columnsOf placeOf textRows height screens marked? padded zeros? line? keyRanges plainRanges arrayRanges aloneRanges insideRanges shapeRanges otherRanges inside? second? marks? sound? copySizeOf find rowOf modeRowOf idle? afterMode afterEscape needed unfinished? gathered remaining kindOf decoded ended itemOf judgedRanges legal? badOf allowed fitting bytesOf paramsOf givenBytes said saidOfAll numberIn parameterIn space? firstOf numberOf parameterOf placeAfter bufferAfter
 examples = record {
   select = refl;
   put = refl;

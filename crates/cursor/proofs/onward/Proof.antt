@@ -13,7 +13,7 @@ onward-spec =
     (λ c κs. search needs)
     (λ c κs. let entry = c .before .before .before .before .before .before .before in (column-acts (entry .pre .0) 1 (omega arith) (omega arith) (c .before .before .before .put-at .ensures) .ready, entry .pre .1))
     (λ c. omega (arith, c .before .before .before .before .before .before .before .down .ensures .1))
-    (λ c κs. let done = c .before .before .before .before .before .before .before .before .down .ensures in ((omega (arith, done .1), omega (arith, done .0 .ready .stands)), (done .0 .ready .stands .marks-among, done .0 .marks-are)))
+    (λ c κs. let done = c .before .before .before .before .before .before .before .before .down .ensures in ((omega (arith, done .1), omega (arith, done .0 .ready .stands)), (done .0 .ready .stands .screen-low, done .0 .marks-are)))
     (λ c. search needs)
     (λ c. search needs)
     (λ c. search needs)

@@ -19,4 +19,4 @@ shift-spec =
     (λ c. search needs)
     (λ c. search needs)
     (λ c. let entry = c .before .before .before .before .before .before .before .before .before .before .before .before .before .before .before .before .before .before in let a = entry .args in
-    shifted-acts (entry .pre .1 .0) (a .from) (a .count) (cond (a .down) scrolledDown scrolledUp) (carried (a .down) (a .from) (a .count)) (c .before .before .before .before .before .before .before .before .before .before .before .before .scroll .ensures) (c .before .before .before .before .before .before .carry .ensures) (c .before .before .unmark-ends .ensures)))
+    shifted-acts (entry .pre .1 .0) (entry .pre .0 .stands .screen-low) (a .from) (a .count) (cond (a .down) scrolledDown scrolledUp) (carried (a .down) (a .from) (a .count)) (c .before .before .before .before .before .before .before .before .before .before .before .before .scroll .ensures) (c .before .before .before .before .before .before .carry .ensures) (c .before .before .unmark-ends .ensures)))

@@ -4,11 +4,4 @@ use Rattle.ground.proofs.logical.runs.Statement.{statement}
 use Rattle.ground.proofs.logical.runs.Tie as tie
 
 pub runs-spec : {M : Type 1} → statement M
-runs-spec =
-    tie.close
-    (tie.spec
-    (λ c. search needs)
-    (λ c κs. search needs)
-    (λ c. search needs)
-    (λ c. search needs)
-    (λ c. rw (c .before .before .before .as-size .ensures)))
+runs-spec = tie.close (tie.spec (λ c. search needs) (λ c. search needs) (λ c. search needs) (λ c. search needs) (λ c. search needs) (λ c. search needs))

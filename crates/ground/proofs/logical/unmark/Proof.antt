@@ -1,7 +1,8 @@
--- `unmark` meets its contract: the marks from one line through another are filled with 0.
+-- `unmark` meets its contract: what lies above the lines and what lies below them is joined.
+use mathlib.Core.Path.{refl}
 use native.Mathlib.Omega.{arith}
 use borrow.Author.Needs.{needs}
-use Rattle.ground.proofs.LogicalLaws.{empty-at-made}
+use Rattle.ground.proofs.LogicalLaws.{unmark-made}
 use Rattle.ground.proofs.logical.unmark.Statement.{statement}
 use Rattle.ground.proofs.logical.unmark.Tie as tie
 
@@ -10,11 +11,11 @@ unmark-spec =
     tie.close
     (tie.spec
     (λ c. search needs)
+    (λ c. search needs)
+    (λ c κs. search needs)
+    (λ c. search needs)
     (λ c κs. search needs)
     (λ c. search needs)
     (λ c. search needs)
     (λ c. search needs)
-    (λ c κs. search needs)
-    (λ c κs. search needs)
-    (λ c. search needs)
-    (λ c. let a = c .before .before .before .before .before .before .before .before .args in empty-at-made (a .from) (a .to) (c .before .before .before .before .as-size2 .result) (c .before .before .zero .ensures) (omega arith) (omega arith) (omega arith) (omega arith) (omega arith) (omega arith)))
+    (λ c. let a = c .before .before .before .before .args in unmark-made (a .from) (a .to) (omega arith) (omega arith) (omega arith) refl (c .before .moved .ensures) (c .lowest .ensures) refl))

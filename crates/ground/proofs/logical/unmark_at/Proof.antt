@@ -1,5 +1,7 @@
 -- `unmark_at` meets its contract: there is no line 0.
+use Prim.Native.Nat.{_<_, _^_}
 use native.Mathlib.Omega.{arith}
+use lib.ListN.{getD}
 use borrow.Author.Needs.{needs}
 use Rattle.ground.proofs.LogicalLaws.{no-line}
 use Rattle.ground.proofs.logical.unmark_at.Statement.{statement}
@@ -12,4 +14,5 @@ unmark-at-spec =
     (λ c κs. search needs)
     (λ c. search needs)
     (λ c. search needs)
-    (λ c. no-line (c .before .before .args .line) (omega arith)))
+    (λ c. let a = c .before .before .args in let small : getD (a .marks .now) (a .frame .screen) 0 < 2 ^ 64 = omega (arith, c .before .slice-known .given (a .frame .screen)) in
+    no-line (a .line) (omega arith) small))

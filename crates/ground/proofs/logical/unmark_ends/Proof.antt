@@ -16,4 +16,4 @@ unmark-ends-spec =
     (λ c κs. search needs)
     (λ c. search needs)
     (λ c. let two = c .before .before .before .before .before .before in let one = two .before .before .before .before in
-    ends-made _ _ _ refl (one .unmark-at .ensures) (two .unmark-at2 .ensures) (c .before .before .unmark-at3 .ensures)))
+    ends-made _ _ _ (search needs) refl (one .unmark-at .ensures) (two .unmark-at2 .ensures) (c .before .before .unmark-at3 .ensures)))
