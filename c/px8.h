@@ -123,7 +123,6 @@ typedef uint64_t px8_size;
 #define PX8_KEY_TEXT 8        /* codes of a key's text */
 #define PX8_TEXTS 80          /* bytes of the key texts, PX8_KEYS * PX8_KEY_TEXT */
 #define PX8_LINES_MOST 48     /* lines of a screen at most */
-#define PX8_LINE_MARKS 96     /* bytes of the lines' marks, 2 * PX8_LINES_MOST */
 #define PX8_PACK_MOST 60000   /* the longest pack that is taken */
 #define PX8_RECORD_HEAD 4     /* bytes of a record before its body: the body's length and
                                * the kind, two bytes each, the low one first */
@@ -132,8 +131,9 @@ typedef uint64_t px8_size;
 #define PX8_CODE 5            /* bytes of a code that a trace sends */
 #define PX8_SEQUENCE_MOST 13  /* bytes of the longest sequence, ESC 198 */
 
-/* Byte of line 1 to 48 of screen 1 (0) or 2 (1) in the lines' marks. */
-#define PX8_MARK_AT(screen, line) (PX8_LINES_MOST * (screen) + (line) - 1)
+/* The bit of line 1 to 48 in its screen's marks, and whether it is set there. */
+#define PX8_MARK(line) ((uint64_t)1 << ((line) - 1))
+#define PX8_MARK_AT(marks, line) (((marks) & PX8_MARK(line)) != 0)
 
 /* Byte of row 1 to 8, column 1 to 80 in the shown screen and in the marks. */
 #define PX8_AT(row, column) (PX8_WIDTH * ((row) - 1) + (column) - 1)
@@ -243,9 +243,13 @@ typedef struct px8_keys {
  *
  * held, waiting and count are the stream's. No sequence changes them, and a
  * message and a pack leave them. Only px8_key_text changes the texts, only px8_opening the
- * rule. Between `waiting` and `count` there is a padding byte of no fixed value, and
- * there are three behind `rule`: compare settings field by field. */
+ * rule. Behind `texts` there are four padding bytes of no fixed value: compare settings
+ * field by field. */
 typedef struct px8_settings {
+    uint64_t marks[2];   /* of screen 1 and of screen 2: bit 0 for line 1 and so on, set
+                          * where the line runs on into the next (see "long lines"
+                          * below), by PX8_MARK_AT. From a screen's last line on no bit
+                          * is set */
     uint8_t mode;        /* 0 to 3 (ESC 208) */
     uint8_t lines1;      /* lines of screen 1, by the table (ESC 208) */
     uint8_t lines2;      /* lines of screen 2 */
@@ -263,6 +267,8 @@ typedef struct px8_settings {
                           * 1 it shows the screens as the other rows do */
     uint8_t kind;        /* type of the cursor, 0 to 3 (ESC 214); stored only */
     px8_keys keys;
+    uint8_t rule;        /* 1 or 2, as px8_opening was given it: when printing in the
+                          * last column goes to the next line (see "late wrap") */
     uint8_t patterns[PX8_PATTERNS]; /* any bytes: code c, 224 to 254, has the eight
                           * from 8 * (c - 224) on (ESC 224); stored only */
     uint8_t held;        /* how many bytes wait, 0 to 12, at most `count` */
@@ -273,11 +279,6 @@ typedef struct px8_settings {
     uint32_t count;      /* bytes of the stream so far, 0 to PX8_COUNT_MOST */
     uint8_t texts[PX8_TEXTS]; /* any bytes: key k, 1 to 10, has the eight from
                           * 8 * (k - 1) on, which stand in columns 8k-7 to 8k of row 8 */
-    uint8_t marks[PX8_LINE_MARKS]; /* 1 where a line runs on into the next (see "long
-                          * lines" below), else 0; by PX8_MARK_AT. From a screen's last
-                          * line on they are 0 */
-    uint8_t rule;        /* 1 or 2, as px8_opening was given it: when printing in the
-                          * last column goes to the next line (see "late wrap") */
 } px8_settings;
 
 /*
@@ -1117,29 +1118,29 @@ PX8_HOLDS(offsetof(px8_keys, interval) == 7);
 PX8_HOLDS(offsetof(px8_keys, shift) == 8);
 PX8_HOLDS(offsetof(px8_keys, arrows) == 9);
 
-PX8_HOLDS(sizeof(px8_settings) == 488);
-PX8_HOLDS(offsetof(px8_settings, mode) == 0);
-PX8_HOLDS(offsetof(px8_settings, lines1) == 1);
-PX8_HOLDS(offsetof(px8_settings, lines2) == 2);
-PX8_HOLDS(offsetof(px8_settings, columns1) == 3);
-PX8_HOLDS(offsetof(px8_settings, columns2) == 4);
-PX8_HOLDS(offsetof(px8_settings, boundary) == 5);
-PX8_HOLDS(offsetof(px8_settings, selected) == 6);
-PX8_HOLDS(offsetof(px8_settings, places) == 7);
-PX8_HOLDS(offsetof(px8_settings, tracking) == 15);
-PX8_HOLDS(offsetof(px8_settings, step) == 16);
-PX8_HOLDS(offsetof(px8_settings, secret) == 17);
-PX8_HOLDS(offsetof(px8_settings, cursor) == 18);
-PX8_HOLDS(offsetof(px8_settings, display) == 19);
-PX8_HOLDS(offsetof(px8_settings, kind) == 20);
-PX8_HOLDS(offsetof(px8_settings, keys) == 21);
-PX8_HOLDS(offsetof(px8_settings, patterns) == 42);
-PX8_HOLDS(offsetof(px8_settings, held) == 290);
-PX8_HOLDS(offsetof(px8_settings, waiting) == 291);
-PX8_HOLDS(offsetof(px8_settings, count) == 304);
-PX8_HOLDS(offsetof(px8_settings, texts) == 308);
-PX8_HOLDS(offsetof(px8_settings, marks) == 388);
-PX8_HOLDS(offsetof(px8_settings, rule) == 484);
+PX8_HOLDS(sizeof(px8_settings) == 408);
+PX8_HOLDS(offsetof(px8_settings, marks) == 0);
+PX8_HOLDS(offsetof(px8_settings, mode) == 16);
+PX8_HOLDS(offsetof(px8_settings, lines1) == 17);
+PX8_HOLDS(offsetof(px8_settings, lines2) == 18);
+PX8_HOLDS(offsetof(px8_settings, columns1) == 19);
+PX8_HOLDS(offsetof(px8_settings, columns2) == 20);
+PX8_HOLDS(offsetof(px8_settings, boundary) == 21);
+PX8_HOLDS(offsetof(px8_settings, selected) == 22);
+PX8_HOLDS(offsetof(px8_settings, places) == 23);
+PX8_HOLDS(offsetof(px8_settings, tracking) == 31);
+PX8_HOLDS(offsetof(px8_settings, step) == 32);
+PX8_HOLDS(offsetof(px8_settings, secret) == 33);
+PX8_HOLDS(offsetof(px8_settings, cursor) == 34);
+PX8_HOLDS(offsetof(px8_settings, display) == 35);
+PX8_HOLDS(offsetof(px8_settings, kind) == 36);
+PX8_HOLDS(offsetof(px8_settings, keys) == 37);
+PX8_HOLDS(offsetof(px8_settings, rule) == 58);
+PX8_HOLDS(offsetof(px8_settings, patterns) == 59);
+PX8_HOLDS(offsetof(px8_settings, held) == 307);
+PX8_HOLDS(offsetof(px8_settings, waiting) == 308);
+PX8_HOLDS(offsetof(px8_settings, count) == 320);
+PX8_HOLDS(offsetof(px8_settings, texts) == 324);
 
 PX8_HOLDS(sizeof(px8_size) == 8);
 PX8_HOLDS(sizeof(px8_answer) == 32);

@@ -36,7 +36,22 @@ pub fn settings_from_board(s: &px8::Settings) -> Settings {
         held: s.held,
         count: s.count,
         texts: s.texts,
-        marks: s.marks,
+        marks: marks_from_board(&s.marks),
         rule: s.rule,
     }
+}
+
+/// Bit l − 1 of a screen's number is byte l − 1 of the reference's 48. What stands behind the
+/// 48 bits is a byte that is neither 0 nor 1, and its place.
+fn marks_from_board(marks: &[u64; 2]) -> [u8; 96] {
+    let mut all = [0; 96];
+    for (own, bits) in all.chunks_mut(48).zip(marks) {
+        for (at, mark) in own.iter_mut().enumerate() {
+            *mark = (bits >> at & 1) as u8;
+        }
+        if bits >> 48 != 0 {
+            own[(bits >> 56) as usize % 48] = (bits >> 48) as u8;
+        }
+    }
+    all
 }

@@ -240,9 +240,21 @@ pub fn settings_to_board(s: &Settings) -> px8::Settings {
         held: s.held,
         count: s.count,
         texts: s.texts,
-        marks: s.marks,
+        marks: marks_to_board(&s.marks),
         rule: s.rule,
     }
+}
+
+/// Bit l − 1 of a screen's number is byte l − 1 of the reference's 48. Of bytes that
+/// are neither 0 nor 1, which have no bit, the first of a screen is carried behind the
+/// 48 bits: the byte, then its place.
+fn marks_to_board(marks: &[u8; 96]) -> [u64; 2] {
+    [0, 1].map(|screen| {
+        let own = &marks[48 * screen..][..48];
+        let bits = (0..48).fold(0, |all, at| all | u64::from(own[at] == 1) << at);
+        let other = own.iter().position(|&mark| mark > 1);
+        other.map_or(bits, |at| bits | u64::from(own[at]) << 48 | (at as u64) << 56)
+    })
 }
 
 pub fn answer_from_board(answer: &px8::Answer) -> Answer {

@@ -73,10 +73,9 @@ fn settings_are_carried_over_whole() {
         *byte = 100 + at as u8;
     }
     for (at, byte) in settings.marks.iter_mut().enumerate() {
-        *byte = 200 - at as u8;
+        *byte = u8::from(at % 3 == 0);
     }
+    (settings.marks[47], settings.marks[50]) = (2, 255);
     let board = settings_to_board(&settings);
     assert_eq!(settings_from_board(&board), settings);
-    // the reference has another word for a cursor that is late
-    assert_eq!(format!("{board:?}").replace("late:", "waiting:"), format!("{settings:?}"));
 }

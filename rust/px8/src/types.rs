@@ -38,8 +38,6 @@ pub const KEY_TEXT: usize = 8;
 pub const TEXTS: usize = KEYS * KEY_TEXT;
 /// Lines of a screen at most.
 pub const LINES_MOST: usize = 48;
-/// Bytes of the lines' marks: 48 of each screen.
-pub const LINE_MARKS: usize = 2 * LINES_MOST;
 /// Bytes of a stream that wait at most.
 pub const WAITING_MOST: usize = 12;
 /// The most that a stream's byte count reaches.
@@ -141,6 +139,10 @@ pub struct Keys {
 #[repr(C)]
 #[derive(Clone, Copy, Debug, PartialEq, Eq)]
 pub struct Settings {
+    /// Of screen 1 and of screen 2: bit l − 1 is set where line l runs on into
+    /// the next, so that 84 erases both. From a screen's last line on no bit is
+    /// set. See [`Settings::marked_lines`].
+    pub marks: [u64; 2],
     /// 0 to 3 (208).
     pub mode: u8,
     /// Lines of screen 1. Mode 0: each screen at least 8, together at most
@@ -174,6 +176,10 @@ pub struct Settings {
     pub kind: u8,
     /// The keyboard's.
     pub keys: Keys,
+    /// 1 or 2, as the opening was given it: by rule 1 printing in the last
+    /// column goes to the next line at once, by rule 2 the next printed
+    /// character does. No sequence changes it.
+    pub rule: u8,
     /// 31 patterns of 8 rows, for the codes 224 to 254 (224).
     pub patterns: [u8; PATTERNS],
     /// How many bytes wait, 0 to 12, and at most `count`.
@@ -188,14 +194,6 @@ pub struct Settings {
     /// stands in columns 8k − 7 to 8k of the key line. See
     /// [`Settings::key_texts`].
     pub texts: [u8; TEXTS],
-    /// 1 where a line runs on into the next, so that 84 erases both, else 0.
-    /// Line l of screen 1 is byte l − 1, of screen 2 byte 47 + l. From a
-    /// screen's last line on they are 0. See [`Settings::marked_lines`].
-    pub marks: [u8; LINE_MARKS],
-    /// 1 or 2, as the opening was given it: by rule 1 printing in the last
-    /// column goes to the next line at once, by rule 2 the next printed
-    /// character does. No sequence changes it.
-    pub rule: u8,
 }
 
 impl Settings {
@@ -248,8 +246,8 @@ impl Settings {
     /// assert_eq!(terminal.settings().marked_lines(0).collect::<Vec<_>>(), [1]);
     /// ```
     pub fn marked_lines(&self, screen: usize) -> impl Iterator<Item = usize> + '_ {
-        let marks = self.marks.chunks(LINES_MOST).nth(screen).unwrap_or(&[]);
-        (1..).zip(marks).filter(|(_, mark)| **mark == 1).map(|(line, _)| line)
+        let marks = self.marks.get(screen).copied().unwrap_or(0);
+        (1..=LINES_MOST).filter(move |line| marks >> (line - 1) & 1 == 1)
     }
 }
 

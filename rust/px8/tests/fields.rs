@@ -6,7 +6,7 @@ use px8::{Place, Settings, Terminal};
 
 /// A line of a screen, 0 or 1, runs on.
 fn run_on(settings: &mut Settings, screen: u8, line: u8) {
-    settings.marks[48 * usize::from(screen) + usize::from(line) - 1] = 1;
+    settings.marks[usize::from(screen)] |= 1 << (line - 1);
 }
 
 /// After the message the settings are the opening's, but for `change`.
@@ -53,7 +53,7 @@ fn opening_settings() {
         held: 0,
         count: 0,
         texts: [32; 80],
-        marks: [0; 96],
+        marks: [0; 2],
         rule: 1,
     };
     assert_eq!(Terminal::open().settings(), &expected);

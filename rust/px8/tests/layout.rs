@@ -25,29 +25,29 @@ fn keys() {
 
 #[test]
 fn settings() {
-    assert_eq!((size_of::<Settings>(), align_of::<Settings>()), (488, 4));
-    assert_eq!(offset_of!(Settings, mode), 0);
-    assert_eq!(offset_of!(Settings, lines1), 1);
-    assert_eq!(offset_of!(Settings, lines2), 2);
-    assert_eq!(offset_of!(Settings, columns1), 3);
-    assert_eq!(offset_of!(Settings, columns2), 4);
-    assert_eq!(offset_of!(Settings, boundary), 5);
-    assert_eq!(offset_of!(Settings, selected), 6);
-    assert_eq!(offset_of!(Settings, places), 7);
-    assert_eq!(offset_of!(Settings, tracking), 15);
-    assert_eq!(offset_of!(Settings, step), 16);
-    assert_eq!(offset_of!(Settings, secret), 17);
-    assert_eq!(offset_of!(Settings, cursor), 18);
-    assert_eq!(offset_of!(Settings, display), 19);
-    assert_eq!(offset_of!(Settings, kind), 20);
-    assert_eq!(offset_of!(Settings, keys), 21);
-    assert_eq!(offset_of!(Settings, patterns), 42);
-    assert_eq!(offset_of!(Settings, held), 290);
-    assert_eq!(offset_of!(Settings, waiting), 291);
-    assert_eq!(offset_of!(Settings, count), 304);
-    assert_eq!(offset_of!(Settings, texts), 308);
-    assert_eq!(offset_of!(Settings, marks), 388);
-    assert_eq!(offset_of!(Settings, rule), 484);
+    assert_eq!((size_of::<Settings>(), align_of::<Settings>()), (408, 8));
+    assert_eq!(offset_of!(Settings, marks), 0);
+    assert_eq!(offset_of!(Settings, mode), 16);
+    assert_eq!(offset_of!(Settings, lines1), 17);
+    assert_eq!(offset_of!(Settings, lines2), 18);
+    assert_eq!(offset_of!(Settings, columns1), 19);
+    assert_eq!(offset_of!(Settings, columns2), 20);
+    assert_eq!(offset_of!(Settings, boundary), 21);
+    assert_eq!(offset_of!(Settings, selected), 22);
+    assert_eq!(offset_of!(Settings, places), 23);
+    assert_eq!(offset_of!(Settings, tracking), 31);
+    assert_eq!(offset_of!(Settings, step), 32);
+    assert_eq!(offset_of!(Settings, secret), 33);
+    assert_eq!(offset_of!(Settings, cursor), 34);
+    assert_eq!(offset_of!(Settings, display), 35);
+    assert_eq!(offset_of!(Settings, kind), 36);
+    assert_eq!(offset_of!(Settings, keys), 37);
+    assert_eq!(offset_of!(Settings, rule), 58);
+    assert_eq!(offset_of!(Settings, patterns), 59);
+    assert_eq!(offset_of!(Settings, held), 307);
+    assert_eq!(offset_of!(Settings, waiting), 308);
+    assert_eq!(offset_of!(Settings, count), 320);
+    assert_eq!(offset_of!(Settings, texts), 324);
 }
 
 #[test]
