@@ -2,6 +2,8 @@
 //! with the reference like any other implementation.
 
 mod from_board;
+mod layout;
+pub mod machine;
 
 use compare::screens::Screens;
 use compare::traces::Repeats;
