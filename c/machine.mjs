@@ -5,7 +5,7 @@ import { readFileSync, readSync, writeSync } from "node:fs";
 const { instance } = await WebAssembly.instantiate(readFileSync(process.argv[2]), {});
 const { memory, __heap_base, ...calls } = instance.exports;
 const PARTS = 7;
-const SETTINGS = 488;
+const SETTINGS = 408;
 const HEAD = 4 + 4 * PARTS + 16;
 const start = Math.ceil(__heap_base.value / 16) * 16;
 const at = { given: start, answer: start + 640, settings: start + 704, parts: start + 1280 };

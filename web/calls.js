@@ -2,21 +2,21 @@
 // The call layer: the calls of c/px8.h, as px8.wasm exports them, on plain byte arrays. It works out nothing: what a
 // call answers and leaves is read from the memory that was lent to it, by the offsets that px8.h asserts.
 
-const SIZE = { settings: 488, cells: 3840, layer: 1280, shown: 640, dots: 3840 };
+const SIZE = { settings: 408, cells: 3840, layer: 1280, shown: 640, dots: 3840 };
 const STATE = Object.keys(SIZE);
 const STORES = ["cells", "layer", "shown", "dots"];
 const LONGEST = { message: 4096, pack: 60000, room: 65536 };
 
 // Name, offset and, for more than one byte, how many; by rows as px8.h has them.
 const FIELDS = [
-  ["mode", 0], ["lines1", 1], ["lines2", 2], ["columns1", 3], ["columns2", 4], ["boundary", 5], ["selected", 6],
-  ["line1", 7], ["column1", 8], ["top1", 9], ["late1", 10], ["line2", 11], ["column2", 12], ["top2", 13], ["late2", 14],
-  ["tracking", 15], ["step", 16], ["secret", 17], ["cursor", 18], ["display", 19], ["kind", 20],
-  ["leds", 21, 3], ["charset", 24], ["strings", 25], ["repeat", 26], ["delay", 27], ["interval", 28], ["shift", 29],
-  ["arrows", 30, 12], ["patterns", 42, 248], ["held", 290], ["waiting", 291, 12], ["texts", 308, 80],
-  ["marks", 388, 96], ["rule", 484],
+  ["marks", 0, 16],
+  ["mode", 16], ["lines1", 17], ["lines2", 18], ["columns1", 19], ["columns2", 20], ["boundary", 21], ["selected", 22],
+  ["line1", 23], ["column1", 24], ["top1", 25], ["late1", 26], ["line2", 27], ["column2", 28], ["top2", 29],
+  ["late2", 30], ["tracking", 31], ["step", 32], ["secret", 33], ["cursor", 34], ["display", 35], ["kind", 36],
+  ["leds", 37, 3], ["charset", 40], ["strings", 41], ["repeat", 42], ["delay", 43], ["interval", 44], ["shift", 45],
+  ["arrows", 46, 12], ["rule", 58], ["patterns", 59, 248], ["held", 307], ["waiting", 308, 12], ["texts", 324, 80],
 ];
-const COUNT_AT = 304;
+const COUNT_AT = 320;
 
 // The settings by name; `waiting` is what waits, and no more.
 function settingsOf(bytes) {

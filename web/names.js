@@ -106,8 +106,8 @@ const SETTING_WORDS = {
 function standing(state, printed) {
   const s = settingsOf(state.settings);
   const list = (bytes) => [...bytes].map((byte) => ` ${byte}`).join("");
-  const runs = (screen) => list([...s.marks.keys()].filter((at) => s.marks[at] && at >= 48 * screen && at < 48 * screen + 48)
-    .map((at) => at - 48 * screen + 1));
+  const marked = (screen, line) => (s.marks[8 * screen + ((line - 1) >> 3)] >> ((line - 1) & 7)) & 1;
+  const runs = (screen) => list([...Array(48).keys()].map((at) => at + 1).filter((line) => marked(screen, line)));
   return [
     `mode ${s.mode} lines ${s.lines1} ${s.lines2} columns ${s.columns1} ${s.columns2} selected ${s.selected + 1}`,
     `screen 1 line ${s.line1} column ${s.column1} top ${s.top1}`,

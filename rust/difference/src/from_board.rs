@@ -43,7 +43,7 @@ pub fn settings_from_board(s: &px8::Settings) -> Settings {
 
 /// Bit l − 1 of a screen's number is byte l − 1 of the reference's 48. What stands behind the
 /// 48 bits is a byte that is neither 0 nor 1, and its place.
-fn marks_from_board(marks: &[u64; 2]) -> [u8; 96] {
+pub(crate) fn marks_from_board(marks: &[u64; 2]) -> [u8; 96] {
     let mut all = [0; 96];
     for (own, bits) in all.chunks_mut(48).zip(marks) {
         for (at, mark) in own.iter_mut().enumerate() {

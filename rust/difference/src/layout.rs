@@ -1,9 +1,11 @@
 //! Settings, answers and records as bytes, by the sizes and offsets that c/px8.h asserts on every processor.
 
+use crate::from_board::marks_from_board;
+use crate::marks_to_board;
 use reference::differences::Record;
 use reference::{Answer, Keys, Place, Settings};
 
-pub const SETTINGS: usize = 488;
+pub const SETTINGS: usize = 408;
 /// The longest answer, a pack's.
 pub const ANSWER: usize = 40;
 
@@ -32,31 +34,33 @@ pub fn answer_of(bytes: &[u8; ANSWER]) -> Answer {
     }
 }
 
-/// The settings by the offsets of c/px8.h; what lies between the fields has any value.
+/// The settings by the offsets of c/px8.h; what lies behind the fields has any value.
 pub fn bytes_of(s: &Settings) -> [u8; SETTINGS] {
     let keys = &s.keys;
     let places = s.places.map(|p| [p.line, p.column, p.top, p.waiting]);
     let first = [s.mode, s.lines1, s.lines2, s.columns1, s.columns2, s.boundary, s.selected];
-    let fields: [(usize, &[u8]); 19] = [
-        (0, &first),
-        (7, &places[0]),
-        (11, &places[1]),
-        (15, &[s.tracking, s.step, s.secret, s.cursor, s.display, s.kind]),
-        (21, &keys.leds),
-        (24, &[keys.charset]),
-        (25, &[keys.strings]),
-        (26, &[keys.repeat]),
-        (27, &[keys.delay]),
-        (28, &[keys.interval]),
-        (29, &[keys.shift]),
-        (30, &keys.arrows),
-        (42, &s.patterns),
-        (290, &[s.held]),
-        (291, &s.waiting),
-        (304, &s.count.to_le_bytes()),
-        (308, &s.texts),
-        (388, &s.marks),
-        (484, &[s.rule]),
+    let marks = marks_to_board(&s.marks);
+    let fields: [(usize, &[u8]); 20] = [
+        (0, &marks[0].to_le_bytes()),
+        (8, &marks[1].to_le_bytes()),
+        (16, &first),
+        (23, &places[0]),
+        (27, &places[1]),
+        (31, &[s.tracking, s.step, s.secret, s.cursor, s.display, s.kind]),
+        (37, &keys.leds),
+        (40, &[keys.charset]),
+        (41, &[keys.strings]),
+        (42, &[keys.repeat]),
+        (43, &[keys.delay]),
+        (44, &[keys.interval]),
+        (45, &[keys.shift]),
+        (46, &keys.arrows),
+        (58, &[s.rule]),
+        (59, &s.patterns),
+        (307, &[s.held]),
+        (308, &s.waiting),
+        (320, &s.count.to_le_bytes()),
+        (324, &s.texts),
     ];
     let mut bytes = [0xa5; SETTINGS];
     for (at, field) in fields {
@@ -76,36 +80,36 @@ pub fn settings_of(bytes: &[u8; SETTINGS]) -> Settings {
         waiting: bytes[at + 3],
     };
     Settings {
-        mode: bytes[0],
-        lines1: bytes[1],
-        lines2: bytes[2],
-        columns1: bytes[3],
-        columns2: bytes[4],
-        boundary: bytes[5],
-        selected: bytes[6],
-        places: [place(7), place(11)],
-        tracking: bytes[15],
-        step: bytes[16],
-        secret: bytes[17],
-        cursor: bytes[18],
-        display: bytes[19],
-        kind: bytes[20],
+        mode: bytes[16],
+        lines1: bytes[17],
+        lines2: bytes[18],
+        columns1: bytes[19],
+        columns2: bytes[20],
+        boundary: bytes[21],
+        selected: bytes[22],
+        places: [place(23), place(27)],
+        tracking: bytes[31],
+        step: bytes[32],
+        secret: bytes[33],
+        cursor: bytes[34],
+        display: bytes[35],
+        kind: bytes[36],
         keys: Keys {
-            leds: field(bytes, 21),
-            charset: bytes[24],
-            strings: bytes[25],
-            repeat: bytes[26],
-            delay: bytes[27],
-            interval: bytes[28],
-            shift: bytes[29],
-            arrows: field(bytes, 30),
+            leds: field(bytes, 37),
+            charset: bytes[40],
+            strings: bytes[41],
+            repeat: bytes[42],
+            delay: bytes[43],
+            interval: bytes[44],
+            shift: bytes[45],
+            arrows: field(bytes, 46),
         },
-        patterns: field(bytes, 42),
-        held: bytes[290],
-        waiting: field(bytes, 291),
-        count: number(bytes, 304),
-        texts: field(bytes, 308),
-        marks: field(bytes, 388),
-        rule: bytes[484],
+        patterns: field(bytes, 59),
+        held: bytes[307],
+        waiting: field(bytes, 308),
+        count: number(bytes, 320),
+        texts: field(bytes, 324),
+        marks: marks_from_board(&[0, 8].map(|at| u64::from_le_bytes(field(bytes, at)))),
+        rule: bytes[58],
     }
 }

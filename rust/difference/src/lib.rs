@@ -250,7 +250,7 @@ pub fn settings_to_board(s: &Settings) -> px8::Settings {
 /// Bit l − 1 of a screen's number is byte l − 1 of the reference's 48. Of bytes that
 /// are neither 0 nor 1, which have no bit, the first of a screen is carried behind the
 /// 48 bits: the byte, then its place.
-fn marks_to_board(marks: &[u8; 96]) -> [u64; 2] {
+pub(crate) fn marks_to_board(marks: &[u8; 96]) -> [u64; 2] {
     [0, 1].map(|screen| {
         let own = &marks[48 * screen..][..48];
         let bits = (0..48).fold(0, |all, at| all | u64::from(own[at] == 1) << at);
