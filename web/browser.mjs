@@ -94,6 +94,8 @@ class Tab {
     return this.ask("Input.insertText", { text });
   }
   async picture({ width, height, dark = false, phone = false }) {
+    // a page behind another is not drawn
+    await this.ask("Page.bringToFront");
     await this.ask("Emulation.setEmulatedMedia", { features: [{ name: "prefers-color-scheme", value: dark ? "dark" : "light" }] });
     await this.ask("Emulation.setDeviceMetricsOverride", { width, height, deviceScaleFactor: phone ? 2 : 1, mobile: phone });
     await new Promise((done) => setTimeout(done, 300));

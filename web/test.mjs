@@ -215,7 +215,6 @@ async function linking(page, browser) {
   const [link, standing] = [await page.value(`document.getElementById("link").value`), await page.text("standing")];
   const other = await browser.page(link);
   check("a link brings the same", (await other.text("standing")) === standing, link);
-  await other.go("about:blank").catch(() => {});
   const bad = await browser.page(`file://${file}#AAAA`);
   check("a damaged link says so", /link was not understood/.test(await bad.text("said")), await bad.text("said"));
 }
