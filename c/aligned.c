@@ -9,7 +9,7 @@
 ALIGNED(px8_size, 8);
 ALIGNED(px8_place, 1);
 ALIGNED(px8_keys, 1);
-ALIGNED(px8_settings, 4);
+ALIGNED(px8_settings, 8);
 ALIGNED(px8_answer, 8);
 ALIGNED(px8_pack_answer, 8);
 ALIGNED(px8_difference, 1);
