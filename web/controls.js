@@ -101,7 +101,7 @@ class Page {
       const answer = this.scratch.piece([byte], Math.max(0, Math.min(this.room, LONGEST.room) - printed));
       printed += answer.printed;
       held = [...held, byte];
-      if (this.scratch.bytes("settings")[290] > 0) continue; // an item that goes on
+      if (this.scratch.settings.held > 0) continue; // an item that goes on
       items.push({ at, bytes: held, ...outcome(answer) });
       at += held.length;
       held = [];
