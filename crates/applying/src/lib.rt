@@ -1,4 +1,6 @@
 // An item that does not stay on the selected screen: what it changes of the settings and of what they govern, and the copy that an 80 prints.
+#![tactic(auto)]
+
 pub mod places;
 
 ghost use Rattle.std.specs.Prelude.{◌≡◌, ◌+◌, ◌≤◌, length};

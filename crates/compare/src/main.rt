@@ -1,6 +1,8 @@
 // Prints how two shown screens differ, from two files named as arguments (document 02, P4): a line `first` and four numbers, or `none` alone, then
 // a line of four numbers for each record; or only `refused 1`, also for a file that cannot be read. Both files are read before anything is
 // printed.
+#![tactic(auto)]
+
 ghost use Rattle.std.specs.Prelude.{◌≤◌};
 ghost use Rattle.io.specs.Counts.{IsPrefixLen};
 

@@ -1,4 +1,6 @@
 // ESC 80, the printed copy: the picture of what stands, row by row, or in mode 3 the dots.
+#![tactic(auto)]
+
 ghost use Rattle.std.specs.Prelude.{◌≡◌, ℕ, ◌+◌, ◌≤◌, max, List, length};
 ghost use Rattle.model.specs.Bytes.{put};
 ghost use Rattle.model.specs.Sound.{Good};

@@ -1,4 +1,6 @@
 // What the answer counts while a message is served, item by item, and the answer that the counts make.
+#![tactic(auto)]
+
 ghost use Rattle.std.specs.Prelude.{◌≡◌, eqb, ◌<◌};
 ghost use Rattle.model.specs.Sequences.{code_of};
 ghost use Rattle.model.specs.Items.{printer_bytes};
@@ -7,7 +9,7 @@ ghost use Rattle.counting.specs.Counting.{no_counts, accepted_with, refused_with
 use model::{Answer, Item, Sequence};
 
 // What the answer counts, while a message is served.
-#[derive(Drop)]
+#[derive(Clone, Copy)]
 pub struct Counts {
     pub accepted: u32,
     pub refused: u32,

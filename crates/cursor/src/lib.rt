@@ -1,4 +1,6 @@
 // The cursor of the selected screen: storing where it stands, and moving it.
+#![tactic(auto)]
+
 pub mod window;
 
 ghost use Rattle.std.specs.Prelude.{◌≡◌, length, ◌-◌, ◌≤◌, max};

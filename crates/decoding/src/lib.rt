@@ -1,4 +1,6 @@
 // What a whole sequence is, from its own bytes: ESC, the second byte, the parameters as sent.
+#![tactic(auto)]
+
 ghost use Rattle.std.specs.Prelude.{ℕ, ◌+◌, ◌≤◌, ◌≡◌, get_or};
 ghost use Rattle.model.specs.Sequences.{mode_row_of};
 ghost use Rattle.decoding.specs.Decoding.{kind_from, sent, whole};

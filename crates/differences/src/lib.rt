@@ -1,6 +1,8 @@
 // Two shown screens laid side by side (document 02, P4): a record for each place that differs, in the caller's list, and the first of them.
 // The screens are looked through twice, once to count and once to write, so that a list that is too short is never touched; nothing is kept
 // beside the caller's list.
+#![tactic(auto)]
+
 mod search;
 
 ghost use Rattle.std.specs.Prelude.{◌≡◌, replicate};
@@ -10,7 +12,7 @@ use search::{count, record_at, seek};
 
 // "row, column, first code, second code"; rows and columns from 1.
 #[repr(C)]
-#[derive(Drop)]
+#[derive(Clone, Copy)]
 pub struct Difference {
     pub row: u8,
     pub column: u8,
@@ -20,21 +22,21 @@ pub struct Difference {
 
 // The first call's answer: 0 and the number of records written, or 1 or 18 and none.
 #[repr(C)]
-#[derive(Drop)]
+#[derive(Clone, Copy)]
 pub struct Compared {
     pub number: u8,
     pub count: usize,
 }
 
 // The first call's answer with its list, where the list went in by value.
-#[derive(Drop)]
+#[derive(Clone, Copy)]
 pub struct Listing {
     pub answer: Compared,
     pub list: [Difference; 640],
 }
 
 // The second call's answer.
-#[derive(Drop)]
+#[derive(Clone, Copy)]
 pub enum First {
     At(Difference),
     Nothing,
@@ -43,7 +45,7 @@ pub enum First {
 
 // The same in numbers: 0 or the refusal's, 1 where there is a difference, and its record (zeros where there is none).
 #[repr(C)]
-#[derive(Drop)]
+#[derive(Clone, Copy)]
 pub struct FirstValues {
     pub number: u8,
     pub found: u8,

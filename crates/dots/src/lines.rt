@@ -9,7 +9,7 @@ use model::Point;
 
 // What is carried from dot to dot: the dot's number, the first byte of its row (so that no dot costs a product), its column, and the
 // remainder of 2kd+N by 2N (so that none costs a quotient). In `usize` a compiler takes it apart into registers, in `u16` it does not.
-#[derive(Drop)]
+#[derive(Clone, Copy)]
 pub(crate) struct Reached {
     k: usize,
     row: usize,

@@ -1,4 +1,6 @@
 // 198 and 199 in mode 3, by crate dots. The settings stay.
+#![tactic(auto)]
+
 ghost use Rattle.std.specs.Prelude.{◌≡◌, length};
 ghost use Rattle.model.specs.Dot.{two_bytes, with_dot};
 ghost use Rattle.model.specs.Rules.{point};

@@ -2,6 +2,8 @@
 // the terminal's own call does, which has them by value; c/px8.h says it for C. A name ends with the number of the layout that settings and answers have (`_l2`): a
 // program that was compiled with a header of another layout does not link. Other crates export the others: each is an object of its own in the archive, so that what
 // a message asks of the settings has no other caller here, and a compiler works it out where the message is served.
+#![tactic(auto)]
+
 ghost use Rattle.std.specs.Prelude.{◌≡◌, length};
 ghost use Rattle.calls.specs.Calls.{Promised, called, terminal};
 ghost use Rattle.calls.specs.Opening.{OpeningPromised, first_part};

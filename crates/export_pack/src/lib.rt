@@ -1,19 +1,21 @@
 // A pack of messages for a board's firmware, in C or Rust: settings and answer lent, slices as pointer and length; c/px8.h says it for C. It stands apart from the
 // crates that export the other calls: an archive object has one copy of the message loop, and here that loop is compiled for packs alone.
+#![tactic(auto)]
+
 ghost use Rattle.calls.specs.Calls.{Promised, pack_called, terminal};
 
 use model::{Answer, Settings};
 
 // What a pack leaves beside the settings: the summed answer, and the record of its first refusal, counted from 1; 0 if there is none.
 #[repr(C)]
-#[derive(Drop)]
+#[derive(Clone, Copy)]
 pub struct PackAnswer {
     pub answer: Answer,
     pub record: u32,
 }
 
 // Both, as a lent call takes its outcome apart.
-#[derive(Drop)]
+#[derive(Clone, Copy)]
 pub struct Sent {
     pub settings: Settings,
     pub answer: PackAnswer,

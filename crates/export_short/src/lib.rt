@@ -1,5 +1,7 @@
 // Document 02, P12: a short message for a board's firmware in C or Rust: settings and answer lent, slices as pointer and length; c/px8.h says it for C.
 // It stands apart from the crates that export the other calls: an archive object has one copy of what it asks.
+#![tactic(auto)]
+
 ghost use Rattle.calls.specs.Calls.{terminal};
 ghost use Rattle.short.specs.Short.{ShortPromised};
 

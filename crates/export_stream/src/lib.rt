@@ -1,6 +1,8 @@
 // A piece of a stream and the closing for a board's firmware, in C or Rust: settings and answer lent, slices as pointer and length; c/px8.h says it for C.
 // They stand apart from the crate that exports px8_message_l2: an archive object has one copy of the message loop, and the loop that a message goes
 // through is compiled for that call alone.
+#![tactic(auto)]
+
 ghost use Rattle.calls.specs.Calls.{Promised, closed, pieced, terminal};
 
 use model::{Answer, Settings};

@@ -1,5 +1,7 @@
 // The calls for C and Rust that serve no message: the text of a key, the differences of two screens, the repeats of keys, a sequence written; settings and answer lent,
 // slices as pointer and length. Each promises what its crate's own call does; c/px8.h says it for C.
+#![tactic(auto)]
+
 ghost use Rattle.calls.specs.Calls.{KeyPromised};
 ghost use Rattle.differences.specs.Answers.{ComparePromised, FirstPromised};
 ghost use Rattle.traces.specs.Call.{RepeatsPromised};

@@ -3,6 +3,8 @@
 // under the eight rows a line with the stream's counts and its first refusal; in mode 3 the dots stand below, as Braille letters. The terminal's cursor
 // stands where the settings have the cursor, or behind that line where none is to be seen. It asks of the terminal 10 rows and 80 columns, in mode 3 19
 // rows and UTF-8, sets no mode of it, and can be ended at any time.
+#![tactic(auto)]
+
 mod cursor_place;
 mod totals;
 
@@ -13,7 +15,7 @@ use libc::{STDIN_FILENO, STDOUT_FILENO};
 use model::{Answer, CELLS, DOTS, LAYER, Outcome, SHOWN, Settings};
 
 // The stream as its last call left it: the settings, and the counts of all its calls.
-#[derive(Drop)]
+#[derive(Clone, Copy)]
 struct Stream {
     settings: Settings,
     total: Answer,

@@ -8,7 +8,7 @@ use model::SHOWN;
 const MOST: usize = 8 * SHOWN;
 
 // The bytes are the first of the array.
-#[derive(Drop)]
+#[derive(Clone, Copy)]
 pub struct Drawn {
     pub bytes: [u8; MOST],
     pub length: usize,

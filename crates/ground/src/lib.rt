@@ -1,4 +1,6 @@
 // What the cursor and the window of the selected screen stand on: its frame, its lines of cells, the marks of its lines, the layer, and places made from others.
+#![tactic(auto)]
+
 pub mod lines;
 pub mod logical;
 pub mod marks;
@@ -12,7 +14,7 @@ use store::sizes::as_size;
 // how many columns the picture shows it further right (mode 2, screen 2); the step of the window, whether it tracks the cursor, the rule of the last column, and
 // the mode, which no function here asks.
 // `bare` is no setting: it says that the layer is known to be empty, so that it need not be emptied again.
-#[derive(Drop)]
+#[derive(Clone, Copy)]
 pub struct Frame {
     pub base: usize,
     pub screen: usize,

@@ -1,4 +1,6 @@
 // Which sequences are accepted: 11, "a parameter is outside its range", then 13.
+#![tactic(auto)]
+
 ghost use Rattle.std.specs.Prelude.{◌+◌, ◌-◌, ◌<◌, ◌&&◌, cond, ◌≡◌, [], ◌∷◌, eqb, leb};
 ghost use Rattle.model.specs.Dot.{two_bytes};
 ghost use Rattle.model.specs.Sequences.{code_of};
@@ -10,7 +12,7 @@ use model::{Item, Limits, Sequence};
 
 // Whether all parameters are in their ranges; if not, which is the first that is not. Two values and not one, so that the compiler
 // goes on from `good` alone.
-#[derive(Drop)]
+#[derive(Clone, Copy)]
 pub struct Verdict {
     pub good: bool,
     pub parameter: u8,

@@ -1,5 +1,7 @@
 // Prints document 01's list of lengths, a bare number a line: for second bytes 0 to 255 the list's length (0 for 208, which the list gives by
 // the mode byte, and where it has none), then 208's for mode bytes 0 to 255.
+#![tactic(auto)]
+
 ghost use Rattle.std.specs.Prelude.{◌≡◌, cond, eqb};
 ghost use Rattle.tables.specs.Lengths.{length_of};
 

@@ -2,6 +2,8 @@
 // 208: "An accepted 208 blanks all cells, empties the layer, puts cursors and tops at 1, selects screen 1, sets step 1 and
 // tracking on. Other settings stay, save the boundary in mode 2." P5: it clears all marks; P9: and both
 // waiting flags, and keeps the rule; P11: and the dots.
+#![tactic(auto)]
+
 pub mod display;
 
 ghost use Rattle.std.specs.Prelude.{◌≡◌, ◌-◌, ◌≤◌};

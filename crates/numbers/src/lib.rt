@@ -1,4 +1,6 @@
 // The numbers by which calls are refused, in their order.
+#![tactic(auto)]
+
 ghost use Rattle.std.specs.Prelude.{◌≡◌, []};
 ghost use Rattle.calls.specs.Calls.{Asked, first_of, reasons, sized, terminal};
 ghost use Rattle.model.specs.Keyable.{keyable};

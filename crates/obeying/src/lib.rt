@@ -1,5 +1,7 @@
 // An item as the message loop meets it: read by the selected screen's limits, obeyed on that screen by its place and the marks alone; and what is known of
 // the layer and of the dots after it. What an item does to the settings is the crate `applying`'s.
+#![tactic(auto)]
+
 ghost use Rattle.std.specs.Prelude.{◌≡◌, ◌<◌, ◌≤◌, length, eqb};
 ghost use Rattle.model.specs.OnScreen.{stays_on_screen?};
 ghost use Rattle.model.specs.Sequences.{code_of};

@@ -1,10 +1,12 @@
 // Document 02, P6: a pack of messages in one call, by value. The whole pack is judged before a byte of it is obeyed; then each body is served as a message.
-mod judging;
+#![tactic(auto)]
+
+mod checking;
 mod sending;
 
 ghost use Rattle.calls.specs.Calls.{PackPromised};
 
-use judging::pack_number;
+use checking::pack_number;
 use model::{PackOutcome, Settings};
 use numbers::refusal;
 use sending::send_each;

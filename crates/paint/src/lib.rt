@@ -1,4 +1,6 @@
 // The shown screen: the picture of what stands. Its rows are painted by crate views; here secret mode, the key texts and the layer come to them.
+#![tactic(auto)]
+
 mod layer;
 
 ghost use Rattle.std.specs.Prelude.{◌≡◌, ℕ, ◌*◌, List, get_or, length, replicate, eqb, cond, true};

@@ -1,5 +1,7 @@
 // Plays a recording of calls from standard input, as `replay` does but with no word, and writes an image of what stands: in mode 3 the dots, a portable
 // bitmap of 480 by 64; else the shown screen, a portable graymap of 80 by 8, a place a point and its code the grey.
+#![tactic(auto)]
+
 use model::{CELLS, DOTS, LAYER, SHOWN};
 use record_input::MOST_ROOM;
 

@@ -1,12 +1,14 @@
 // Openings, key texts and printer rooms of a recording played, each with its line; and what is handed on of any call: its settings, the sum over its printer
 // bytes, and its line.
+#![tactic(auto)]
+
 ghost use Rattle.playing.specs.Playing.{KeyPlayed, Opens, Told};
 
 use model::{Answer, Outcome, Settings};
 use record_input::room_of;
 
 // The settings as the last call left them, the sum of the printer bytes of all calls, and the printer room of the next.
-#[derive(Drop)]
+#[derive(Clone, Copy)]
 pub struct Played {
     pub settings: Settings,
     pub printer: u32,

@@ -1,4 +1,6 @@
 // The calls of a recording that serve messages played: messages, short messages, pieces and closings of a stream, packs, each with its line.
+#![tactic(auto)]
+
 ghost use Rattle.std.specs.Prelude.{[]};
 ghost use Rattle.calls.specs.Calls.{Asked, terminal};
 ghost use Rattle.playing_messages.specs.Plays.{Plays};

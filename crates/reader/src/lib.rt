@@ -1,4 +1,6 @@
 // A message into items, one at a time: which bytes are an item's own; what it is (crate decoding); and whether it is accepted (crate judging).
+#![tactic(auto)]
+
 ghost use Rattle.std.specs.Prelude.{◌<◌, ◌≤◌, ◌≡◌, [], ◌∷◌, get_or, length};
 ghost use Rattle.model.specs.Reading.{ended};
 ghost use Rattle.reader.specs.Reading.{ReadAt, by_itself};
@@ -8,7 +10,7 @@ use judging::judge;
 use model::{Item, Limits, Sequence};
 
 // An item and the number of its bytes.
-#[derive(Drop)]
+#[derive(Clone, Copy)]
 pub struct Reading {
     pub item: Item,
     pub length: usize,

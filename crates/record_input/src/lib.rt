@@ -1,10 +1,12 @@
 // Recordings of calls, read record by record from standard input: body length and kind, two bytes each, little-endian, then the body.
+#![tactic(auto)]
+
 ghost use Rattle.std.specs.Prelude.{◌≡◌, ◌+◌, ◌*◌, ◌≤◌};
 
 use libc::STDIN_FILENO;
 
 // What stands at the input: its end, a record that is cut, or a whole record, whose body is in the caller's buffer.
-#[derive(Drop)]
+#[derive(Clone, Copy)]
 pub enum Record {
     End,
     Cut,
@@ -15,7 +17,7 @@ pub enum Record {
 pub const MOST_ROOM: usize = 8192;
 
 // The kind of the next record, and its size with its head of four bytes; size 0 where the recording ends, by a record that is bad or not.
-#[derive(Drop)]
+#[derive(Clone, Copy)]
 pub struct Next {
     pub kind: u16,
     pub size: usize,

@@ -1,5 +1,7 @@
 // What each record of a recording asks for. Kind 1 is a message, 2 a piece of a stream, 3 its closing, 4 a key text: the key's number, then the text; 5 is a pack
 // of messages, 6 a short message; 7 an opening, whose body is the rule; 8 the printer room of the calls behind it, two bytes.
+#![tactic(auto)]
+
 use playing::{Played, play_key_record, play_opening_record, play_room};
 use playing_messages::{play_closing, play_message, play_pack, play_piece, play_short};
 

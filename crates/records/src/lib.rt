@@ -1,5 +1,7 @@
 // The record form (document 02, P6): body length and kind, two bytes each, little-endian, then the body. Who steps from record to record
 // stands at a record's first byte, `at`, and goes on by 4 bytes and the body's length.
+#![tactic(auto)]
+
 ghost use Rattle.std.specs.Prelude.{◌≡◌, ◌+◌, ◌*◌, ◌≤◌, length, drop};
 ghost use Rattle.model.specs.Records.{length_in, kind_in, uncut?};
 

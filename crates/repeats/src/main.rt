@@ -1,12 +1,14 @@
 // Works out key repeats: a trace from standard input, under the settings that a message in the file named as its argument leaves (the
 // opening's without one). Prints `answer A codes N`, then a line `TICK KEY` for each code; or `bad file`.
+#![tactic(auto)]
+
 ghost use Rattle.std.specs.Prelude.{◌<◌, ◌≤◌, length};
 
 use libc::STDIN_FILENO;
 use model::Settings;
 
 // What the argument names: whether it can be read, and how many bytes of the caller's buffer it has. With no argument it is the empty message.
-#[derive(Drop)]
+#[derive(Clone, Copy)]
 struct Named {
     readable: bool,
     length: usize,

@@ -1,4 +1,6 @@
 // Plays a recording of calls from standard input, from an opening by rule 1: a line a record, then what stands.
+#![tactic(auto)]
+
 use model::{CELLS, DOTS, LAYER, SHOWN};
 use record_input::MOST_ROOM;
 

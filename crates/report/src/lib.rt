@@ -1,5 +1,7 @@
 // What the programs print, on standard output: an answer, what stands, and the rows of the shown screen. What is called `say` only writes:
 // it hands nothing back, and its contract is that it is safe and ends.
+#![tactic(auto)]
+
 mod adler;
 mod rows;
 mod standing;

@@ -1,4 +1,6 @@
 // A run of printed bytes: the cursor goes over them with no settings at hand, and as many as its line has room for are copied at once.
+#![tactic(auto)]
+
 ghost use Rattle.std.specs.Prelude.{◌≡◌, ◌+◌, ◌<◌, ◌≤◌, false, true, drop, length, take};
 ghost use Rattle.ground.specs.Frame.{Ready, Stands};
 ghost use Rattle.ground.specs.Acts.{Acts, Reads};
@@ -16,7 +18,7 @@ const BLOCK: usize = 16;
 const LONG: usize = 128;
 
 // Where a run ends: the place, and the offset of the byte behind it.
-#[derive(Drop)]
+#[derive(Clone, Copy)]
 pub struct Run {
     pub place: Place,
     pub at: usize,

@@ -1,6 +1,8 @@
 // What acts on the selected screen alone: a printed byte, control codes, its sequences; and the frame of settings. Its cells, the layer and the marks of its lines
 // are changed by the crate `ground`, its cursor and window are moved by `cursor`, and bytes printed one behind another are the crate `runs`. What all these need of
 // the settings is a frame, which a caller keeps beside the selected screen's place and the marks, so that a printed byte copies no settings.
+#![tactic(auto)]
+
 ghost use Rattle.std.specs.Prelude.{◌≡◌, ◌+◌, ◌-◌, ◌<◌, eqb, length, cond, false, true};
 ghost use Rattle.model.specs.Sound.{Sound};
 ghost use Rattle.model.specs.Checks.{InRanges};

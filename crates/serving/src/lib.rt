@@ -1,5 +1,7 @@
 // The message loop: items read one after the other, each obeyed, counted and, for a copy, printed; then the picture is painted. What is idle in the
 // mode is counted: of these the ones of the selected screen change nothing by themselves, and `apply` leaves the others.
+#![tactic(auto)]
+
 ghost use Rattle.std.specs.Prelude.{◌≡◌, cond, true, length, replicate, ℕ, ◌+◌, ◌≤◌, List};
 ghost use Rattle.model.specs.State.{state};
 ghost use Rattle.model.specs.Picture.{painting};

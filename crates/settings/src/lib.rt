@@ -2,6 +2,8 @@
 // the layer, 198 and 199 (document 02, P11) the dots. 208 and 211 are done by crate modes, 198 and 199 by crate drawing, those that only set something by crate
 // values, 209, 210 and 224 here. The others act inside the selected screen, on its cells, cursor and window, and are crate screen's.
 // 224 alone changes the patterns, and has its own function: a caller need not move their 248 bytes at the others. None changes the key texts.
+#![tactic(auto)]
+
 mod layer;
 mod patterns;
 

@@ -1,5 +1,7 @@
 // Document 02, P12: a short message is the message but for the shown screen, of which it paints what it must. A message that stays in the cursor's line, of printed
 // bytes alone, has a way of its own; any other goes item by item (the crate `short_serving`). The crate `export_short` hands the call to C and Rust.
+#![tactic(auto)]
+
 ghost use Rattle.std.specs.Prelude.{◌≡◌, true};
 ghost use Rattle.calls.specs.Calls.{terminal};
 ghost use Rattle.short.specs.Short.{ShortPromised, InLine};

@@ -1,5 +1,7 @@
 // An item of a short message (document 02, P12) obeyed on the selected screen, as the crate `obeying` does it, and what it leaves of the shown screen: printed characters are painted as they come, and
 // of any other item it is asked whether it is wide.
+#![tactic(auto)]
+
 ghost use Rattle.std.specs.Prelude.{◌≡◌, false, not, ◌||◌, List, ℕ, length};
 ghost use Rattle.model.specs.Checks.{member};
 ghost use Rattle.model.specs.Sequences.{code_of};

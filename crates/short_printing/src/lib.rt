@@ -1,4 +1,6 @@
 // Printed characters of a short message (document 02, P12), and the places of the shown screen that show them.
+#![tactic(auto)]
+
 ghost use Rattle.std.specs.Prelude.{◌≡◌, false, not, true, List, [], ◌∷◌, ℕ, ◌+◌, ◌<◌, ◌≤◌, ltb, drop, length, set, take};
 ghost use Rattle.model.specs.Rules.{printed};
 ghost use Rattle.ground.specs.Frame.{Ready};
@@ -12,14 +14,14 @@ use model::{Place, SHOWN};
 use store::sizes::lesser;
 
 // A printed character: where the cursor and the window are then, and whether it is wide.
-#[derive(Drop)]
+#[derive(Clone, Copy)]
 pub struct Letter {
     pub place: Place,
     pub wide: bool,
 }
 
 // Some of a message: the same, and the offset behind it.
-#[derive(Drop)]
+#[derive(Clone, Copy)]
 pub struct Seen {
     pub place: Place,
     pub at: usize,

@@ -1,4 +1,6 @@
 // The loop of a short message: as the message's, but each printed character is painted as it comes, and at the end all places only if an item was wide.
+#![tactic(auto)]
+
 ghost use Rattle.std.specs.Prelude.{◌≡◌, cond, true, List, ℕ, length, replicate};
 ghost use Rattle.model.specs.State.{state};
 ghost use Rattle.model.specs.Picture.{painting, picture};

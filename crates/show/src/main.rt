@@ -1,4 +1,6 @@
 // Reads a message from standard input, plays it from an opening with printer room 656, and prints the answer and the rows.
+#![tactic(auto)]
+
 use libc::STDIN_FILENO;
 use model::{CELLS, COPY, DOTS, LAYER, MESSAGE, SHOWN};
 

@@ -1,5 +1,7 @@
 // Number 3: whether settings are sound, "each in its range" (model's specs/Sound). One test for each list of ranges there, its
 // comparisons in the same order; the arrays' lengths are those of their types. A message call asks the parts one by one, every other caller the whole.
+#![tactic(auto)]
+
 ghost use Rattle.std.specs.Prelude.{◌≡◌, true, ◌&&◌, length, ◌+◌, ◌-◌, ◌≤◌, ℕ, [], ◌∷◌};
 ghost use Rattle.model.specs.declared.Settings.{Settings};
 ghost use Rattle.model.specs.Checks.{in_ranges?, range};

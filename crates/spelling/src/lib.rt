@@ -1,4 +1,6 @@
 // The bytes of a sequence (document 02, P7): ESC, its second byte, its parameters as sent.
+#![tactic(auto)]
+
 ghost use Rattle.spelling.specs.Spelling.{bytes_of};
 ghost use Rattle.spelling.specs.Spelled.{SpelledAs, SpelledFrom};
 
@@ -8,7 +10,7 @@ use counted::{four, line, none, one, pattern, three, two};
 use model::Sequence;
 
 // The bytes of a sequence: the first `length` of an array.
-#[derive(Drop)]
+#[derive(Clone, Copy)]
 pub struct Spelled {
     pub length: usize,
     pub bytes: [u8; 13],

@@ -1,6 +1,8 @@
 // Regions of a byte slice: filled, blanked, moved by a line, copied into another slice. From 16 on, bytes that are to be copied are
 // taken up whole into an array before they are laid down: so a compiler, which does not know whether two slices overlap, makes one wide move
 // of both, and the array is never there.
+#![tactic(auto)]
+
 pub mod sizes;
 
 ghost use Rattle.std.specs.Prelude.{◌≡◌, ◌+◌, ◌≤◌, length, take, drop, replicate, true};

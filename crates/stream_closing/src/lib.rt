@@ -1,4 +1,6 @@
 // The closing of a stream, by value.
+#![tactic(auto)]
+
 ghost use Rattle.calls.specs.Calls.{Promised, closed, terminal};
 
 use model::{Outcome, Settings};

@@ -1,4 +1,6 @@
 // A long piece behind the unfinished bytes of a stream: two message calls.
+#![tactic(auto)]
+
 ghost use Rattle.std.specs.Prelude.{◌≡◌, ◌<◌, length};
 ghost use Rattle.calls.specs.Calls.{PiecePromised, terminal};
 ghost use Rattle.stream_parts.specs.Parts.{line_number};

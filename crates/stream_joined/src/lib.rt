@@ -1,4 +1,6 @@
 // A short piece behind the unfinished bytes of a stream: one message call of these and its own.
+#![tactic(auto)]
+
 ghost use Rattle.std.specs.Prelude.{◌≡◌, ◌≤◌, length};
 ghost use Rattle.calls.specs.Calls.{PiecePromised, terminal};
 ghost use Rattle.stream_parts.specs.Parts.{line_number};

@@ -1,4 +1,6 @@
 // What a piece and the closing are made of, beside message calls: settings with another line, answers counted from the stream's start.
+#![tactic(auto)]
+
 ghost use Rattle.std.specs.Prelude.{◌≡◌, true, ◌+◌, ◌^◌, ◌<◌, ◌≤◌, leb, length, replicate};
 ghost use Rattle.calls.specs.Calls.{terminal};
 ghost use Rattle.model.specs.Line.{padded};

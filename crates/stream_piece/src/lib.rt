@@ -1,4 +1,6 @@
 // A piece of a stream, by value: a message call of its whole items. A piece behind unfinished bytes is served by the crates `stream_joined` and `stream_divided`.
+#![tactic(auto)]
+
 ghost use Rattle.calls.specs.Calls.{PiecePromised};
 
 use model::{Outcome, Settings};

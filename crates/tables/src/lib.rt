@@ -1,6 +1,8 @@
 // The tables of document 01 that more than one crate asks, each written once: which numbers 67 and 247 take, the rows of text by the key
 // display and H by the mode, and the length of a sequence by its second byte. Of document 02, P11: what is idle in a mode, how long a copy is
 // there, and a number of two bytes.
+#![tactic(auto)]
+
 ghost use Rattle.std.specs.Prelude.{◌≡◌, ◌≤◌, ◌<◌};
 ghost use Rattle.model.specs.declared.Settings.{Settings};
 ghost use Rattle.model.specs.Checks.{member};

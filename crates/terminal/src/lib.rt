@@ -1,4 +1,6 @@
 // The calls of the terminal: opening, message, key and printer. None asks anything of its caller: bad input is refused by number.
+#![tactic(auto)]
+
 mod opened;
 
 ghost use Rattle.calls.specs.Calls.{KeyPromised, Promised, called, terminal};

@@ -1,5 +1,7 @@
 // Key repeats worked out from a trace of presses and releases (document 02, P13). What is sent is in specs/Codes, what the call promises
 // in specs/Call.
+#![tactic(auto)]
+
 mod codes;
 mod strokes;
 mod writing;
@@ -9,7 +11,7 @@ ghost use Rattle.traces.specs.Call.{RepeatsPromised};
 use model::Settings;
 
 // A record of a trace: a press, or else a release; its tick of 1/256 second and its key.
-#[derive(Drop)]
+#[derive(Clone, Copy)]
 pub struct Stroke {
     pub press: bool,
     pub tick: u32,
@@ -18,7 +20,7 @@ pub struct Stroke {
 
 // What the call returns: its number, and how many codes were sent.
 #[repr(C)]
-#[derive(Drop)]
+#[derive(Clone, Copy)]
 pub struct Repeats {
     pub number: u8,
     pub count: u64,

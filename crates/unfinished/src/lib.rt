@@ -1,4 +1,6 @@
 // The unfinished bytes of a stream (document 02, P1): which bytes of a piece are whole items, which wait, and whether bytes may wait so.
+#![tactic(auto)]
+
 ghost use Rattle.std.specs.Prelude.{◌≡◌, true, ◌&&◌, ◌+◌, ◌*◌, ◌<◌, ◌≤◌, min, ℕ, ◌++◌, drop, get_or, length, take, eqb};
 ghost use Rattle.model.specs.Line.{line?, padded, unfinished_by, zeros?};
 ghost use Rattle.unfinished.specs.Whole.{counted_right, whole_end, whole_item};

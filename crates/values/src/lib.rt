@@ -1,4 +1,6 @@
 // Document 01, "What the sequences do": those that only set something, in the settings alone. Cursor, window and secret mode are in `flags`, the keyboard in `keys`.
+#![tactic(auto)]
+
 mod flags;
 mod keys;
 

@@ -3,6 +3,8 @@
 // - 1: a message.
 // - 2: the printer room of the messages that follow in the case, four bytes, little-endian; at most 65,536.
 // Prints for each case its name, a line a message, and what stands after the last. A bad record ends the file with `bad record`.
+#![tactic(auto)]
+
 ghost use Rattle.std.specs.Prelude.{◌<◌};
 
 use model::{CELLS, DOTS, LAYER, SHOWN};
@@ -17,7 +19,7 @@ const INSIDE: u8 = 1;
 const OVER: u8 = 2;
 
 // The case that is played.
-#[derive(Drop)]
+#[derive(Clone, Copy)]
 struct Case {
     played: Played,
     room: usize,

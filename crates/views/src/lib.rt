@@ -1,4 +1,6 @@
 // Where the picture takes its cells from, the same for each of its rows: a left pane, a gap and a right pane. Module rows paints them.
+#![tactic(auto)]
+
 pub mod rows;
 
 ghost use Rattle.std.specs.Prelude.{◌≡◌, ◌+◌, ◌*◌, ◌≤◌, ◌<◌};
@@ -9,14 +11,14 @@ ghost use Rattle.views.specs.Panes.{Line, Window, ViewOf};
 use model::Settings;
 
 // In each row `width` cells, in the first from cell `at` on, in the next from where the one before ends.
-#[derive(Drop)]
+#[derive(Clone, Copy)]
 pub struct Pane {
     pub at: usize,
     pub width: usize,
 }
 
 // In `rows` rows, those of text; `gap` places of `code` stand between the panes.
-#[derive(Drop)]
+#[derive(Clone, Copy)]
 pub struct View {
     pub rows: usize,
     pub left: Pane,

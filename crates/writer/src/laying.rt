@@ -4,7 +4,7 @@ ghost use Rattle.writer.specs.Writing.{said_of_all};
 ghost use Rattle.writer.specs.Promised.{Laid, WritePromised};
 
 use crate::Reached;
-use crate::judging::judge;
+use crate::verdicts::judge;
 use model::Settings;
 use spelling::Spelled;
 

@@ -1,12 +1,14 @@
 // Sequences written into an outgoing buffer, one behind another (document 02, P7). When one is refused, what is answered and what the buffer then
 // holds is in specs/Writing; the bytes are the crate `spelling`'s, the refusals the reader's own.
+#![tactic(auto)]
+
 ghost use Rattle.std.specs.Prelude.{◌≡◌};
 ghost use Rattle.writer.specs.Writing.{wanted, wanted_by};
 ghost use Rattle.writer.specs.Promised.{WritePromised, wrote};
 
 mod gathering;
-mod judging;
 mod laying;
+mod verdicts;
 
 use gathering::gather;
 use laying::write_spelled;
@@ -15,7 +17,7 @@ use spelling::spell;
 
 // The answer of a call that writes: the place reached in the buffer, 0 or the number of the refusal, and with 11 the parameter that it names.
 #[repr(C)]
-#[derive(Drop)]
+#[derive(Clone, Copy)]
 pub struct Reached {
     pub place: usize,
     pub number: u8,
@@ -23,7 +25,7 @@ pub struct Reached {
 }
 
 // What the reader says of a sequence: 0, or the number and the parameter of its refusal.
-#[derive(Drop)]
+#[derive(Clone, Copy)]
 pub struct Verdict {
     pub number: u8,
     pub parameter: u8,
@@ -61,7 +63,7 @@ pub fn write_bytes(
     ensures { WritePromised settings (wanted_by settings second parameters.now) buffer.old place buffer.new result }
 {
     if 11 < parameters.len() {
-        return judging::too_long(settings, place);
+        return verdicts::too_long(settings, place);
     }
     write_spelled(settings, buffer, place, gather(second, parameters))
 }

@@ -4,8 +4,8 @@ use borrow.Author.Rules.{rules}
 use borrow.Author.Tests.{eq-eqb, ne_eqb, not-false, not-true}
 use Rattle.calls.specs.Calls.{none_waits, sized, sound_in, terminal}
 use Rattle.packs.proofs.Numbers.{pack_numbered}
-use Rattle.packs.proofs.judging.pack_number.Statement.{statement}
-use Rattle.packs.proofs.judging.pack_number.Tie as tie
+use Rattle.packs.proofs.checking.pack_number.Statement.{statement}
+use Rattle.packs.proofs.checking.pack_number.Tie as tie
 
 returns : tie.Need-returns
 unfolding sized

@@ -1,10 +1,10 @@
--- `writer::judging::judge` meets its contract: what `reader::read_item` promises of the bytes, taken to its numbers; 10 where it left some.
+-- `writer::verdicts::judge` meets its contract: what `reader::read_item` promises of the bytes, taken to its numbers; 10 where it left some.
 use native.Mathlib.Omega.{arith}
 use mathlib.Core.Path.{sym}
 use Rattle.spelling.specs.Spelled.{front}
 use Rattle.writer.proofs.Laws.{front_length, read_all, read_short, told_as, told_ten}
-use Rattle.writer.proofs.judging.judge.Statement.{statement}
-use Rattle.writer.proofs.judging.judge.Tie as tie
+use Rattle.writer.proofs.verdicts.judge.Statement.{statement}
+use Rattle.writer.proofs.verdicts.judge.Tie as tie
 
 array-share-prefix-bytes : tie.Need-array-share-prefix-bytes
 array-share-prefix-bytes c = let u = c.before.before.before.requires in omega (arith, u.most)

@@ -12,8 +12,8 @@ use Rattle.calls.specs.Calls.{first_of, known_in, packable, sendable, sendable_i
 use Rattle.packs.specs.Bytes.{of_bytes}
 use Rattle.packs.proofs.Walking.{Whole, behind, fits, known_on, over, sendable_on}
 use Rattle.packs.proofs.Numbers.{bytes_numbered}
-use Rattle.packs.proofs.judging.bytes_number.Statement.{statement}
-use Rattle.packs.proofs.judging.bytes_number.Tie as tie
+use Rattle.packs.proofs.checking.bytes_number.Statement.{statement}
+use Rattle.packs.proofs.checking.bytes_number.Tie as tie
 
 abbrev invariant-loop : tie.invariant-loop
 invariant-loop pack known₀ short₀ at₀ known few at =

@@ -1,8 +1,8 @@
--- `writer::judging::too_long` meets its contract: 3, or 10.
+-- `writer::verdicts::too_long` meets its contract: 3, or 10.
 use mathlib.Core.Path.{◌∙◌, ap, sym}
 use mathlib.Core.Bool.{Bool, cond}
-use Rattle.writer.proofs.judging.too_long.Statement.{statement}
-use Rattle.writer.proofs.judging.too_long.Tie as tie
+use Rattle.writer.proofs.verdicts.too_long.Statement.{statement}
+use Rattle.writer.proofs.verdicts.too_long.Tie as tie
 
 returns : tie.Need-returns
 returns c = ap (λ (t : Bool). record { place = c.before.before.args.place; number = cond t 10 3; parameter = 0 }) (sym (sym c.before.sound.ensures ∙ c.if1.true))
