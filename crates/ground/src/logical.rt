@@ -31,7 +31,7 @@ fn moved(number: u64, off: u8, to: u8) -> u64
 }
 
 // "Printing in the last column sets the mark on the line left."
-pub fn run_on_lem(frame: Frame, line: u8, marks: &mut [u64])
+pub fn run_on(frame: Frame, line: u8, marks: &mut [u64])
     requires le_line { (1 ≤ line) × (line ≤ 48) }
     requires screen_bound { (frame.screen < 2) × (length marks.old ≡ 2) }
     ensures { Remarks frame.screen (running_on line) marks.old marks.new }

@@ -15,7 +15,7 @@ use reader::Reading;
 use runs::Run;
 
 // The item at an offset, judged by the selected screen's limits.
-pub fn read_at_lem(frame: Frame, room: usize, message: &[u8], at: usize) -> Reading
+pub fn read_at(frame: Frame, room: usize, message: &[u8], at: usize) -> Reading
     requires at_in_bounds { at < length message.now }
     requires message_len_bound { length message.now ≤ 4096 }
     ensures { ReadAt message.now at (limits_in frame) room result }

@@ -13,7 +13,7 @@ use applying::apply;
 use applying::places::{placed, selected_place};
 use counting::{Counts, answer_of, count, no_counts};
 use model::{Answer, Outcome, Place, Settings};
-use obeying::{bare_after, obey_item, read_at_lem, stays, wipe_after};
+use obeying::{bare_after, obey_item, read_at, stays, wipe_after};
 
 // "An accepted message is read into items; each in turn changes what stands as its rule says"; "it always ends by painting".
 pub fn serve(
@@ -61,7 +61,7 @@ pub fn serve_from(
     let mut at = from;
     while at < message.len() {
         let printed = counts.printed;
-        let read = read_at_lem(frame, printer.len() - printed, message, at);
+        let read = read_at(frame, printer.len() - printed, message, at);
         let item = read.item;
         counts = count(counts, frame.mode, item, at);
         let run = obey_item(

@@ -14,7 +14,7 @@ use applying::apply;
 use applying::places::{placed, selected_place};
 use counting::{answer_of, count, no_counts};
 use model::{Answer, Outcome, Place, Settings};
-use obeying::{bare_after, read_at_lem, stays, wipe_after};
+use obeying::{bare_after, read_at, stays, wipe_after};
 use short_obeying::obey_item;
 
 // A short message, item by item.
@@ -39,7 +39,7 @@ pub fn serve(
     let mut at = 0;
     while at < message.len() {
         let printed = counts.printed;
-        let read = read_at_lem(frame, printer.len() - printed, message, at);
+        let read = read_at(frame, printer.len() - printed, message, at);
         let item = read.item;
         counts = count(counts, frame.mode, item, at);
         let run = obey_item(
