@@ -1,0 +1,14 @@
+-- `seek`: what was looked at does not differ, so the search from here finds what the search from the start does.
+use mathlib.Core.Path.{◌≡◌, refl, sym, ◌∙◌}
+use Prim.Native.Nat.{◌-◌, ◌≤◌}
+use native.Mathlib.Omega.{arith}
+use borrow.Author.Rules.{rules}
+use borrow.Author.Tests.{eq-eqb, ne_eqb}
+use Rattle.differences.proofs.Laws.{place_from, place_same, place_here, place_end}
+use Rattle.differences.proofs.search.seek.Given as goal
+
+abbrev pub invariant-loop-p : goal.invariant-loop-p
+invariant-loop-p l = (l.p ≤ 640) × (place_from l.p l.first l.second ≡ place_from l.from l.first l.second)
+
+abbrev pub decreases-loop-p : goal.decreases-loop-p
+decreases-loop-p l = 640 - l.p

@@ -1,0 +1,18 @@
+-- `draw`: with dot k reached, dots 0 to k are drawn. The loop starts behind dot 0, so its invariant speaks of every store that dot 0 made into this one.
+use mathlib.Core.Path.{◌∙◌, ◌≡◌}
+use Prim.Native.Nat.{◌+◌, ◌-◌, ◌≤◌, ℕ}
+use native.Mathlib.Omega.{arith}
+use mathlib.Core.List.{List}
+use lib.ListN.{length}
+use borrow.Author.Rules.{rules}
+use Rattle.model.specs.Strokes.{drawn}
+use Rattle.dots.specs.Walk.{Carried}
+use Rattle.dots.proofs.Drawing.{drawn_all, drawn_more, drawn_none}
+use Rattle.dots.proofs.Walking.{carried_byte, carried_dot, carried_start}
+use Rattle.dots.proofs.lines.draw.Given as goal
+
+abbrev pub invariant-loop-at : goal.invariant-loop-at
+invariant-loop-at l = (l.at.k ≤ l.n) × ((length l.dots ≡ 3840) × ((Carried l.from l.to l.flat l.n l.d l.at.k l.at.row l.at.h l.at.rest) × ((l : List ℕ) → l.initial.dots ≡ drawn l.function l.mask l.from l.to l 1 → l.dots ≡ drawn l.function l.mask l.from l.to l (l.at.k + 1))))
+
+abbrev pub decreases-loop-at : goal.decreases-loop-at
+decreases-loop-at l = l.n - l.at.k

@@ -1,0 +1,39 @@
+-- `place` meets its contract: the crate `cursor`'s function says where the cursor's cell is shown, of any cells and layer.
+use mathlib.Core.Path.{◌∙◌, ◌≡◌, sym}
+use mathlib.Core.Bool.{true}
+use mathlib.Core.List.{[]}
+use borrow.Author.Rules.{rules}
+use borrow.Author.Tests.{eq-eqb, ne_eqb, not-false, not-true}
+use Rattle.model.specs.Sound.{sound?}
+use Rattle.model.specs.State.{state}
+use Rattle.model.proofs.SoundLaws.{sound_true}
+use Rattle.glass.specs.Cursor.{cursor_at}
+use Rattle.glass.proofs.cursor_place.place.Goals as goal
+
+pub returns-then-not-sound : goal.returns-then-not-sound
+unfolding cursor_at
+returns-then-not-sound c =
+    rw (sym c.sound.ensures ∙ not-true _ c.if-not-sound.true)
+
+pub returns-then-settings-eq0 : goal.returns-then-settings-eq0
+unfolding cursor_at
+returns-then-settings-eq0 c =
+    let good = sym c.sound.ensures ∙ not-false _ c.if-not-sound.false in
+    rw (good, eq-eqb _ _ c.if-settings-eq0.true)
+
+pub frame_of-requires : goal.frame_of-requires
+frame_of-requires c =
+    sound_true _ (sym c.sound.ensures ∙ not-false _ c.if-not-sound.false)
+
+pub shown-requires : goal.shown-requires
+unfolding cursor_at
+shown-requires c =
+    rw c.here.ensures c.frame_of.ensures.0.stands
+
+pub returns : goal.returns
+unfolding cursor_at
+returns c =
+    let good = sym c.sound.ensures ∙ not-false _ c.if-not-sound.false in
+    let s = c.args.settings in
+    rw (good, ne_eqb _ _ c.if-settings-eq0.false)
+    (sym (c.shown.ensures (state s [] [] []) c.frame_of.ensures.0.framed (sym c.here.ensures)))

@@ -1,0 +1,13 @@
+-- `lines::clear` meets its contract: the blanked cells and the cleared marks are those of all lines of the screen, and home is a place of it.
+use native.Mathlib.Omega.{arith}
+use borrow.Author.Rules.{rules}
+use Rattle.ground.proofs.Regions.{cleared_acts}
+use Rattle.ground.proofs.lines.clear.Goals as goal
+
+pub unmark-requires : goal.unmark-requires
+unmark-requires c =
+    ((omega arith, (omega arith, omega arith)), search rules)
+
+pub returns : goal.returns
+returns c =
+    cleared_acts c.requires.0 c.empty.ensures c.times.ensures.0 c.blank.ensures c.requires.1 c.unmark.ensures c.home_place.ensures

@@ -1,0 +1,19 @@
+-- `lines::erase_line` meets its contract: the line where it ends is the first unmarked one, which is one of the screen's.
+use native.Mathlib.Omega.{arith}
+use borrow.Author.Rules.{rules}
+use Rattle.model.proofs.MarkLaws.{end_high, end_low}
+use Rattle.ground.proofs.Regions.{erased_line}
+use Rattle.ground.proofs.lines.erase_line.Goals as goal
+
+pub end_of-to-requires : goal.end_of-to-requires
+end_of-to-requires c =
+    ((omega arith, (omega arith, omega arith)), search rules)
+
+pub erase_through-requires : goal.erase_through-requires
+erase_through-requires c =
+    let fits = c.requires.0.stands.fits in let e = c.end_of-to.ensures in
+    (c.requires.0, (c.requires.1, (rw e (end_low _ _ _ fits.line_low fits.line_high), rw e (end_high _ _ _ fits.line_low fits.line_high))))
+
+pub returns : goal.returns
+returns c =
+    erased_line c.end_of-to.ensures c.erase_through.ensures

@@ -1,0 +1,13 @@
+-- `lines::erase_rest` meets its contract: it ends with the screen's last line.
+use native.Mathlib.Omega.{arith}
+use borrow.Author.Rules.{rules}
+use Rattle.ground.proofs.Regions.{erased_rest}
+use Rattle.ground.proofs.lines.erase_rest.Goals as goal
+
+pub erase_through-requires : goal.erase_through-requires
+erase_through-requires c =
+    (c.requires.0, (c.requires.1, (c.requires.0.stands.fits.line_high, omega arith)))
+
+pub returns : goal.returns
+returns c =
+    erased_rest c.erase_through.ensures

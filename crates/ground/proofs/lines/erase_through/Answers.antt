@@ -1,0 +1,18 @@
+-- `lines::erase_through` meets its contract: so many cells are left from the cursor to the end of that line.
+use native.Mathlib.Omega.{arith}
+use borrow.Author.Rules.{rules}
+use Rattle.ground.proofs.Regions.{erased_acts}
+use Rattle.ground.proofs.Cells.{through_room}
+use Rattle.ground.proofs.lines.erase_through.Goals as goal
+
+pub blank_from-requires : goal.blank_from-requires
+blank_from-requires c =
+    (c.requires.0, omega (arith, through_room c.requires.0.stands c.args.to c.requires.1.1.1))
+
+pub unmark-requires : goal.unmark-requires
+unmark-requires c =
+    ((omega arith, (omega arith, omega arith)), search rules)
+
+pub returns : goal.returns
+returns c =
+    erased_acts c.requires.1.0 c.args.to (omega (arith, c.times-below.ensures.0, c.as_size.ensures, c.as_size-2.ensures)) c.blank_from.ensures c.unmark.ensures

@@ -1,0 +1,17 @@
+-- `lines::lift` meets its contract: all lines of the screen and all its marks go up.
+use native.Mathlib.Omega.{arith}
+use borrow.Author.Rules.{rules}
+use Rattle.ground.proofs.Regions.{lifted_acts}
+use Rattle.ground.proofs.lines.lift.Goals as goal
+
+pub carry-requires : goal.carry-requires
+carry-requires c =
+    ((omega arith, omega arith), search rules)
+
+pub scroll-requires : goal.scroll-requires
+scroll-requires c =
+    (search rules, (omega arith, omega arith))
+
+pub returns : goal.returns
+returns c =
+    lifted_acts c.requires.1 c.scroll.ensures c.carry.ensures

@@ -1,0 +1,18 @@
+-- `judging::judge` meets its contract: a sequence by what `check` finds, then by `fit`.
+use mathlib.Core.Path.{◌∙◌}
+use borrow.Author.Rules.{rules}
+use Rattle.judging.proofs.JudgingLaws.{judged_bad, judged_good, unjudged}
+use borrow.Enum.Refused.{opened}
+use Rattle.judging.proofs.judge.Goals as goal
+
+pub returns-then-found : goal.returns-then-found
+returns-then-found c =
+    rw c.in-Sequence.is (c.fit.ensures ∙ judged_good _ _ _ _ c.check-found.ensures c.if-found.true)
+
+pub returns-else-found : goal.returns-else-found
+returns-else-found c =
+    rw c.in-Sequence.is (judged_bad _ _ _ _ c.check-found.ensures c.if-found.false)
+
+pub returns-in_default : goal.returns-in_default
+returns-in_default c =
+    unjudged _ _ _ (opened c.in_default.in_default-own.keys2)

@@ -1,0 +1,10 @@
+-- `judging::placing` meets its contract: the tests of line and column.
+use borrow.Author.Rules.{rules}
+use Rattle.model.specs.Checks.{passes}
+use Rattle.judging.proofs.JudgingLaws.{two}
+use Rattle.judging.proofs.placing.Goals as goal
+
+pub returns : goal.returns
+unfolding passes
+returns c =
+    rw (c.of_two.ensures, c.shifted-2.ensures, c.shifted.ensures) (two 1 _ _)

@@ -1,0 +1,10 @@
+-- `judging::region` meets its contract: its tests are those of the two checks.
+use borrow.Author.Rules.{rules}
+use Rattle.model.specs.Checks.{passes}
+use Rattle.judging.proofs.JudgingLaws.{two}
+use Rattle.judging.proofs.region.Goals as goal
+
+pub returns : goal.returns
+unfolding passes
+returns c =
+    rw (c.of_two.ensures, c.within-2.ensures, c.within.ensures, c.less_one.ensures) (two 1 _ _)

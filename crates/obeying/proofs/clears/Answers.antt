@@ -1,0 +1,17 @@
+-- By the item's cases.
+use borrow.Author.Rules.{rules}
+use Rattle.obeying.proofs.Wiping.{other_spares}
+use borrow.Enum.Refused.{opened}
+use Rattle.obeying.proofs.clears.Goals as goal
+
+pub returns-in-Control : goal.returns-in-Control
+returns-in-Control c =
+    rw c.in-Control.is
+
+pub returns-in-Sequence : goal.returns-in-Sequence
+returns-in-Sequence c =
+    rw c.in-Sequence.is c.is_clear.ensures
+
+pub returns-in_default : goal.returns-in_default
+returns-in_default c =
+    other_spares c.args.item (opened c.in_default.in_default-own.keys3)

@@ -1,0 +1,7 @@
+-- By the item's cases.
+use borrow.Author.Rules.{rules}
+use Rattle.obeying.proofs.stays.Goals as goal
+
+pub returns-in-Sequence : goal.returns-in-Sequence
+returns-in-Sequence c =
+    rw c.in-Sequence.is c.on_screen.ensures

@@ -1,0 +1,92 @@
+-- `bytes_number`: each test of the whole pack is what was found so far and the same test of what is left (proofs/Walking); then by the four tests, in their order.
+use mathlib.Core.Path.{◌∙◌, ◌≡◌, refl, sym}
+use Prim.Native.Nat.{◌+◌, ◌-◌, ◌≤◌}
+use native.Mathlib.Omega.{arith}
+use mathlib.Core.Bool.{◌&&◌, cond, true}
+use lib.ListN.{drop, length}
+use borrow.Author.Rules.{rules}
+use borrow.Author.Tests.{le-leb, lt-leb, not-false, not-true}
+use Rattle.model.specs.Records.{Record, all?, records_of}
+use Rattle.calls.specs.Packs.{known?}
+use Rattle.calls.specs.Calls.{first_of, known_in, packable, sendable, sendable_in}
+use Rattle.packs.specs.Bytes.{of_bytes}
+use Rattle.packs.proofs.Walking.{Whole, behind, fits, known_on, over, sendable_on}
+use Rattle.packs.proofs.Numbers.{bytes_numbered}
+use Rattle.packs.proofs.checking.bytes_number.Goals as goal
+
+-- where a record begins, all of it is there
+whole : (c : tie.After-length-at invariant-loop decreases-loop) → let head = c.before.before in
+    head.loop.at + (c.length_at.result + 4) ≤ length head.before.before.before.before.before.args.pack.now
+whole c =
+    let head = c.before.before in
+    fits head.before.before.before.before.before.args.pack.now head.loop.at c.length_at.result head.loop.invariant.0 c.before.loop-test.true c.length_at.ensures
+
+-- the number by the four tests, once all of the pack was walked over
+walked : (c : tie.After-loop invariant-loop decreases-loop) → let head = c.before in
+    first_of (of_bytes head.before.before.before.before.before.args.pack.now) ≡ cond true (cond true (cond head.loop.known (cond head.loop.few 0 2) 21) 20) 19
+unfolding packable
+walked c =
+    let head = c.before in
+    let told = head.before.before in
+    let p = told.before.before.before.args.pack.now in
+    let past = c.loop-test.false in
+    bytes_numbered p (le-leb (length p) 60000 (omega (arith, told.before.if1.false))) (sym told.uncut.ensures ∙ not-false _ head.before.if2.false)
+    (head.loop.invariant.1.0 ∙ over p head.loop.at known? head.loop.known past) (head.loop.invariant.1.1 ∙ over p head.loop.at (λ (r : Record). sendable r.body) head.loop.few past)
+
+pub returns-then-pack-gt-PACK : goal.returns-then-pack-gt-PACK
+unfolding packable
+returns-then-pack-gt-PACK c = let p =
+    c.args.pack.now in sym (bytes_numbered p (lt-leb (length p) 60000 (omega (arith, c.if-pack-gt-PACK.true))) refl refl refl)
+
+pub returns-then-not-uncut : goal.returns-then-not-uncut
+unfolding packable
+returns-then-not-uncut c =
+    let p = c.args.pack.now in
+    sym (bytes_numbered p (le-leb (length p) 60000 (omega (arith, c.if-pack-gt-PACK.false))) (sym c.uncut.ensures ∙ not-true _ c.if-not-uncut.true) refl refl)
+
+pub loop-at-init : goal.loop-at-init
+unfolding known_in sendable_in
+loop-at-init c =
+    (record { inside = omega arith; uncut = sym c.uncut.ensures ∙ not-false _ c.if-not-uncut.false }, (refl, refl))
+
+pub length_at-size-requires : goal.length_at-size-requires
+length_at-size-requires c =
+    let p = c.args.pack.now in
+    omega (arith, fits p c.loop-at.at _ c.loop-at.invariant.0 c.loop-at-test.true refl)
+
+pub kind_at-requires : goal.kind_at-requires
+kind_at-requires c =
+    omega (arith, whole c)
+
+pub overflow_add-at-in-loop-at : goal.overflow_add-at-in-loop-at
+overflow_add-at-in-loop-at c =
+    omega (arith, whole c)
+
+pub loop-at-smaller : goal.loop-at-smaller
+loop-at-smaller c =
+    omega (arith, whole c)
+
+pub loop-at-preserved : goal.loop-at-preserved
+loop-at-preserved c =
+    let size = c.length_at-size in
+    let p = c.args.pack.now in
+    let some = c.loop-at-test.true in
+    let h = c.loop-at.invariant in (
+      behind p c.loop-at.at size.result h.0 some size.ensures,
+      (
+        known_on p c.loop-at.at size.result h.0 some size.ensures c.loop-at.known c.kind_at.result c.kind_at.ensures h.1.0,
+        sendable_on p c.loop-at.at size.result h.0 some size.ensures c.loop-at.few h.1.1,
+      ),
+    )
+
+pub returns-then-not-known : goal.returns-then-not-known
+returns-then-not-known c =
+    sym (walked c ∙ rw (not-true c.loop-at.known c.if-not-known.true))
+
+pub returns-then-few : goal.returns-then-few
+returns-then-few c =
+    sym (walked c ∙ rw (not-false c.loop-at.known c.if-not-known.false, c.if-few.true))
+
+pub returns-else-few : goal.returns-else-few
+returns-else-few c =
+    sym (walked c ∙ rw (not-false c.loop-at.known c.if-not-known.false, c.if-few.false))

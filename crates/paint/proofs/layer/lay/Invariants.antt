@@ -1,0 +1,20 @@
+-- `lay`: after i turns the layer lies over i places, and the others, which are still to be read, stand as they were.
+use mathlib.Core.Path.{◌∙◌, ◌≡◌, ap, refl}
+use Prim.Native.Nat.{◌+◌, ◌-◌, ◌≤◌, ℕ}
+use native.Mathlib.Omega.{arith}
+use mathlib.Core.List.{List}
+use lib.ListN.{get_or, length, length-set}
+use borrow.Author.Rules.{rules}
+use Rattle.model.specs.Bytes.{list_from}
+use Rattle.model.proofs.ByteLaws.{length_list_from}
+use Rattle.store.proofs.Laws.{put_ahead}
+use Rattle.paint.specs.Shown.{laid, covered_by}
+use Rattle.views.specs.Painted.{painted}
+use Rattle.views.proofs.Painted.{painted-more, painted-none}
+use Rattle.paint.proofs.layer.lay.Given as goal
+
+abbrev pub invariant-loop-place : goal.invariant-loop-place
+invariant-loop-place l = (l.place ≤ 640) × ((length l.shown ≡ 640) × (l.shown ≡ painted 0 l.place (laid l.layer (λ (p : ℕ). get_or l.initial.shown p 0)) l.initial.shown))
+
+abbrev pub decreases-loop-place : goal.decreases-loop-place
+decreases-loop-place l = 640 - l.place

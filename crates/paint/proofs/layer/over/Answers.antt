@@ -1,0 +1,11 @@
+-- `over`: by the mark.
+use borrow.Author.Tests.{eq-eqb, ne_eqb}
+use Rattle.paint.proofs.layer.over.Goals as goal
+
+pub returns-then-mark-eq0 : goal.returns-then-mark-eq0
+returns-then-mark-eq0 c =
+    simp (eq-eqb _ _ c.if-mark-eq0.true)
+
+pub returns-else-mark-eq0 : goal.returns-else-mark-eq0
+returns-else-mark-eq0 c =
+    simp (ne_eqb _ _ c.if-mark-eq0.false)

@@ -1,0 +1,16 @@
+-- `paint_under`: the panes, or in secret mode blanks.
+use mathlib.Core.Path.{◌∙◌, ap, sym}
+use Prim.Native.Nat.{ℕ}
+use native.Mathlib.Omega.{arith}
+use lib.ListN.{replicate}
+use borrow.Author.Rules.{rules}
+use Rattle.paint.proofs.Tested.{is, is_not}
+use Rattle.paint.proofs.paint_under.Goals as goal
+
+pub returns : goal.returns
+returns c =
+    c.paint_view.ensures ∙ sym (is_not c.args.secret 1 _ _ (omega arith))
+
+pub returns : goal.returns
+returns c =
+    c.fill.ensures ∙ ap (λ (n : ℕ). replicate n 32) c.requires.1.1 ∙ sym (is c.args.secret 1 _ _ (omega arith))

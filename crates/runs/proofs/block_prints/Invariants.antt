@@ -1,0 +1,14 @@
+-- `block_prints`: the loop's test is that of the first k bytes of the block.
+use mathlib.Core.Path.{◌∙◌, ◌≡◌, ap}
+use Prim.Native.Nat.{◌-◌, ◌≤◌}
+use native.Mathlib.Omega.{arith}
+use borrow.Author.Rules.{rules}
+use Rattle.runs.specs.Run.{all_print?}
+use Rattle.runs.proofs.Runs.{all_more, too_few}
+use Rattle.runs.proofs.block_prints.Given as goal
+
+abbrev pub invariant-loop-k : goal.invariant-loop-k
+invariant-loop-k l = (l.k ≤ l.size) × (l.all ≡ all_print? l.message l.at l.k)
+
+abbrev pub decreases-loop-k : goal.decreases-loop-k
+decreases-loop-k l = l.size - l.k

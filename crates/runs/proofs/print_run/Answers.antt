@@ -1,0 +1,22 @@
+-- `print_run`: the bytes from `at` up to i were printed, part by part.
+use Prim.Native.Nat.{◌-◌, ◌≤◌}
+use native.Mathlib.Omega.{arith}
+use borrow.Author.Rules.{rules}
+use Rattle.runs.proofs.Runs.{Along, along_all, along_none, along_part}
+use Rattle.runs.proofs.print_run.Goals as goal
+
+pub loop-i-init : goal.loop-i-init
+loop-i-init c =
+    (omega (arith, c.run_end-end.ensures.printing.some), along_none _ c.requires.0 c.requires.1.0)
+
+pub print_part-part-requires : goal.print_part-part-requires
+print_part-part-requires c =
+    let a = c.loop-i.invariant.1.acts in (a.ready, (a.marks_are, search rules))
+
+pub loop-i-preserved : goal.loop-i-preserved
+loop-i-preserved c =
+    (c.print_part-part.ensures.most, along_part c.loop-i.invariant.1 c.print_part-part.ensures)
+
+pub returns : goal.returns
+returns c =
+    along_all c.run_end-end.ensures (omega arith) c.loop-i.invariant.1

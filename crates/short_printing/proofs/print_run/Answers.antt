@@ -1,0 +1,23 @@
+-- `print_run`: the bytes from `at` up to i were printed and seen, part by part.
+use Prim.Native.Nat.{◌-◌, ◌≤◌}
+use native.Mathlib.Omega.{arith}
+use borrow.Author.Rules.{rules}
+use Rattle.short_printing.proofs.Seeing.{SeenAlong, seen_all_lem, seen_none, seen_part}
+use Rattle.short_printing.proofs.print_run.Goals as goal
+
+pub loop-i-init : goal.loop-i-init
+loop-i-init c =
+    let h = c.requires in (omega (arith, c.run_end-end.ensures.printing.some), seen_none _ h.0 h.1.0.0 h.1.0.1)
+
+pub print_part-part-requires : goal.print_part-part-requires
+print_part-part-requires c =
+    let a = c.loop-i.invariant.1 in
+    (a.along.acts.ready, ((a.along.acts.marks_are, a.sees.size), search rules))
+
+pub loop-i-preserved : goal.loop-i-preserved
+loop-i-preserved c =
+    (c.print_part-part.ensures.part.most, seen_part c.loop-i.invariant.1 c.print_part-part.ensures)
+
+pub returns : goal.returns
+returns c =
+    seen_all_lem c.run_end-end.ensures (omega arith) c.loop-i.invariant.1

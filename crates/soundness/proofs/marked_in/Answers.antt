@@ -1,0 +1,22 @@
+-- The shift leaves nothing, or there are more lines than bits.
+use mathlib.Core.Path.{◌∙◌, ap}
+use Prim.Native.Nat.{◌/◌, ◌<◌, ◌^◌, ℕ}
+use native.Mathlib.Omega.{arith}
+use lib.Dec.{eqb}
+use borrow.Author.Rules.{rules}
+use Rattle.model.specs.Marks.{marked?}
+use Rattle.soundness.proofs.LineMarks.{none-beyond, shifted_out}
+use Rattle.soundness.proofs.marked_in.Goals as goal
+
+pub returns : goal.returns
+unfolding marked?
+returns c =
+    let a = c.args in
+    let small : a.number < 2 ^ 64 = omega arith in
+    none-beyond a.number _ small (omega (arith, c.minus-above.ensures, c.if-above-ge64.true))
+
+pub returns : goal.returns
+unfolding marked?
+returns c =
+    let a = c.args in
+    ap (λ (k : ℕ). eqb (a.number / 2 ^ k) 0) c.minus-above.ensures ∙ shifted_out a.number _

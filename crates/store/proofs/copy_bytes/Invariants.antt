@@ -1,0 +1,16 @@
+-- `copy_bytes`: after i turns the first i bytes of the part of `src` are put, and the others stand as they were.
+use mathlib.Core.Path.{◌≡◌, sym}
+use Prim.Native.Nat.{◌-◌, ◌≤◌}
+use native.Mathlib.Omega.{arith}
+use lib.ListN.{drop, get_or, length, length-drop, length-set, length-take, take}
+use lib.Seq.{get_or-drop}
+use borrow.Author.Rules.{rules}
+use Rattle.model.specs.Bytes.{put}
+use Rattle.store.proofs.Laws.{put-more, put-none, take_more}
+use Rattle.store.proofs.copy_bytes.Given as goal
+
+abbrev pub invariant-loop-i : goal.invariant-loop-i
+invariant-loop-i l = (l.i ≤ l.count) × ((length l.dst ≡ length l.initial.dst) × (l.dst ≡ put l.from (take l.i (drop l.at l.src)) l.initial.dst))
+
+abbrev pub decreases-loop-i : goal.decreases-loop-i
+decreases-loop-i l = l.count - l.i

@@ -1,0 +1,42 @@
+-- Number 0: the text in its place. Any other: nothing altered. What the number says of key and text gives the bounds.
+use mathlib.Core.Path.{◌∙◌, ◌≡◌, sym}
+use native.Mathlib.Omega.{arith}
+use borrow.Author.Rules.{rules}
+use Rattle.terminal.proofs.Keys.{Placed, among, refused, stored}
+use Rattle.terminal.proofs.key.Goals as goal
+
+-- where the text is to be stored
+placed : (c : tie.After-texts2) → let a = c.before.before.before.before.before.before.args in Placed a.number a.text.now a.settings
+placed c =
+    let a = c.before.before.before.before.before.before.args in
+    let n = c.before.before.before.before.key-number in
+    let z : n.result ≡ 0 = omega arith in
+    among a.number a.text.now a.settings (sym n.ensures ∙ z)
+
+pub slice_bounds-copy_in-end : goal.slice_bounds-copy_in-end
+slice_bounds-copy_in-end c =
+    sym (placed c).ten
+
+pub overflow_sub-number : goal.overflow_sub-number
+overflow_sub-number c =
+    omega (arith, placed c)
+
+pub overflow_mul-number : goal.overflow_mul-number
+overflow_mul-number c =
+    omega (arith, placed c)
+
+pub copy_in-requires : goal.copy_in-requires
+copy_in-requires c =
+    omega (arith, placed c)
+
+pub returns : goal.returns
+returns c =
+    let a = c.args in
+    let n = c.key_number-refused in
+    refused a.number a.text.now a.settings n.result _ n.ensures (omega arith) c.refusal-answer.ensures
+
+pub returns : goal.returns
+returns c =
+    let a = c.args in
+    let n = c.key_number-refused in
+    stored a.number a.text.now a.settings n.result _ _ n.ensures (omega arith) c.refusal-answer.ensures c.copy_in.ensures

@@ -1,0 +1,26 @@
+-- `rising`: from the last tick on, what is left never falls exactly if the trace never does.
+use mathlib.Core.Path.{◌∙◌, ◌≡◌, refl, sym}
+use Prim.Native.Nat.{◌-◌}
+use native.Mathlib.Omega.{arith}
+use lib.ListN.{length}
+use Rattle.traces.specs.Strokes.{rising?, strokes_in}
+use Rattle.traces.specs.Stepping.{Whole, strokes_from}
+use Rattle.traces.proofs.Stepping.{rising_end, rising_not, rising_on}
+use borrow.Author.Rules.{rules}
+use Rattle.traces.proofs.strokes.rising.Goals as goal
+
+pub loop-at-init : goal.loop-at-init
+loop-at-init c =
+    (search rules, refl)
+
+pub loop-at-preserved : goal.loop-at-preserved
+loop-at-preserved c =
+    (c.stroke_at-stroke.ensures.next, c.loop-at.invariant.1 ∙ rising_on c.stroke_at-stroke.ensures.is (omega (arith, c.if-stroke-last.false)))
+
+pub returns : goal.returns
+returns c =
+    sym (c.loop-at.invariant.1 ∙ rising_not c.stroke_at-stroke.ensures.is (omega (arith, c.if-stroke-last.true)))
+
+pub returns : goal.returns
+returns c =
+    sym (c.loop-at.invariant.1 ∙ rising_end c.loop-at.last c.args.trace.now c.loop-at.at (omega arith))

@@ -1,0 +1,29 @@
+-- `all` is the test of the bytes that were looked at.
+use mathlib.Core.Path.{◌∙◌, ◌≡◌, ap, refl, sym}
+use Prim.Native.Nat.{◌+◌, ◌-◌, ◌≤◌, ℕ, suc}
+use native.Mathlib.Numerals.{add-one}
+use native.Mathlib.Omega.{arith}
+use mathlib.Core.Bool.{Bool, ◌&&◌, ◌||◌}
+use lib.ListN.{drop, get_or, length, take}
+use lib.Seq.{drop-nil, take_all}
+use lib.Dec.{eqb, ltb}
+use borrow.Author.Rules.{rules}
+use Rattle.model.specs.Line.{zeros?}
+use Rattle.unfinished.proofs.TestLaws.{zeros_step}
+use Rattle.unfinished.proofs.clean.Goals as goal
+
+pub loop-i-init : goal.loop-i-init
+unfolding zeros?
+loop-i-init c =
+    (omega arith, rw (drop-nil {A = ℕ} c.args.held))
+
+pub loop-i-preserved : goal.loop-i-preserved
+loop-i-preserved c =
+    let a = c.args in
+    let l = c.loop-i in
+    (omega arith, ap (λ (t : Bool). t && (ltb l.i a.held || eqb (get_or a.t1 l.i 0) 0)) l.invariant.1 ∙ sym (ap (λ (k : ℕ). zeros? (drop a.held (take k a.t1))) (add-one l.i) ∙ zeros_step a.t1 l.i a.held (search rules)))
+
+pub returns : goal.returns
+returns c =
+    let w = c.args.t1 in
+    c.loop-i.invariant.1 ∙ ap (λ (l : _). zeros? (drop c.args.held l)) (take_all c.loop-i.i w (search rules))

@@ -1,0 +1,9 @@
+-- A copy into zeros.
+use mathlib.Core.Path.{◌∙◌}
+use borrow.Author.Rules.{rules}
+use Rattle.unfinished.proofs.JoinLaws.{pads}
+use Rattle.unfinished.proofs.padded.Goals as goal
+
+pub returns : goal.returns
+returns c =
+    c.copy_in.ensures ∙ pads c.args.rest.now c.requires

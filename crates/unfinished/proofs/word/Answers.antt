@@ -1,0 +1,8 @@
+-- Four bytes fit a number.
+use mathlib.Core.Path.{refl}
+use borrow.Author.Rules.{rules}
+use Rattle.unfinished.proofs.word.Goals as goal
+
+pub returns : goal.returns
+returns c =
+    refl

@@ -1,0 +1,36 @@
+-- `paint_view`: all rows at once, or row by row with numbers that are the view's.
+use mathlib.Core.Path.{◌≡◌}
+use Prim.Native.Nat.{◌*◌, ◌+◌, ◌≤◌, ℕ}
+use native.Mathlib.Omega.{arith}
+use borrow.Author.Rules.{rules}
+use Rattle.views.proofs.Runs.{whole_made}
+use Rattle.views.proofs.rows.paint_view.Goals as goal
+
+-- a pane as wide as the screen has all its rows among the cells
+fits : (at rows width : ℕ) → width ≡ 80 → at + rows * width ≤ 3840 → at + rows * 80 ≤ 3840
+fits at rows width e h = rw e at h
+
+pub overflow_mul-panes : goal.overflow_mul-panes
+overflow_mul-panes c =
+    omega (arith, c.requires.0.rows_high)
+
+pub copy_many-requires : goal.copy_many-requires
+copy_many-requires c =
+    let v = c.args.panes in
+    let framed = c.requires.0 in
+    omega (arith, framed.rows_high, fits v.left.at v.rows v.left.width (omega arith) framed.left_inside)
+
+pub paint_rows-requires : goal.paint_rows-requires
+paint_rows-requires c =
+    let h = c.requires.0.halves c.if-panes-eq2.true in
+    search rules
+
+pub paint_rows-requires-2 : goal.paint_rows-requires-2
+paint_rows-requires-2 c =
+    let h = c.requires.0.single c.if-left-eq-ROW.false c.if-panes-eq2.false in
+    search rules
+
+pub returns : goal.returns
+returns c =
+    let a = c.args in
+    whole_made a.panes c.requires.0 a.cells.now a.shown.now (omega arith) (omega arith) c.copy_many.ensures

@@ -1,0 +1,40 @@
+-- `view_of`: the view of each mode.
+use mathlib.Core.Path.{refl}
+use native.Mathlib.Omega.{arith}
+use borrow.Author.Rules.{rules}
+use Rattle.model.proofs.Keep.{both_there, screens_low}
+use Rattle.views.proofs.Views.{shows_halves, shows_sides, shows-whole}
+use Rattle.views.proofs.view_of.Goals as goal
+
+pub window-requires : goal.window-requires
+window-requires c =
+    (c.requires.0, (screens_low c.args.settings, c.top_of.ensures))
+
+pub window-requires-then-mode-eq2 : goal.window-requires-then-mode-eq2
+window-requires-then-mode-eq2 c =
+    (c.requires.0, (omega (arith, c.if-mode-eq2.true, both_there c.args.settings (λ e. omega (arith, e, c.if-mode-eq2.true))), c.top_of-then-mode-eq2.ensures))
+
+pub returns-then-mode-ne1 : goal.returns-then-mode-ne1
+returns-then-mode-ne1 c =
+    let s = c.args.settings in
+    shows-whole s c.requires.0 c.if-mode-ne1.true c.if-mode-eq2.false (c.text_rows-rows.ensures.0 s refl) c.window-left.ensures
+
+pub overflow_mul-at : goal.overflow_mul-at
+overflow_mul-at c =
+    let s = c.args.settings in
+    omega (arith, (shows_halves s c.requires.0 c.if-mode-ne1.false (c.text_rows-rows.ensures.0 s refl) c.window-left.ensures).framed)
+
+pub overflow_add-at : goal.overflow_add-at
+overflow_add-at c =
+    let s = c.args.settings in
+    omega (arith, (shows_halves s c.requires.0 c.if-mode-ne1.false (c.text_rows-rows.ensures.0 s refl) c.window-left.ensures).framed)
+
+pub returns : goal.returns
+returns c =
+    let s = c.args.settings in
+    shows_sides s c.requires.0 c.if-mode-eq2.true (c.text_rows-rows.ensures.0 s refl) c.window.ensures c.window-then-mode-eq2.ensures
+
+pub returns : goal.returns
+returns c =
+    let s = c.args.settings in
+    shows_halves s c.requires.0 c.if-mode-ne1.false (c.text_rows-rows.ensures.0 s refl) c.window-left.ensures

@@ -1,0 +1,12 @@
+-- `writer::gathering::gather` meets its contract: a 209 alone, or the parameters copied behind the first two bytes.
+use borrow.Author.Rules.{rules}
+use Rattle.writer.proofs.Laws.{given_alone, given-more}
+use Rattle.writer.proofs.gathering.gather.Goals as goal
+
+pub returns : goal.returns
+returns c =
+    given_alone _ _ c.if-second-count.true
+
+pub returns : goal.returns
+returns c =
+    given-more _ _ c.if-second-count.false c.requires _ c.copy_in.ensures
