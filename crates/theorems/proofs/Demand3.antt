@@ -78,6 +78,7 @@ unfolding stands
 each P given {t} (next g p m) zero c first = subst (λ (x : Terminal). P x c) g (given c p)
 each P given {t} (next {c = b} {cs = cs} g p m) (suc n) c (later h) =
     subst (λ (x : Terminal). P (stands x (requests (take n cs))) c) (left_is b p ∙ ap (λ (x : Terminal). served x (request_of b)) g) (each P given m n c h)
+each P given (none {t = t}) n c h = elim h [ ]
 
 -- and what it left, from the promise alone
 pub left_unaltered : (c : Call) → Promised c → granted c.given (request_of c) ≡ false → (c.left ≡ c.given) × (c.answer ≡ blank_answer (number_of c.given (request_of c)) 0) × (c.printer ≡ c.buffer)
@@ -121,6 +122,7 @@ from-painting S P tail go (next g p m) zero c first e f zero l s = absurd (not-s
 from-painting S P tail go (next {cs = cs} g p m) zero c first e f (suc n) l s = go c.left cs m n (tail c cs 0 n s) (painted c p e f)
 from-painting S P tail go (next g p m) (suc i) c (later h) e f zero l s = absurd (not-suc-le-zero l)
 from-painting S P tail go (next {c = b} {cs = cs} g p m) (suc i) c (later h) e f (suc n) l s = from-painting S P tail go m i c h e f n (le_of_suc-le-suc l) (tail b cs (suc i) n s)
+from-painting S P tail go (none {t = t}) i c h e f n l s = elim h [ ]
 
 no_key_tail : (c : Call) (cs : List Call) (i n : ℕ) → NoKey (c ∷ cs) (suc i) (suc n) → NoKey cs i n
 no_key_tail c cs i n f = λ j b l u h e. f (suc j) b (omega arith) (omega arith) (later h) e

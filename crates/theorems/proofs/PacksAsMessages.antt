@@ -43,6 +43,7 @@ sendable_rest (also_sendable k ks) = ks
 
 -- none of them is refused
 sent_granted : {t : Terminal} {room : ℕ} {ms : List (List ℕ)} {cs : List Call} → Quiet t → AllSendable ms → Made t cs → Sent room ms cs → (n : ℕ) (d : Call) → Nth n cs d → d.answer.number ≡ 0
+sent_granted {room = room} {ms = ms} h ks (none {t = t}) _ n e x14 = elim x14 [ ]
 sent_granted {t} {room} h ks (next {c = c} g p d) (sent_next {m = m} f l s) n e first =
     let q : Request = request (message m) room in
     number_is c p ∙ (λ i. number_of (g i) (asked_of c (message m) room f l i)) ∙ number_granted t q (quiet_granted h m (sendable_first ks) room)
@@ -101,6 +102,7 @@ stands_for_lem t c p b f e =
 -- a list with each pack replaced is the list of requests with each pack replaced
 replaced_requests : {t : Terminal} {cs ds : List Call} → Made t cs → Made t ds → Replaced cs ds → requests ds ≡ unpacked t (requests cs)
 unfolding unpacked stands_for
+replaced_requests (none {t = t}) (next {c = d} {cs = ds} g₂ p₂ m₂) x17 = elim x17 [ ]
 replaced_requests none none no_call = refl
 replaced_requests {t} (next {c = c} {cs = cs} g p m) (next {c = d} {cs = ds} g₂ p₂ m₂) (same_call n f l r) =
     let fq : request_of d ≡ request_of c = λ i. request (f i) (l i) in

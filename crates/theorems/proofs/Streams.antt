@@ -38,6 +38,7 @@ pub left_served : (c : Call) (t : Terminal) → c.given ≡ t → Promised c →
 left_served c t g p = left_is c p ∙ ap (λ (x : Terminal). served x (request_of c)) g
 
 streaming_of : {t : Terminal} {cs : List Call} {bs : List ℕ} → Made t cs → Stream cs bs → Streaming t (requests cs) bs
+streaming_of {bs = bs} (none {t = t}) x4 = elim x4 [ ]
 streaming_of {t} (next {c = c} g p none) (closes f e) =
     subst (λ (a : Asked). Streaming t (request a (length c.buffer) ∷ []) []) (sym f) (Streaming.closes (asked_granted c closing t g p f e))
 streaming_of {t} (next {c = c} {cs = cs} g p r) (goes {m = m} {bs = bs} f e s) =
@@ -99,6 +100,7 @@ uncut_as t cs bs room made z stream e f =
 -- a stream in short pieces, within the limit, is accepted throughout
 cut_stream : {t : Terminal} {cs : List Call} {bs : List ℕ} → Good t.state → length t.shown ≡ 640 → Made t cs → Cut cs bs → t.state.settings.count + length bs ≤ limit → Stream cs bs
 unfolding own_reasons first_of countable count_after
+cut_stream {bs = bs} g l (none {t = t}) x13 h = elim x13 [ ]
 cut_stream {t} g l (next {c = c} x p none) (ends f) h =
     let n : number_of t (request_of c) ≡ 0 = number_good t (request_of c) g l ∙ ap (λ (a : Asked). first_of (own_reasons t.state.settings a)) f in
     closes f (number_is c p ∙ ap (λ (y : Terminal). number_of y (request_of c)) x ∙ n)
