@@ -173,8 +173,10 @@ def turn(path, crate, function, names):
     uses = [u for u in uses if not re.search(r"\.(Statement\.\{statement\}|Tie as tie)$", u)]
     by_old = {}
     for i, (old, new) in enumerate(f.needs):
-        for it in (norm(new), "overflow_" + norm(old), "nonzero_" + norm(old), norm(old)):
+        for it in ("overflow_" + norm(old), "nonzero_" + norm(old), norm(old)):
             by_old[it] = i
+    for i, (old, new) in enumerate(f.needs):
+        by_old.setdefault(norm(new), i)
     invariants, answers, helpers = [], [], []
     named = {}
     spec = None

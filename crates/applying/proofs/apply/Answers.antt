@@ -13,6 +13,12 @@ use borrow.Author.Rules.{rules}
 use borrow.Enum.Refused.{opened}
 use Rattle.applying.proofs.apply.Goals as goal
 
+pub returns-in_default : goal.returns-in_default
+returns-in_default c =
+    let a = c.args in
+    let none = no_sequence a.message.now a.item (state a.settings a.cells.now a.layer.now a.dots.now) (opened c.in_default.in_default-own.keys2) in
+    record { does = sym none.0; prints = sym (ap (λ (ys : List ℕ). put a.from ys a.printer.now) none.1 ∙ put-none a.from a.printer.now) }
+
 -- idle
 pub returns-then-idle : goal.returns-then-idle
 returns-then-idle c =
@@ -39,12 +45,6 @@ pub obey-requires : goal.obey-requires
 obey-requires c =
     let p = c.requires in
     record { sound = p.good.sound; sized = record { cells_are = p.good.cells_are; layer_are = p.good.layer_are; dots_are = p.good.dots_are }; legal = rw c.in-Sequence.is at p.legal; awake = sym c.idle.ensures ∙ c.if-idle.false }
-
-pub returns : goal.returns
-returns c =
-    let a = c.args in
-    let none = no_sequence a.message.now a.item (state a.settings a.cells.now a.layer.now a.dots.now) (opened c.in-Sequence.in-Sequence-own.keys2) in
-    record { does = sym none.0; prints = sym (ap (λ (ys : List ℕ). put a.from ys a.printer.now) none.1 ∙ put-none a.from a.printer.now) }
 
 pub returns : goal.returns
 returns c =

@@ -9,13 +9,13 @@ use Rattle.model.specs.Bytes.{put}
 use Rattle.paint.proofs.Tested.{is, is_not}
 use Rattle.paint.proofs.paint_keys.Goals as goal
 
+pub returns-then-settings-eq1 : goal.returns-then-settings-eq1
+returns-then-settings-eq1 c = let s =
+    c.args.settings in sym (is s.secret 1 _ _ (omega arith))
+
 pub returns-then-settings-ne0 : goal.returns-then-settings-ne0
 returns-then-settings-ne0 c = let s =
     c.args.settings in sym (is_not s.secret 1 _ _ (omega arith) ∙ is_not s.display 0 _ _ (omega arith))
-
-pub returns : goal.returns
-returns c = let s =
-    c.args.settings in sym (is s.secret 1 _ _ (omega arith))
 
 pub returns : goal.returns
 returns c =

@@ -19,6 +19,12 @@ pub copy_in-requires : goal.copy_in-requires
 copy_in-requires c =
     (search rules, omega (arith, texts_size c.requires.0.0))
 
+pub returns-then-settings-eq0 : goal.returns-then-settings-eq0
+returns-then-settings-eq0 c layer dots =
+    let a = c.args in
+    let size = texts_size c.requires.0.0 in
+    row_8_keys a.settings a.cells.now layer dots a.shown.now c.if-settings-eq0.true size (c.copy_in.ensures ∙ ap (λ (ys : List ℕ). put 560 ys a.shown.now) (take_all 80 a.settings.texts (omega arith)))
+
 pub start-requires : goal.start-requires
 start-requires c =
     let v = c.view_of-panes in
@@ -37,12 +43,6 @@ paint_row-requires c =
     let v = c.view_of-panes in
     let s = c.args.settings in
     ((v.ensures.framed, omega (arith, v.ensures.rows_are, rows_plain s c.if-settings-eq0.false)), search rules)
-
-pub returns : goal.returns
-returns c layer dots =
-    let a = c.args in
-    let size = texts_size c.requires.0.0 in
-    row_8_keys a.settings a.cells.now layer dots a.shown.now c.if-settings-eq0.true size (c.copy_in.ensures ∙ ap (λ (ys : List ℕ). put 560 ys a.shown.now) (take_all 80 a.settings.texts (omega arith)))
 
 pub returns : goal.returns
 returns c layer dots =

@@ -7,8 +7,8 @@ use Rattle.store.proofs.Laws.{lent_filled}
 use Rattle.paint.proofs.Pictures.{row_8_plain, row_8_secret}
 use Rattle.paint.proofs.paint_row_8.Goals as goal
 
-pub returns : goal.returns
-returns c dots =
+pub returns-then-hidden-eq1 : goal.returns-then-hidden-eq1
+returns-then-hidden-eq1 c dots =
     let a = c.args in
     row_8_secret a.settings a.cells.now a.layer.now dots a.shown.now (eq-eqb _ _ c.if-hidden-eq1.true) (lent_filled 560 80 80 32 a.shown.now c.fill.ensures refl (omega arith))
 

@@ -7,8 +7,8 @@ use borrow.Author.Rules.{rules}
 use Rattle.paint.proofs.Tested.{is, is_not}
 use Rattle.paint.proofs.paint_under.Goals as goal
 
-pub returns : goal.returns
-returns c =
+pub returns-then-secret-ne1 : goal.returns-then-secret-ne1
+returns-then-secret-ne1 c =
     c.paint_view.ensures ∙ sym (is_not c.args.secret 1 _ _ (omega arith))
 
 pub returns : goal.returns

@@ -12,13 +12,13 @@ pub loop-at-init : goal.loop-at-init
 loop-at-init c =
     (search rules, refl)
 
+pub returns-then-bytes-at : goal.returns-then-bytes-at
+returns-then-bytes-at c =
+    sym (c.loop-at.invariant.1 ∙ uncut_short c.args.bytes.now c.loop-at.at c.loop-at.invariant.0 c.length_at.ensures (omega arith) (omega arith))
+
 pub loop-at-preserved : goal.loop-at-preserved
 loop-at-preserved c =
     (omega arith, c.loop-at.invariant.1 ∙ uncut_past c.args.bytes.now c.loop-at.at c.loop-at.invariant.0 c.length_at.ensures (omega arith))
-
-pub returns : goal.returns
-returns c =
-    sym (c.loop-at.invariant.1 ∙ uncut_short c.args.bytes.now c.loop-at.at c.loop-at.invariant.0 c.length_at.ensures (omega arith) (omega arith))
 
 pub returns : goal.returns
 returns c =

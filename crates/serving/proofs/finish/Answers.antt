@@ -28,8 +28,8 @@ paint-requires c =
     let there = get_or-set_same s.places s.selected a.place nowhere (omega (arith, length-set s.places s.selected a.place, c.requires.0.sound.arrays.0, chosen _ c.requires.0.sound)) in
     (subst (λ (ps : List Place). (Visible (with_places s ps) a.cells.now a.layer.now) × (a.place.top ≡ (place_of (with_places s ps) s.selected).top)) (sym c.placed-places.ensures) (c.requires.0, ap (λ (p : Place). p.top) (sym there)), c.requires.1)
 
-pub returns : goal.returns
-returns c =
+pub returns-then-paints : goal.returns-then-paints
+returns-then-paints c =
     let e = c.placed-places.ensures in
     let a = c.args in (
       ap (with_places a.settings) e,

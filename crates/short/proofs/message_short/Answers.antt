@@ -23,6 +23,23 @@ begun : (c : tie.After-frame-of) → let a = c.before.before.before.before.befor
     Watch a.message.now a.cells.now a.layer.now a.dots.now a.printer.now a.shown.now a.settings a.cells.now a.layer.now a.dots.now a.printer.now a.shown.now a.settings c.before.selected-place.result a.settings.marks c.frame-of.result no_counts false 0
 begun c = let a = c.before.before.before.before.before.before.before.before.before.before.before.before.before.before.args in line_first a.settings a.message.now a.cells.now a.layer.now a.dots.now a.shown.now a.printer.now (able c.before.before) c.frame-of.ensures c.before.selected-place.ensures
 
+pub returns-then-number-ne0 : goal.returns-then-number-ne0
+returns-then-number-ne0 c =
+    let a = c.args in
+    short_refused a.settings a.message.now a.cells.now a.layer.now a.dots.now a.shown.now a.printer.now c.call_number-number.result _ c.call_number-number.ensures c.if-number-ne0.true c.refusal-answer.ensures
+
+pub selected_place-place-requires : goal.selected_place-place-requires
+selected_place-place-requires c =
+    chosen _ (able c).well-formed.sound
+
+pub frame_of-frame-requires : goal.frame_of-frame-requires
+frame_of-frame-requires c =
+    (able c).good.sound
+
+pub in_line-requires : goal.in_line-requires
+in_line-requires c =
+    (begun c).loop.ready.stands
+
 pub serve-requires : goal.serve-requires
 serve-requires c =
     able c
@@ -47,11 +64,6 @@ paint_row_8-requires c =
 pub answer_of-answer-requires : goal.answer_of-answer-requires
 answer_of-answer-requires c =
     omega (arith, (able c).sendable)
-
-pub returns : goal.returns
-returns c =
-    let a = c.args in
-    short_refused a.settings a.message.now a.cells.now a.layer.now a.dots.now a.shown.now a.printer.now c.call_number-number.result _ c.call_number-number.ensures c.if-number-ne0.true c.refusal-answer.ensures
 
 pub returns : goal.returns
 returns c =

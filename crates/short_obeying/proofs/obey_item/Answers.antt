@@ -31,6 +31,10 @@ pub print_run-requires : goal.print_run-requires
 print_run-requires c =
     (c.requires.0, (c.requires.1.0, c.requires.1.1.prints (rw c.in-Printed.is)))
 
+pub returns-in-Printed : goal.returns-in-Printed
+returns-in-Printed c =
+    rw c.in-Printed.is (run_arm _ c.print_run.ensures)
+
 pub print_code-one-requires : goal.print_code-one-requires
 print_code-one-requires c = let entry =
     c in (entry.requires.0, entry.requires.1.0)
@@ -48,10 +52,6 @@ obey-requires c =
     let a = c.args in
     let told = plain c in
     (c.requires.0, (c.requires.1.0.0, (subst (λ (i : Item). Offered a.message.now a.at a.size i (limits_in a.frame)) (sym told.0) c.requires.1.1, subst (λ (i : Item). printing? i ≡ false) (sym told.0) told.1)))
-
-pub returns : goal.returns
-returns c =
-    rw c.enum_told-1.given.1 (run_arm _ c.print_run.ensures)
 
 pub returns : goal.returns
 returns c =

@@ -16,6 +16,11 @@ pub overflow_add-result : goal.overflow_add-result
 overflow_add-result c =
     let entry = entry_of c in search (rules, entry.pre.1.1, entry.good)
 
+pub returns-then-count-misses : goal.returns-then-count-misses
+returns-then-count-misses c =
+    let h = (entry_of c).requires in
+    part_code h.1.1.0 h.1.1.1 refl refl c.print_code-one.ensures.0 c.print_code-one.ensures.1
+
 pub print_line-next-requires : goal.print_line-next-requires
 print_line-next-requires c =
     let n = c.lesser-count in
@@ -26,11 +31,6 @@ print_line-next-requires c =
 pub overflow_add-result-2 : goal.overflow_add-result-2
 overflow_add-result-2 c =
     let entry = entry_of c in omega (arith, entry.pre.1.1, entry.good, c.lesser-count.ensures)
-
-pub returns : goal.returns
-returns c =
-    let h = (entry_of c).requires in
-    part_code h.1.1.0 h.1.1.1 refl refl c.print_code-one.ensures.0 c.print_code-one.ensures.1
 
 pub returns : goal.returns
 returns c =

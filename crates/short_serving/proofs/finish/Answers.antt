@@ -20,12 +20,8 @@ pub paint-requires : goal.paint-requires
 paint-requires c = let entry =
     c in (visible entry.args.settings entry.args.place entry.requires.0 c.placed-places.ensures, entry.requires.1)
 
-pub paint_row_8-requires : goal.paint_row_8-requires
-paint_row_8-requires c = let entry =
-    c in (visible entry.args.settings entry.args.place entry.requires.0 c.placed-places.ensures, entry.requires.1.1)
-
-pub returns : goal.returns
-returns c =
+pub returns-then-wide : goal.returns-then-wide
+returns-then-wide c =
     let e = c.placed-places.ensures in
     let a = c.args in (
       ap (with_places a.settings) e,
@@ -36,6 +32,10 @@ returns c =
             ∙ ap (λ (b : Bool). let st = state (with_place a.settings a.place) a.cells.now a.layer.now dots in cond b (painting st) (painted 560 80 (picture st) a.shown.now)) (sym c.if-wide.true),
       ),
     )
+
+pub paint_row_8-requires : goal.paint_row_8-requires
+paint_row_8-requires c = let entry =
+    c in (visible entry.args.settings entry.args.place entry.requires.0 c.placed-places.ensures, entry.requires.1.1)
 
 pub returns : goal.returns
 returns c =

@@ -8,9 +8,9 @@ use Rattle.model.specs.Marks.{marked?}
 use Rattle.soundness.proofs.LineMarks.{none-beyond, shifted_out}
 use Rattle.soundness.proofs.marked_in.Goals as goal
 
-pub returns : goal.returns
+pub returns-then-above-ge64 : goal.returns-then-above-ge64
 unfolding marked?
-returns c =
+returns-then-above-ge64 c =
     let a = c.args in
     let small : a.number < 2 ^ 64 = omega arith in
     none-beyond a.number _ small (omega (arith, c.minus-above.ensures, c.if-above-ge64.true))

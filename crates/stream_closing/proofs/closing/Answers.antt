@@ -31,6 +31,11 @@ module _ (c : tie.Else1) where
 abbrev told : tie.After-message → tie.Else1
 told c = c.before.before.before.before.before.before.before.before.before.before
 
+pub returns-then-number-ne0 : goal.returns-then-number-ne0
+returns-then-number-ne0 c =
+    let a = c.args in
+    closing-not (terminal a.settings a.cells.now a.layer.now a.dots.now a.shown.now) _ _ c.closing_number-number.ensures c.if-number-ne0.true c.refusal-answer.ensures
+
 pub slice_bounds-waiting-end : goal.slice_bounds-waiting-end
 slice_bounds-waiting-end c = let there =
     c in omega (arith, (line there).ranges, size (first there))
@@ -78,11 +83,6 @@ shape_of-cells c = let asked =
 pub shape_of-layer : goal.shape_of-layer
 shape_of-layer c = let asked =
     c in omega (arith, asked.message.auto)
-
-pub returns : goal.returns
-returns c =
-    let a = c.args in
-    closing-not (terminal a.settings a.cells.now a.layer.now a.dots.now a.shown.now) _ _ c.closing_number-number.ensures c.if-number-ne0.true c.refusal-answer.ensures
 
 pub returns : goal.returns
 returns c =

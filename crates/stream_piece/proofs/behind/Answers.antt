@@ -6,8 +6,8 @@ use Rattle.stream_parts.proofs.Pieces.{promised_not}
 use Rattle.stream_parts.proofs.Unsound.{line_refused}
 use Rattle.stream_piece.proofs.behind.Goals as goal
 
-pub returns : goal.returns
-returns c =
+pub returns-then-number-ne0 : goal.returns-then-number-ne0
+returns-then-number-ne0 c =
     let a = c.args in
     let t = terminal a.settings a.cells.now a.layer.now a.dots.now a.shown.now in
     let e = c.line_number-number.ensures in

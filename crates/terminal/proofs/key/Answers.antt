@@ -13,6 +13,12 @@ placed c =
     let z : n.result ≡ 0 = omega arith in
     among a.number a.text.now a.settings (sym n.ensures ∙ z)
 
+pub returns-then-refused-ne0 : goal.returns-then-refused-ne0
+returns-then-refused-ne0 c =
+    let a = c.args in
+    let n = c.key_number-refused in
+    refused a.number a.text.now a.settings n.result _ n.ensures (omega arith) c.refusal-answer.ensures
+
 pub slice_bounds-copy_in-end : goal.slice_bounds-copy_in-end
 slice_bounds-copy_in-end c =
     sym (placed c).ten
@@ -28,12 +34,6 @@ overflow_mul-number c =
 pub copy_in-requires : goal.copy_in-requires
 copy_in-requires c =
     omega (arith, placed c)
-
-pub returns : goal.returns
-returns c =
-    let a = c.args in
-    let n = c.key_number-refused in
-    refused a.number a.text.now a.settings n.result _ n.ensures (omega arith) c.refusal-answer.ensures
 
 pub returns : goal.returns
 returns c =

@@ -11,8 +11,8 @@ overflow_cast-rule c =
     let a = c.args in
     omega (arith, byte a.rule a.cells.now a.layer.now a.dots.now a.shown.now (sym c.opening_number-refused.ensures ∙ c.if-refused-eq0.true))
 
-pub returns : goal.returns
-returns c =
+pub returns-then-refused-eq0 : goal.returns-then-refused-eq0
+returns-then-refused-eq0 c =
     let a = c.args in
     filled a.rule a.cells.now a.layer.now a.dots.now a.shown.now _ _ _ _ _ _ c.opening_number-refused.ensures c.if-refused-eq0.true c.opened_settings-settings.ensures c.fill.ensures c.fill-then-refused-eq0.ensures c.wipe.ensures c.fill-then-refused-eq0-2.ensures
 

@@ -10,6 +10,11 @@ use Rattle.traces.proofs.Promises.{at_most, interval_least, refused, room_enough
 use borrow.Author.Rules.{rules}
 use Rattle.traces.proofs.key_repeats.Goals as goal
 
+pub returns-then-number-ne0 : goal.returns-then-number-ne0
+returns-then-number-ne0 c =
+    let a = c.args in
+    refused a.settings a.trace.now a.output.now c.call_number-number.ensures c.if-number-ne0.true
+
 pub count_all-count-requires : goal.count_all-count-requires
 count_all-count-requires c =
     let a = c.args in
@@ -28,11 +33,6 @@ write_all-requires c =
     let a = c.args in
     let passed : first_of (checks a.settings a.trace.now) ≡ 0 = sym c.call_number-number.ensures ∙ omega (arith, c.if-number-ne0.false) in
     (interval_least a.settings a.trace.now passed, (whole a.settings a.trace.now passed, omega (arith, c.count_all-count.ensures, c.if-count-output.false)))
-
-pub returns : goal.returns
-returns c =
-    let a = c.args in
-    refused a.settings a.trace.now a.output.now c.call_number-number.ensures c.if-number-ne0.true
 
 pub returns : goal.returns
 unfolding sent_in

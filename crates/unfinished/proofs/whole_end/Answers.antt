@@ -9,6 +9,14 @@ use Rattle.unfinished.specs.Whole.{whole_end}
 use Rattle.unfinished.proofs.EndLaws.{end_all, end_late, end_next, end_stop}
 use Rattle.unfinished.proofs.whole_end.Goals as goal
 
+pub returns-then-no_late_escape : goal.returns-then-no_late_escape
+returns-then-no_late_escape c =
+    end_late c.args.bytes.now (c.no_late_escape.ensures c.if-no_late_escape.true)
+
+pub loop-at-init : goal.loop-at-init
+loop-at-init c =
+    (omega arith, zero-add _)
+
 pub returns-then-length-eq0 : goal.returns-then-length-eq0
 returns-then-length-eq0 c =
     let l = c.loop-at in
@@ -25,10 +33,6 @@ loop-at-preserved c =
     let l = c.loop-at in
     let m = c.args.bytes.now in
     (c.whole_item-length.ensures.1, sym (end_next m l.at _ c.whole_item-length.ensures.0 c.if-length-eq0.false) ∙ l.invariant.1)
-
-pub returns : goal.returns
-returns c =
-    end_late c.args.bytes.now (c.no_late_escape.ensures c.if-no_late_escape.true)
 
 pub returns : goal.returns
 returns c =

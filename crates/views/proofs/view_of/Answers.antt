@@ -14,6 +14,15 @@ pub window-requires-then-mode-eq2 : goal.window-requires-then-mode-eq2
 window-requires-then-mode-eq2 c =
     (c.requires.0, (omega (arith, c.if-mode-eq2.true, both_there c.args.settings (λ e. omega (arith, e, c.if-mode-eq2.true))), c.top_of-then-mode-eq2.ensures))
 
+pub returns-then-mode-eq2 : goal.returns-then-mode-eq2
+returns-then-mode-eq2 c =
+    let s = c.args.settings in
+    shows_sides s c.requires.0 c.if-mode-eq2.true (c.text_rows-rows.ensures.0 s refl) c.window.ensures c.window-then-mode-eq2.ensures
+
+pub window-left-requires : goal.window-left-requires
+window-left-requires c =
+    (c.requires.0, (c.requires.0.selected, c.requires.1))
+
 pub returns-then-mode-ne1 : goal.returns-then-mode-ne1
 returns-then-mode-ne1 c =
     let s = c.args.settings in
@@ -28,11 +37,6 @@ pub overflow_add-at : goal.overflow_add-at
 overflow_add-at c =
     let s = c.args.settings in
     omega (arith, (shows_halves s c.requires.0 c.if-mode-ne1.false (c.text_rows-rows.ensures.0 s refl) c.window-left.ensures).framed)
-
-pub returns : goal.returns
-returns c =
-    let s = c.args.settings in
-    shows_sides s c.requires.0 c.if-mode-eq2.true (c.text_rows-rows.ensures.0 s refl) c.window.ensures c.window-then-mode-eq2.ensures
 
 pub returns : goal.returns
 returns c =

@@ -13,6 +13,10 @@ pub overflow_mul-result : goal.overflow_mul-result
 overflow_mul-result c = let entry =
     c in let a = entry.args in omega (arith, window_1 a.settings entry.requires.0 a.screen a.top (omega arith) entry.requires.1.1)
 
+pub returns-then-screen-eq0 : goal.returns-then-screen-eq0
+returns-then-screen-eq0 c = let entry =
+    c in let a = entry.args in window_1 a.settings entry.requires.0 a.screen a.top (omega arith) entry.requires.1.1
+
 pub overflow_mul-base : goal.overflow_mul-base
 overflow_mul-base c = let entry =
     c in let a = entry.args in omega (arith, window_2 a.settings entry.requires.0 a.screen a.top entry.requires.1.0 (omega (arith, entry.requires.1.0, screens_most a.settings)) entry.requires.1.1)
@@ -24,10 +28,6 @@ overflow_mul-result-2 c = let entry =
 pub overflow_add-result : goal.overflow_add-result
 overflow_add-result c = let entry =
     c in let a = entry.args in omega (arith, window_2 a.settings entry.requires.0 a.screen a.top entry.requires.1.0 (omega (arith, entry.requires.1.0, screens_most a.settings)) entry.requires.1.1)
-
-pub returns : goal.returns
-returns c = let entry =
-    c in let a = entry.args in window_1 a.settings entry.requires.0 a.screen a.top (omega arith) entry.requires.1.1
 
 pub returns : goal.returns
 returns c = let entry =

@@ -4,9 +4,17 @@ use borrow.Author.Rules.{rules}
 use Rattle.writer.proofs.Laws.{promised_as, too_many, wanted-given}
 use Rattle.writer.proofs.write_bytes.Goals as goal
 
-pub returns : goal.returns
-returns c =
+pub returns-then-parameters-gt11 : goal.returns-then-parameters-gt11
+returns-then-parameters-gt11 c =
     too_many _ _ _ (omega (arith, c.if-parameters-gt11.true)) _ _ _ c.too_long.ensures
+
+pub gather-requires : goal.gather-requires
+gather-requires c =
+    omega (arith, c.if-parameters-gt11.false)
+
+pub write_spelled-requires : goal.write_spelled-requires
+write_spelled-requires c =
+    c.gather.ensures.usable
 
 pub returns : goal.returns
 returns c =

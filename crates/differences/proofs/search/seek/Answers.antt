@@ -11,14 +11,14 @@ pub loop-p-init : goal.loop-p-init
 loop-p-init c =
     (c.requires.1.1, refl)
 
+pub returns-then-first-p : goal.returns-then-first-p
+returns-then-first-p c =
+    sym (place_here c.loop-p.p _ _ c.loop-p-test.true (ne_eqb _ _ c.if-first-p.true)) ∙ c.loop-p.invariant.1
+
 pub loop-p-preserved : goal.loop-p-preserved
 loop-p-preserved c =
     let more = c.loop-p-test.true in
     (omega (arith, more), sym (place_same c.loop-p.p _ _ more (eq-eqb _ _ c.if-first-p.false)) ∙ c.loop-p.invariant.1)
-
-pub returns : goal.returns
-returns c =
-    sym (place_here c.loop-p.p _ _ c.loop-p-test.true (ne_eqb _ _ c.if-first-p.true)) ∙ c.loop-p.invariant.1
 
 pub returns : goal.returns
 returns c =

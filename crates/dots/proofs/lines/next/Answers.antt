@@ -12,6 +12,18 @@ shift-requires c =
     let at = pre.1.0 in
     room_row m at pre.0.1.0 pre.0.1.1 (omega arith) (lower m at pre.1.1 (omega (arith, c.if-n-rest.true)))
 
+pub shift-requires-then-n-rest : goal.shift-requires-then-n-rest
+shift-requires-then-n-rest c =
+    let pre = c.requires in
+    let m = pre.0.0 in
+    let at = pre.1.0 in
+    room_column m at pre.0.1.0 pre.0.1.1 (omega arith) (further m at pre.1.1 (omega (arith, c.if-n-rest.true)))
+
+pub returns-then-n-rest : goal.returns-then-n-rest
+returns-then-n-rest c =
+    let pre = c.requires in
+    (refl, next_both pre.0.0 pre.1.0 pre.1.1 (omega (arith, c.if-n-rest.true)) c.shift.ensures c.shift-then-n-rest.ensures)
+
 pub shift-requires-then-flat : goal.shift-requires-then-flat
 shift-requires-then-flat c =
     let pre = c.requires in
@@ -29,19 +41,7 @@ shift-requires-2 c =
     let pre = c.requires in
     let m = pre.0.0 in
     let at = pre.1.0 in
-    room_column m at pre.0.1.0 pre.0.1.1 (omega arith) (further m at pre.1.1 (omega (arith, c.if-n-rest.true)))
-
-pub shift-requires-2 : goal.shift-requires-2
-shift-requires-2 c =
-    let pre = c.requires in
-    let m = pre.0.0 in
-    let at = pre.1.0 in
     room_row m at pre.0.1.0 pre.0.1.1 (omega arith) (lower_steep m at pre.1.1 c.if-flat.false)
-
-pub returns : goal.returns
-returns c =
-    let pre = c.requires in
-    (refl, next_both pre.0.0 pre.1.0 pre.1.1 (omega (arith, c.if-n-rest.true)) c.shift.ensures c.shift-then-n-rest.ensures)
 
 pub returns : goal.returns
 returns c =

@@ -1,4 +1,4 @@
--- `run_on` meets its contract: one mark is set.
+-- `run_on_lem` meets its contract: one mark is set.
 use mathlib.Core.Path.{refl}
 use Prim.Native.Nat.{◌<◌, ◌^◌}
 use native.Mathlib.Omega.{arith}

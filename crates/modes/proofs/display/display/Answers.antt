@@ -8,6 +8,10 @@ use Rattle.modes.proofs.Displays.{displayed, fits, line_changes, line_stays}
 use Rattle.modes.proofs.Parts.{stands}
 use Rattle.modes.proofs.display.display.Goals as goal
 
+pub returns-then-on-settings : goal.returns-then-on-settings
+returns-then-on-settings c cells dots =
+    line_stays _ _ c.if-on-settings.true
+
 pub hold-first-requires : goal.hold-first-requires
 hold-first-requires c =
     let f = fits c.args.t1 c.args.on (c.height_of-height.ensures _ refl refl) c.requires.0 c.requires.1.0 in
@@ -17,10 +21,6 @@ pub hold-second-requires : goal.hold-second-requires
 hold-second-requires c =
     let f = fits c.args.t1 c.args.on (c.height_of-height.ensures _ refl refl) c.requires.0 c.requires.1.0 in
     (f.0, f.2)
-
-pub returns : goal.returns
-returns c cells dots =
-    line_stays _ _ c.if-on-settings.true
 
 pub returns : goal.returns
 unfolding emptied with_layer with_settings

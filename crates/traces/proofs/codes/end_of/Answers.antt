@@ -13,15 +13,15 @@ pub loop-at-init : goal.loop-at-init
 loop-at-init c =
     (search rules, refl)
 
+pub returns-then-ends : goal.returns-then-ends
+returns-then-ends c =
+    let key = c.args.key in
+    sym (c.loop-at.invariant.1 ∙ end_here key c.loop-at.last c.stroke_at-stroke.ensures.is (sym c.ends.ensures ∙ c.if-ends.true))
+
 pub loop-at-preserved : goal.loop-at-preserved
 loop-at-preserved c =
     let key = c.args.key in
     (c.stroke_at-stroke.ensures.next, c.loop-at.invariant.1 ∙ end_on key c.loop-at.last c.stroke_at-stroke.ensures.is (sym c.ends.ensures ∙ c.if-ends.false))
-
-pub returns : goal.returns
-returns c =
-    let key = c.args.key in
-    sym (c.loop-at.invariant.1 ∙ end_here key c.loop-at.last c.stroke_at-stroke.ensures.is (sym c.ends.ensures ∙ c.if-ends.true))
 
 pub returns : goal.returns
 returns c =

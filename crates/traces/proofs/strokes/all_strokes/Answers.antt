@@ -28,8 +28,8 @@ loop-at-preserved c =
     let yes = c.if-is_stroke.true in
     (t.fits yes, (t.uncut yes, c.loop-at.invariant.1.1 ∙ t.is ∙ rw yes))
 
-pub returns : goal.returns
-returns c =
+pub returns-else-is_stroke : goal.returns-else-is_stroke
+returns-else-is_stroke c =
     sym (c.loop-at.invariant.1.1 ∙ c.is_stroke.ensures.is ∙ rw c.if-is_stroke.false)
 
 pub returns : goal.returns

@@ -13,13 +13,13 @@ pub loop-at-init : goal.loop-at-init
 loop-at-init c =
     (search rules, refl)
 
+pub returns-then-stroke-last : goal.returns-then-stroke-last
+returns-then-stroke-last c =
+    sym (c.loop-at.invariant.1 ∙ rising_not c.stroke_at-stroke.ensures.is (omega (arith, c.if-stroke-last.true)))
+
 pub loop-at-preserved : goal.loop-at-preserved
 loop-at-preserved c =
     (c.stroke_at-stroke.ensures.next, c.loop-at.invariant.1 ∙ rising_on c.stroke_at-stroke.ensures.is (omega (arith, c.if-stroke-last.false)))
-
-pub returns : goal.returns
-returns c =
-    sym (c.loop-at.invariant.1 ∙ rising_not c.stroke_at-stroke.ensures.is (omega (arith, c.if-stroke-last.true)))
 
 pub returns : goal.returns
 returns c =

@@ -20,6 +20,11 @@ copy_many-requires c =
     let framed = c.requires.0 in
     omega (arith, framed.rows_high, fits v.left.at v.rows v.left.width (omega arith) framed.left_inside)
 
+pub returns-then-left-eq-ROW : goal.returns-then-left-eq-ROW
+returns-then-left-eq-ROW c =
+    let a = c.args in
+    whole_made a.panes c.requires.0 a.cells.now a.shown.now (omega arith) (omega arith) c.copy_many.ensures
+
 pub paint_rows-requires : goal.paint_rows-requires
 paint_rows-requires c =
     let h = c.requires.0.halves c.if-panes-eq2.true in
@@ -29,8 +34,3 @@ pub paint_rows-requires-2 : goal.paint_rows-requires-2
 paint_rows-requires-2 c =
     let h = c.requires.0.single c.if-left-eq-ROW.false c.if-panes-eq2.false in
     search rules
-
-pub returns : goal.returns
-returns c =
-    let a = c.args in
-    whole_made a.panes c.requires.0 a.cells.now a.shown.now (omega arith) (omega arith) c.copy_many.ensures

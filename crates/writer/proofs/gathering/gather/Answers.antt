@@ -3,8 +3,8 @@ use borrow.Author.Rules.{rules}
 use Rattle.writer.proofs.Laws.{given_alone, given-more}
 use Rattle.writer.proofs.gathering.gather.Goals as goal
 
-pub returns : goal.returns
-returns c =
+pub returns-then-second-count : goal.returns-then-second-count
+returns-then-second-count c =
     given_alone _ _ c.if-second-count.true
 
 pub returns : goal.returns

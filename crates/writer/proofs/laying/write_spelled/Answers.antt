@@ -6,6 +6,14 @@ use borrow.Author.Rules.{rules}
 use Rattle.writer.proofs.Laws.{laid, quiet_word, refused_read, unsound}
 use Rattle.writer.proofs.laying.write_spelled.Goals as goal
 
+pub returns-then-not-sound : goal.returns-then-not-sound
+returns-then-not-sound c =
+    unsound _ _ _ _ (sym c.sound.ensures ∙ not-true _ c.if-not-sound.true)
+
+pub judge-verdict-requires : goal.judge-verdict-requires
+judge-verdict-requires c =
+    c.requires
+
 pub returns-then-verdict-ne0 : goal.returns-then-verdict-ne0
 returns-then-verdict-ne0 c =
     refused_read _ _ _ _ (sym c.sound.ensures ∙ not-false _ c.if-not-sound.false) _ c.judge-verdict.ensures (λ z. omega (arith, c.if-verdict-ne0.true, z))
@@ -13,10 +21,6 @@ returns-then-verdict-ne0 c =
 pub lay-requires : goal.lay-requires
 lay-requires c =
     c.requires
-
-pub returns : goal.returns
-returns c =
-    unsound _ _ _ _ (sym c.sound.ensures ∙ not-true _ c.if-not-sound.true)
 
 pub returns : goal.returns
 returns c =

@@ -21,9 +21,9 @@ read_item-reading-requires c =
     let e = front_length _ u in
     (omega (arith, e, u.some), omega (arith, e, u.most))
 
-pub returns : goal.returns
+pub returns-then-reading-length : goal.returns-then-reading-length
 unfolding front
-returns c =
+returns-then-reading-length c =
     let e = front_length _ c.requires in
     told_ten (read_short _ _ _ _ _ c.read_item-reading.ensures (omega (arith, c.if-reading-length.true, e)))
 
