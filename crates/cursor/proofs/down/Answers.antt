@@ -7,7 +7,7 @@ use Rattle.cursor.proofs.down.Goals as goal
 
 pub returns-then-place-frame : goal.returns-then-place-frame
 returns-then-place-frame c =
-    (unmarked_acts c.requires.1 (down_moves c.requires.0 c.if-place-frame.true c.put_at.ensures), rw c.put_at.ensures (omega arith))
+    (unmarked_acts c.requires.marks_len (down_moves c.requires.ready c.if-place-frame.true c.put_at.ensures), rw c.put_at.ensures (omega arith))
 
 pub returns-else-place-frame : goal.returns-else-place-frame
 returns-else-place-frame c =

@@ -11,4 +11,4 @@ returns-then-place-eq1 c =
 
 pub returns-else-place-eq1 : goal.returns-else-place-eq1
 returns-else-place-eq1 c =
-    unmarked_acts c.requires.1 (late_step_still c.requires.0 (λ e. omega (arith, e, c.if-place-eq1.false)))
+    unmarked_acts c.requires.marks_len (late_step_still c.requires.ready (λ e. omega (arith, e, c.if-place-eq1.false)))

@@ -7,7 +7,7 @@ use Rattle.cursor.proofs.onward.Goals as goal
 
 pub down-next-requires : goal.down-next-requires
 down-next-requires c =
-    ((column_acts c.requires.0 1 (omega arith) (omega arith) c.put_at-first.ensures).ready, c.requires.1)
+    ((column_acts c.requires.ready 1 (omega arith) (omega arith) c.put_at-first.ensures).ready, c.requires.marks_len)
 
 pub overflow_sub-next : goal.overflow_sub-next
 overflow_sub-next c =
@@ -19,4 +19,4 @@ run_on-requires c =
 
 pub returns : goal.returns
 returns c =
-    onward_marks (then_with (unmarked_acts c.requires.1 (column_acts c.requires.0 1 (omega arith) (omega arith) c.put_at-first.ensures)) c.down-next.ensures.0) c.run_on.ensures
+    onward_marks (then_with (unmarked_acts c.requires.marks_len (column_acts c.requires.ready 1 (omega arith) (omega arith) c.put_at-first.ensures)) c.down-next.ensures.0) c.run_on.ensures

@@ -7,11 +7,11 @@ use Rattle.cursor.proofs.right.Goals as goal
 
 pub returns-then-place-frame : goal.returns-then-place-frame
 returns-then-place-frame c =
-    unmarked_acts c.requires.1 (right_steps c.requires.0 c.if-place-frame.true c.put_at.ensures)
+    unmarked_acts c.requires.marks_len (right_steps c.requires.ready c.if-place-frame.true c.put_at.ensures)
 
 pub returns-then-frame-eq2 : goal.returns-then-frame-eq2
 returns-then-frame-eq2 c =
-    unmarked_acts c.requires.1 (right_late c.requires.0 c.if-place-frame.false (omega (arith, c.if-frame-eq2.true)) c.late_at.ensures)
+    unmarked_acts c.requires.marks_len (right_late c.requires.ready c.if-place-frame.false (omega (arith, c.if-frame-eq2.true)) c.late_at.ensures)
 
 pub returns-else-frame-eq2 : goal.returns-else-frame-eq2
 returns-else-frame-eq2 c =

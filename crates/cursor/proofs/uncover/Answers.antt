@@ -5,7 +5,7 @@ use Rattle.cursor.proofs.uncover.Goals as goal
 
 pub returns-then-frame : goal.returns-then-frame
 returns-then-frame c =
-    bare_uncovers _ (c.requires.1.empty c.if-frame.true)
+    bare_uncovers _ (c.requires.layer_of.empty c.if-frame.true)
 
 pub returns : goal.returns
 returns c =

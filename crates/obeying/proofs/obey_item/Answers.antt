@@ -8,15 +8,15 @@ use Rattle.obeying.proofs.obey_item.Goals as goal
 
 pub overflow_add-next : goal.overflow_add-next
 overflow_add-next c =
-    omega (arith, c.requires.1.1.inside, c.requires.1.1.sendable)
+    omega (arith, c.requires.offered.inside, c.requires.offered.sendable)
 
 pub print_run-requires : goal.print_run-requires
 print_run-requires c =
-    (c.requires.0, (c.requires.1.0, c.requires.1.1.prints (rw c.in-Printed.is)))
+    (c.requires.ready, (c.requires.marks_len, c.requires.offered.prints (rw c.in-Printed.is)))
 
 pub obey_sequence-requires : goal.obey_sequence-requires
 obey_sequence-requires c =
-    (c.requires.0, (c.requires.1.0, rw c.in-Sequence.is at c.requires.1.1.legal))
+    (c.requires.ready, (c.requires.marks_len, rw c.in-Sequence.is at c.requires.offered.legal))
 
 pub returns-in-Printed : goal.returns-in-Printed
 returns-in-Printed c =

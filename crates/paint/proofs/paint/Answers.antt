@@ -6,14 +6,14 @@ use Rattle.paint.proofs.paint.Goals as goal
 
 pub view_of-panes-requires : goal.view_of-panes-requires
 view_of-panes-requires c =
-    (c.requires.0.0.sound, c.requires.0.1)
+    (c.requires.visible.0.sound, c.requires.visible.1)
 
 pub paint_keys-requires : goal.paint_keys-requires
 paint_keys-requires c =
-    (texts_size c.requires.0.0.sound, search rules)
+    (texts_size c.requires.visible.0.sound, search rules)
 
 pub returns : goal.returns
 returns c dots =
     let a = c.args in
-    whole-picture a.settings a.cells.now a.layer.now dots c.view_of-panes.result c.view_of-panes.ensures a.shown.now (texts_size c.requires.0.0.sound) (omega arith)
+    whole-picture a.settings a.cells.now a.layer.now dots c.view_of-panes.result c.view_of-panes.ensures a.shown.now (texts_size c.requires.visible.0.sound) (omega arith)
     c.paint_under.ensures c.paint_keys.ensures c.lay_over.ensures

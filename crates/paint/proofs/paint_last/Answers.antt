@@ -13,16 +13,16 @@ use Rattle.paint.proofs.paint_last.Goals as goal
 
 pub slice_bounds-copy_in-end : goal.slice_bounds-copy_in-end
 slice_bounds-copy_in-end c =
-    omega (arith, texts_size c.requires.0.0)
+    omega (arith, texts_size c.requires.sound.0)
 
 pub copy_in-requires : goal.copy_in-requires
 copy_in-requires c =
-    (search rules, omega (arith, texts_size c.requires.0.0))
+    (search rules, omega (arith, texts_size c.requires.sound.0))
 
 pub returns-then-settings-eq0 : goal.returns-then-settings-eq0
 returns-then-settings-eq0 c layer dots =
     let a = c.args in
-    let size = texts_size c.requires.0.0 in
+    let size = texts_size c.requires.sound.0 in
     row_8_keys a.settings a.cells.now layer dots a.shown.now c.if-settings-eq0.true size (c.copy_in.ensures ∙ ap (λ (ys : List ℕ). put 560 ys a.shown.now) (take_all 80 a.settings.texts (omega arith)))
 
 pub start-requires : goal.start-requires

@@ -5,4 +5,4 @@ use Rattle.reader.proofs.read_item.Goals as goal
 
 pub returns : goal.returns
 returns c =
-    reads_byte _ _ _ _ c.requires.0 c.if-first-eq27.false c.one_byte-item.ensures
+    reads_byte _ _ _ _ c.requires.at_in_bounds c.if-first-eq27.false c.one_byte-item.ensures

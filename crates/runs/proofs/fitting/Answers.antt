@@ -7,9 +7,9 @@ use Rattle.runs.proofs.fitting.Goals as goal
 pub returns-then-misses : goal.returns-then-misses
 returns-then-misses c =
     let h = c.requires in
-    record { some = omega arith; most = h.1; room = omega (arith, h.0.fits); seen = λ k. absurd (omega (arith, k)) }
+    record { some = omega arith; most = h.le_count; room = omega (arith, h.stands.fits); seen = λ k. absurd (omega (arith, k)) }
 
 pub returns-else-misses : goal.returns-else-misses
 returns-else-misses c =
     let h = c.requires in
-    record { some = omega (arith, h.1, c.lesser.ensures); most = omega (arith, c.lesser.ensures); room = omega (arith, h.0.fits, c.lesser.ensures, c.as_size.ensures); seen = λ k st e i. c.misses.ensures st e i ∙ c.if-misses.false }
+    record { some = omega (arith, h.le_count, c.lesser.ensures); most = omega (arith, c.lesser.ensures); room = omega (arith, h.stands.fits, c.lesser.ensures, c.as_size.ensures); seen = λ k st e i. c.misses.ensures st e i ∙ c.if-misses.false }

@@ -7,11 +7,11 @@ use Rattle.runs.proofs.print_chunk.Goals as goal
 
 pub copy_in-requires : goal.copy_in-requires
 copy_in-requires c =
-    (omega (arith, cell_room c.requires.0.stands), search rules)
+    (omega (arith, cell_room c.requires.ready.stands), search rules)
 
 pub returns : goal.returns
 returns c =
     let a = c.args in
     let h = c.requires in
     let u = c.uncover.ensures in
-    copied_acts a.message.now a.at a.count h.0 h.1.1.0 h.1.1.1.1 h.1.1.1.0 h.1.0 c.cell-from.ensures c.copy_in.ensures u.shows u.is c.put_at.ensures
+    copied_acts a.message.now a.at a.count h.ready h.le_count.0 h.le_count.1.1 h.le_count.1.0 h.reads c.cell-from.ensures c.copy_in.ensures u.shows u.is c.put_at.ensures

@@ -10,11 +10,11 @@ use Rattle.runs.proofs.print_line.Goals as goal
 
 pub overflow_sub-end : goal.overflow_sub-end
 overflow_sub-end c =
-    search (rules, c.requires.1.1)
+    search (rules, c.requires.at_lt_end)
 
 pub fitting-count-requires : goal.fitting-count-requires
 fitting-count-requires c =
-    (c.late_step-first.ensures.ready.stands, omega (arith, c.requires.1.1))
+    (c.late_step-first.ensures.ready.stands, omega (arith, c.requires.at_lt_end))
 
 pub cell-from-requires : goal.cell-from-requires
 cell-from-requires c =
@@ -24,7 +24,7 @@ pub copy_in-requires : goal.copy_in-requires
 copy_in-requires c =
     let n = c.fitting-count.ensures in
     let h = c.late_step-first.ensures.ready in
-    (omega (arith, c.cell-from.ensures, n.some, n.room, cell_room h.stands, h.cells_are), omega (arith, n.most, c.requires.1.1))
+    (omega (arith, c.cell-from.ensures, n.some, n.room, cell_room h.stands, h.cells_are), omega (arith, n.most, c.requires.at_lt_end))
 
 pub uncover-requires : goal.uncover-requires
 uncover-requires c =
@@ -46,7 +46,7 @@ pub right-right-requires : goal.right-right-requires
 right-right-requires c =
     let a = c.args in
     let w = c.late_step-first.ensures in
-    let laid = line_laid w a.message.now a.at a.end c.fitting-count.result c.fitting-count.ensures c.requires.1.1.1 c.cell-from.ensures c.copy_in.ensures c.uncover.ensures c.further-last.ensures in
+    let laid = line_laid w a.message.now a.at a.end c.fitting-count.result c.fitting-count.ensures c.requires.at_lt_end.1 c.cell-from.ensures c.copy_in.ensures c.uncover.ensures c.further-last.ensures in
     (laid.ready, w.marks_are)
 
 pub track-next-requires : goal.track-next-requires
@@ -55,25 +55,25 @@ track-next-requires c =
 
 pub overflow_add-result : goal.overflow_add-result
 overflow_add-result c =
-    omega (arith, c.requires.1.1, c.well_formed, c.fitting-count.ensures.most)
+    omega (arith, c.requires.at_lt_end, c.well_formed, c.fitting-count.ensures.most)
 
 pub shape_of-cells : goal.shape_of-cells
 shape_of-cells c =
-    search (rules, c.right-right.ensures.ready.cells_are, c.requires.0.cells_are)
+    search (rules, c.right-right.ensures.ready.cells_are, c.requires.ready.cells_are)
 
 pub shape_of-layer : goal.shape_of-layer
 shape_of-layer c =
-    let after = c.track-next.ensures c.args.cells.now c.requires.0.cells_are in
-    search (rules, after.ready.layer_are.size, c.requires.0.layer_are.size)
+    let after = c.track-next.ensures c.args.cells.now c.requires.ready.cells_are in
+    search (rules, after.ready.layer_are.size, c.requires.ready.layer_are.size)
 
 pub shape_of-marks : goal.shape_of-marks
 shape_of-marks c =
-    search (rules, c.right-right.ensures.marks_are, c.requires.1.0)
+    search (rules, c.right-right.ensures.marks_are, c.requires.marks_len)
 
 pub returns : goal.returns
 returns c =
     let a = c.args in
     let w = c.late_step-first.ensures in
     let n = c.fitting-count.result in
-    let laid = line_laid w a.message.now a.at a.end n c.fitting-count.ensures c.requires.1.1.1 c.cell-from.ensures c.copy_in.ensures c.uncover.ensures c.further-last.ensures in
-    part_line w a.message.now a.at a.end n c.fitting-count.ensures c.requires.1.1.1 refl laid c.right-right.ensures c.track-next.ensures
+    let laid = line_laid w a.message.now a.at a.end n c.fitting-count.ensures c.requires.at_lt_end.1 c.cell-from.ensures c.copy_in.ensures c.uncover.ensures c.further-last.ensures in
+    part_line w a.message.now a.at a.end n c.fitting-count.ensures c.requires.at_lt_end.1 refl laid c.right-right.ensures c.track-next.ensures

@@ -11,7 +11,7 @@ use Rattle.runs.proofs.print_part.Goals as goal
 
 pub overflow_sub-count : goal.overflow_sub-count
 overflow_sub-count c =
-    search (rules, c.requires.1.1)
+    search (rules, c.requires.at_lt_end)
 
 pub print_chunk-next-requires : goal.print_chunk-next-requires
 print_chunk-next-requires c =
@@ -19,7 +19,7 @@ print_chunk-next-requires c =
     let n = c.args.end - c.args.at in
     let k = or_false (ltb c.as_size.result n) c.misses.result c.if-as_size-count.false in
     let room = ltb-false c.as_size.result n k.0 in
-    (h.0, ((λ st e i. c.misses.ensures st e i ∙ k.1), (omega (arith, h.1.1), (omega (arith, room, c.as_size.ensures, h.0.stands.fits), omega (arith, h.1.1)))))
+    (h.ready, ((λ st e i. c.misses.ensures st e i ∙ k.1), (omega (arith, h.at_lt_end), (omega (arith, room, c.as_size.ensures, h.ready.stands.fits), omega (arith, h.at_lt_end)))))
 
 pub returns-then-as_size-count : goal.returns-then-as_size-count
 returns-then-as_size-count c =
@@ -28,4 +28,4 @@ returns-then-as_size-count c =
 pub returns-else-as_size-count : goal.returns-else-as_size-count
 returns-else-as_size-count c =
     let h = c.requires in
-    part_many h.1.0 h.1.1.0 refl c.print_chunk-next.ensures
+    part_many h.marks_len h.at_lt_end.0 refl c.print_chunk-next.ensures

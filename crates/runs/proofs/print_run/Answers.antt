@@ -7,7 +7,7 @@ use Rattle.runs.proofs.print_run.Goals as goal
 
 pub loop-i-init : goal.loop-i-init
 loop-i-init c =
-    (omega (arith, c.run_end-end.ensures.printing.some), along_none _ c.requires.0 c.requires.1.0)
+    (omega (arith, c.run_end-end.ensures.printing.some), along_none _ c.requires.ready c.requires.marks_len)
 
 pub print_part-part-requires : goal.print_part-part-requires
 print_part-part-requires c =

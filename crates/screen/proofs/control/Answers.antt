@@ -10,7 +10,7 @@ use Rattle.screen.proofs.control.Goals as goal
 pub track-requires : goal.track-requires
 unfolding control
 track-requires c =
-    let a = back_acts c.requires.0 c.before-in-8.ensures c.put_at-next.ensures in (a.ready.stands, a.ready.layer_are)
+    let a = back_acts c.requires.ready c.before-in-8.ensures c.put_at-next.ensures in (a.ready.stands, a.ready.layer_are)
 
 pub track-requires-in-10 : goal.track-requires-in-10
 unfolding control
@@ -20,12 +20,12 @@ track-requires-in-10 c =
 pub track-requires-in-13 : goal.track-requires-in-13
 unfolding control
 track-requires-in-13 c =
-    let a = column_acts c.requires.0 1 (omega arith) (omega arith) c.put_at-next-in-13.ensures in (a.ready.stands, a.ready.layer_are)
+    let a = column_acts c.requires.ready 1 (omega arith) (omega arith) c.put_at-next-in-13.ensures in (a.ready.stands, a.ready.layer_are)
 
 pub returns-in-8 : goal.returns-in-8
 unfolding control
 returns-in-8 c =
-    rw c.in-8.is (dots_aside (unmarked_acts c.requires.1 (then_above (back_acts c.requires.0 c.before-in-8.ensures c.put_at-next.ensures) c.track.ensures)))
+    rw c.in-8.is (dots_aside (unmarked_acts c.requires.marks_len (then_above (back_acts c.requires.ready c.before-in-8.ensures c.put_at-next.ensures) c.track.ensures)))
 
 pub returns-in-10 : goal.returns-in-10
 unfolding control
@@ -35,7 +35,7 @@ returns-in-10 c =
 pub returns-in-13 : goal.returns-in-13
 unfolding control
 returns-in-13 c =
-    rw c.in-13.is (dots_aside (unmarked_acts c.requires.1 (then_above (column_acts c.requires.0 1 (omega arith) (omega arith) c.put_at-next-in-13.ensures) c.track-in-13.ensures)))
+    rw c.in-13.is (dots_aside (unmarked_acts c.requires.marks_len (then_above (column_acts c.requires.ready 1 (omega arith) (omega arith) c.put_at-next-in-13.ensures) c.track-in-13.ensures)))
 
 pub returns-in-12 : goal.returns-in-12
 unfolding control
@@ -45,4 +45,4 @@ returns-in-12 c =
 pub returns-in_default : goal.returns-in_default
 unfolding control
 returns-in_default c =
-    let n = c.in_default.in_default-own.rest in dots_aside (unmarked_acts c.requires.1 (no_code c.args.code c.requires.0 n.0.0.0.1 n.0.0.1 n.0.1 n.1))
+    let n = c.in_default.in_default-own.rest in dots_aside (unmarked_acts c.requires.marks_len (no_code c.args.code c.requires.ready n.0.0.0.1 n.0.0.1 n.0.1 n.1))

@@ -5,4 +5,4 @@ use Rattle.screen.proofs.print_here.Goals as goal
 
 pub returns : goal.returns
 returns c =
-    then_above_with (then_with (unmarked_acts c.requires.1 c.store.ensures) c.right-next.ensures) c.track.ensures
+    then_above_with (then_with (unmarked_acts c.requires.marks_len c.store.ensures) c.right-next.ensures) c.track.ensures

@@ -8,8 +8,8 @@ use Rattle.screen.proofs.put.Goals as goal
 
 pub track_far-requires : goal.track_far-requires
 track_far-requires c =
-    (put_stands c.requires.0 (omega arith) (omega arith) (omega arith) (omega arith) c.put_at-next.ensures, search rules)
+    (put_stands c.requires.stands (omega arith) (omega arith) (omega arith) (omega arith) c.put_at-next.ensures, search rules)
 
 pub returns : goal.returns
 returns c cells m =
-    then_above (put_acts (record { stands = c.requires.0; cells_are = m; layer_are = c.requires.1.0 }) _ _ (omega arith) (omega arith) (omega arith) (omega arith) c.put_at-next.ensures) c.track_far.ensures
+    then_above (put_acts (record { stands = c.requires.stands; cells_are = m; layer_are = c.requires.layer_of }) _ _ (omega arith) (omega arith) (omega arith) (omega arith) c.put_at-next.ensures) c.track_far.ensures

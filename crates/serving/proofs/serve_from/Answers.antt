@@ -15,15 +15,15 @@ use Rattle.serving.proofs.serve_from.Goals as goal
 
 pub selected_place-place-requires : goal.selected_place-place-requires
 selected_place-place-requires c =
-    chosen _ c.requires.0.good.sound
+    chosen _ c.requires.servable.good.sound
 
 pub frame_of-frame-requires : goal.frame_of-frame-requires
 frame_of-frame-requires c =
-    c.requires.0.good.sound
+    c.requires.servable.good.sound
 
 pub loop-at-init : goal.loop-at-init
 loop-at-init c =
-    begin _ _ _ _ _ _ _ _ c.requires.0 c.frame_of-frame.ensures c.all_zero.ensures.0 c.selected_place-place.ensures c.requires.1
+    begin _ _ _ _ _ _ _ _ c.requires.servable c.frame_of-frame.ensures c.all_zero.ensures.0 c.selected_place-place.ensures c.requires.from_in_bounds
 
 pub overflow_sub-printer : goal.overflow_sub-printer
 overflow_sub-printer c =
@@ -98,7 +98,7 @@ answer_of-answer-requires c =
 pub finish-requires : goal.finish-requires
 finish-requires c =
     let g = c.loop-at.invariant.going.good in
-    (record { sound = g.sound; cells_are = g.cells_are; layer_are = g.layer_are }, (c.loop-at.invariant.ready.layer_are.empty, c.requires.0.shown_are))
+    (record { sound = g.sound; cells_are = g.cells_are; layer_are = g.layer_are }, (c.loop-at.invariant.ready.layer_are.empty, c.requires.servable.shown_are))
 
 pub shape_of-cells : goal.shape_of-cells
 shape_of-cells c = let head =

@@ -5,4 +5,4 @@ use Rattle.short_obeying.proofs.obey.Goals as goal
 
 pub returns : goal.returns
 returns c =
-    (c.obey_item-run.ensures, λ secret shown n. sees_other c.obey_item-run.ensures c.requires.1.1.1 c.stirs-wide.ensures secret shown n)
+    (c.obey_item-run.ensures, λ secret shown n. sees_other c.obey_item-run.ensures c.requires.offered.1 c.stirs-wide.ensures secret shown n)

@@ -29,7 +29,7 @@ plain c =
 
 pub print_run-requires : goal.print_run-requires
 print_run-requires c =
-    (c.requires.0, (c.requires.1.0, c.requires.1.1.prints (rw c.in-Printed.is)))
+    (c.requires.ready, (c.requires.marks_len, c.requires.offered.prints (rw c.in-Printed.is)))
 
 pub returns-in-Printed : goal.returns-in-Printed
 returns-in-Printed c =
@@ -51,9 +51,9 @@ pub obey-requires : goal.obey-requires
 obey-requires c =
     let a = c.args in
     let told = plain c in
-    (c.requires.0, (c.requires.1.0.0, (subst (λ (i : Item). Offered a.message.now a.at a.size i (limits_in a.frame)) (sym told.0) c.requires.1.1, subst (λ (i : Item). printing? i ≡ false) (sym told.0) told.1)))
+    (c.requires.ready, (c.requires.marks_len.0, (subst (λ (i : Item). Offered a.message.now a.at a.size i (limits_in a.frame)) (sym told.0) c.requires.offered, subst (λ (i : Item). printing? i ≡ false) (sym told.0) told.1)))
 
 pub returns : goal.returns
 returns c =
     let told = plain c in
-    other_arm told.0 told.1 c.requires.1.0.1 c.obey.ensures
+    other_arm told.0 told.1 c.requires.marks_len.1 c.obey.ensures

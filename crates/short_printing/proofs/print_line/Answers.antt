@@ -8,21 +8,21 @@ use Rattle.short_printing.proofs.print_line.Goals as goal
 
 pub copy_in-requires : goal.copy_in-requires
 copy_in-requires c =
-    (omega (arith, cell_room c.requires.0.stands), search rules)
+    (omega (arith, cell_room c.requires.ready.stands), search rules)
 
 pub overflow_cast-count : goal.overflow_cast-count
 overflow_cast-count c =
-    search (rules, c.requires.1.1.0, c.well_formed)
+    search (rules, c.requires.le_count, c.well_formed)
 
 pub overflow_add-place : goal.overflow_add-place
 overflow_add-place c =
-    search (rules, c.requires.1.1.0, c.well_formed)
+    search (rules, c.requires.le_count, c.well_formed)
 
 pub returns : goal.returns
 returns c =
     let a = c.args in
     let h = c.requires in
-    let room = h.1.1.0 in (
-      copied_acts a.message.now a.at a.count h.0 room.0 room.1.1 room.1.0 h.1.0 c.cell-from.ensures c.copy_in.ensures c.shown-spot.ensures c.empty_from.ensures c.put_at.ensures,
-      painted_line a.message.now a.at a.count h.0 room.0 room.1.1 room.1.0 h.1.0 c.shown-spot.ensures h.1.1.1 c.paint_bytes.ensures,
+    let room = h.le_count in (
+      copied_acts a.message.now a.at a.count h.ready room.0 room.1.1 room.1.0 h.reads c.cell-from.ensures c.copy_in.ensures c.shown-spot.ensures c.empty_from.ensures c.put_at.ensures,
+      painted_line a.message.now a.at a.count h.ready room.0 room.1.1 room.1.0 h.reads c.shown-spot.ensures h.shown_len c.paint_bytes.ensures,
     )

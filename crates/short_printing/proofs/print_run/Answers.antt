@@ -7,7 +7,7 @@ use Rattle.short_printing.proofs.print_run.Goals as goal
 
 pub loop-i-init : goal.loop-i-init
 loop-i-init c =
-    let h = c.requires in (omega (arith, c.run_end-end.ensures.printing.some), seen_none _ h.0 h.1.0.0 h.1.0.1)
+    let h = c.requires in (omega (arith, c.run_end-end.ensures.printing.some), seen_none _ h.ready h.marks_len.0 h.marks_len.1)
 
 pub print_part-part-requires : goal.print_part-part-requires
 print_part-part-requires c =

@@ -6,4 +6,4 @@ use Rattle.soundness.proofs.keys_in_range.Goals as goal
 
 pub returns : goal.returns
 returns c =
-    (stored c.args.kind c.args.t2 _ _ c.charset-known.ensures c.shift-shifted.ensures, (search (unmapped, c.well_formed), search (unmapped, c.well_formed)))
+    (stored c.args.kind c.args.keys _ _ c.charset-known.ensures c.shift-shifted.ensures, (search (unmapped, c.well_formed), search (unmapped, c.well_formed)))

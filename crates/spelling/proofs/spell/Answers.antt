@@ -173,4 +173,4 @@ returns-in-StringsOn c =
 pub returns-in_default : goal.returns-in_default
 unfolding bytes_of params_of
 returns-in_default c =
-    c.from_198.ensures.these (not-false _ (none_passes (λ n. not (leb 198 n)) (25 ∷ 26 ∷ 27 ∷ 28 ∷ 29 ∷ 30 ∷ 31 ∷ 32 ∷ 33 ∷ 34 ∷ 35 ∷ 36 ∷ 37 ∷ 38 ∷ 39 ∷ 40 ∷ 41 ∷ 42 ∷ 43 ∷ 44 ∷ 45 ∷ 46 ∷ []) c.args.sequence refl (opened c.in_default.in_default-own.keys26)))
+    c.from_198.ensures.these (not-false _ (none_passes (λ n. not (leb 198 n)) (25 ∷ 26 ∷ 27 ∷ 28 ∷ 29 ∷ 30 ∷ 31 ∷ 32 ∷ 33 ∷ 34 ∷ 35 ∷ 36 ∷ 37 ∷ 38 ∷ 39 ∷ 40 ∷ 41 ∷ 42 ∷ 43 ∷ 44 ∷ 45 ∷ 46 ∷ []) c.args.sequence refl c.in_default.in_default-own.keys26))

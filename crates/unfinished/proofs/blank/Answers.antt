@@ -10,6 +10,6 @@ use Rattle.unfinished.proofs.blank.Goals as goal
 
 pub returns : goal.returns
 returns c =
-    let w = c.args.t1 in
+    let w = c.args.waiting in
     let e : length w ≡ 12 = search (unmapped, c.well_formed) in
     (λ i. eqb (c.word-first.ensures i) 0 && eqb (c.word-second.ensures i) 0 && eqb (c.word-third.ensures i) 0) ∙ blank-by w e

@@ -25,5 +25,5 @@ loop-i-preserved c =
 
 pub returns : goal.returns
 returns c =
-    let w = c.args.t1 in
+    let w = c.args.waiting in
     c.loop-i.invariant.1 ∙ ap (λ (l : _). zeros? (drop c.args.held l)) (take_all c.loop-i.i w (search rules))

@@ -9,6 +9,6 @@ use Rattle.unfinished.proofs.sound.Goals as goal
 
 pub returns : goal.returns
 returns c =
-    let w = c.args.t1 in
+    let w = c.args.waiting in
     let e : length w ≡ 12 = search (unmapped, c.well_formed) in
     (λ i. c.begun-begun.ensures i && c.counted-counted.ensures i && c.clean-clean.ensures i) ∙ line_by w c.args.held c.args.count e

@@ -53,22 +53,22 @@ use Rattle.values.proofs.set.Goals as goal
 pub enum_told-in-InsOn : goal.enum_told-in-InsOn
 unfolding settled on_screen? member obeyed flagged with_settings with_keys with_kind_patterns array_ranges
 enum_told-in-InsOn c =
-    omega (arith, ranged _ c.requires.1.0 c.q-in-Tracking-1.given.1 (awake_as _ c.q-in-Tracking-1.given.1 c.requires.1.1))
+    omega (arith, ranged _ c.requires.settings_value.0 c.q-in-Tracking-1.given.1 (awake_as _ c.q-in-Tracking-1.given.1 c.requires.settings_value.1))
 
 pub delay-requires : goal.delay-requires
 unfolding settled on_screen? member obeyed flagged with_settings with_keys with_kind_patterns array_ranges
 delay-requires c =
-    omega (arith, c.requires.0.arrays)
+    omega (arith, c.requires.sound.arrays)
 
 pub interval-requires : goal.interval-requires
 unfolding settled on_screen? member obeyed flagged with_settings with_keys with_kind_patterns array_ranges
 interval-requires c =
-    omega (arith, c.requires.0.arrays)
+    omega (arith, c.requires.sound.arrays)
 
 pub arrows-requires : goal.arrows-requires
 unfolding settled on_screen? member obeyed flagged with_settings with_keys with_kind_patterns array_ranges
 arrows-requires c =
-    omega (arith, c.requires.0.arrays)
+    omega (arith, c.requires.sound.arrays)
 
 pub returns-in-CursorOff : goal.returns-in-CursorOff
 unfolding settled on_screen? member obeyed flagged with_settings with_keys with_kind_patterns array_ranges

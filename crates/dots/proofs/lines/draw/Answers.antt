@@ -13,15 +13,15 @@ use Rattle.dots.proofs.lines.draw.Goals as goal
 
 pub loop-at-init : goal.loop-at-init
 loop-at-init c =
-    (omega arith, (search rules, (carried_start c.requires.0.0 c.requires.0.1.0 c.requires.0.1.1, λ l e. e)))
+    (omega arith, (search rules, (carried_start c.requires.measured.0 c.requires.measured.1.0 c.requires.measured.1.1, λ l e. e)))
 
 pub next-at-requires : goal.next-at-requires
 next-at-requires c =
-    (c.requires.0, (c.loop-at.invariant.1.1.0, omega (arith, c.loop-at-test.true)))
+    (c.requires.measured, (c.loop-at.invariant.1.1.0, omega (arith, c.loop-at-test.true)))
 
 pub step-requires-in-loop-at : goal.step-requires-in-loop-at
 step-requires-in-loop-at c =
-    let byte = carried_byte c.requires.0.0 c.next-at.ensures.1 c.requires.0.1.0 c.requires.0.1.1 (omega (arith, c.next-at.ensures.0, c.loop-at-test.true)) in
+    let byte = carried_byte c.requires.measured.0 c.next-at.ensures.1 c.requires.measured.1.0 c.requires.measured.1.1 (omega (arith, c.next-at.ensures.0, c.loop-at-test.true)) in
     (byte, search rules)
 
 pub loop-at-smaller : goal.loop-at-smaller
@@ -38,7 +38,7 @@ loop-at-preserved c =
         search rules,
         (
           here.1,
-          λ l e. drawn_more a.function a.mask a.from a.to l c.next-at.result.k (rw here.0 (c.loop-at.invariant.1.1.1 l e)) (carried_dot c.requires.0.0 here.1 few) c.step-in-loop-at.ensures,
+          λ l e. drawn_more a.function a.mask a.from a.to l c.next-at.result.k (rw here.0 (c.loop-at.invariant.1.1.1 l e)) (carried_dot c.requires.measured.0 here.1 few) c.step-in-loop-at.ensures,
         ),
       ),
     )
@@ -46,8 +46,8 @@ loop-at-preserved c =
 pub returns : goal.returns
 returns c =
     let a = c.args in
-    let m = c.requires.0.0 in
-    let start = carried_dot m (carried_start m c.requires.0.1.0 c.requires.0.1.1) (omega arith) in
+    let m = c.requires.measured.0 in
+    let start = carried_dot m (carried_start m c.requires.measured.1.0 c.requires.measured.1.1) (omega arith) in
     let first = drawn_more a.function a.mask a.from a.to a.dots.now 0 (drawn_none _ _ _ _ _) start c.step.ensures in
     let end : c.loop-at.at.k ≡ a.n = omega (arith, c.loop-at.invariant.0, c.loop-at-test.false) in
     c.loop-at.invariant.1.1.1 a.dots.now first ∙ drawn_all a.function a.mask a.from a.to a.dots.now c.loop-at.at.k (end ∙ m.long)

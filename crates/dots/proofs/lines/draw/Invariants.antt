@@ -12,7 +12,7 @@ use Rattle.dots.proofs.Walking.{carried_byte, carried_dot, carried_start}
 use Rattle.dots.proofs.lines.draw.Given as goal
 
 abbrev pub invariant-loop-at : goal.invariant-loop-at
-invariant-loop-at l = (l.at.k ≤ l.n) × ((length l.dots ≡ 3840) × ((Carried l.from l.to l.flat l.n l.d l.at.k l.at.row l.at.h l.at.rest) × ((l : List ℕ) → l.initial.dots ≡ drawn l.function l.mask l.from l.to l 1 → l.dots ≡ drawn l.function l.mask l.from l.to l (l.at.k + 1))))
+invariant-loop-at l = (l.at.k ≤ l.n) × ((length l.dots ≡ 3840) × ((Carried l.from l.to l.flat l.n l.d l.at.k l.at.row l.at.h l.at.rest) × ((ys : List ℕ) → l.initial.dots ≡ drawn l.function l.mask l.from l.to ys 1 → l.dots ≡ drawn l.function l.mask l.from l.to ys (l.at.k + 1))))
 
 abbrev pub decreases-loop-at : goal.decreases-loop-at
 decreases-loop-at l = l.n - l.at.k

@@ -5,4 +5,4 @@ use Rattle.ground.proofs.lines.blank_from.Goals as goal
 
 pub returns : goal.returns
 returns c =
-    blank_acts (search rules) c.empty.ensures _ c.requires.1 c.cell-from.ensures c.blank.ensures
+    blank_acts (search rules) c.empty.ensures _ c.requires.count_bound c.cell-from.ensures c.blank.ensures

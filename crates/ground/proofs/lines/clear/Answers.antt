@@ -10,4 +10,4 @@ unmark-requires c =
 
 pub returns : goal.returns
 returns c =
-    cleared_acts c.requires.0 c.empty.ensures c.times.ensures.0 c.blank.ensures c.requires.1 c.unmark.ensures c.home_place.ensures
+    cleared_acts c.requires.ready c.empty.ensures c.times.ensures.0 c.blank.ensures c.requires.marks_len c.unmark.ensures c.home_place.ensures

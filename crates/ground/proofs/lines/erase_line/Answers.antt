@@ -11,8 +11,8 @@ end_of-to-requires c =
 
 pub erase_through-requires : goal.erase_through-requires
 erase_through-requires c =
-    let fits = c.requires.0.stands.fits in let e = c.end_of-to.ensures in
-    (c.requires.0, (c.requires.1, (rw e (end_low _ _ _ fits.line_low fits.line_high), rw e (end_high _ _ _ fits.line_low fits.line_high))))
+    let fits = c.requires.ready.stands.fits in let e = c.end_of-to.ensures in
+    (c.requires.ready, (c.requires.marks_len, (rw e (end_low _ _ _ fits.line_low fits.line_high), rw e (end_high _ _ _ fits.line_low fits.line_high))))
 
 pub returns : goal.returns
 returns c =

@@ -7,7 +7,7 @@ use Rattle.ground.proofs.lines.erase_through.Goals as goal
 
 pub blank_from-requires : goal.blank_from-requires
 blank_from-requires c =
-    (c.requires.0, omega (arith, through_room c.requires.0.stands c.args.to c.requires.1.1.1))
+    (c.requires.ready, omega (arith, through_room c.requires.ready.stands c.args.to c.requires.line_le_to.1))
 
 pub unmark-requires : goal.unmark-requires
 unmark-requires c =
@@ -15,4 +15,4 @@ unmark-requires c =
 
 pub returns : goal.returns
 returns c =
-    erased_acts c.requires.1.0 c.args.to (omega (arith, c.times-below.ensures.0, c.as_size.ensures, c.as_size-2.ensures)) c.blank_from.ensures c.unmark.ensures
+    erased_acts c.requires.marks_len c.args.to (omega (arith, c.times-below.ensures.0, c.as_size.ensures, c.as_size-2.ensures)) c.blank_from.ensures c.unmark.ensures

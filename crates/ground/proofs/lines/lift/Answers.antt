@@ -14,4 +14,4 @@ scroll-requires c =
 
 pub returns : goal.returns
 returns c =
-    lifted_acts c.requires.1 c.scroll.ensures c.carry.ensures
+    lifted_acts c.requires.marks_len c.scroll.ensures c.carry.ensures

@@ -9,18 +9,18 @@ use Rattle.ground.proofs.lines.scroll.Goals as goal
 
 pub scroll_down-requires : goal.scroll_down-requires
 scroll_down-requires c =
-    omega (arith, lines_room c.requires.0.stands _ _ c.requires.1.0 c.requires.1.1)
+    omega (arith, lines_room c.requires.ready.stands _ _ c.requires.le_count.0 c.requires.le_count.1)
 
 pub scroll_up-requires : goal.scroll_up-requires
 scroll_up-requires c =
-    omega (arith, lines_room c.requires.0.stands _ _ c.requires.1.0 c.requires.1.1)
+    omega (arith, lines_room c.requires.ready.stands _ _ c.requires.le_count.0 c.requires.le_count.1)
 
 pub returns-then-down : goal.returns-then-down
 returns-then-down c =
     rw c.if-down.true
-    (lines_move (search rules) c.empty.ensures _ _ scrolled_down length_down c.requires.1.1 c.times.ensures.0 c.times-size.ensures.0 c.as_size-width.ensures c.scroll_down.ensures)
+    (lines_move (search rules) c.empty.ensures _ _ scrolled_down length_down c.requires.le_count.1 c.times.ensures.0 c.times-size.ensures.0 c.as_size-width.ensures c.scroll_down.ensures)
 
 pub returns-else-down : goal.returns-else-down
 returns-else-down c =
     rw c.if-down.false
-    (lines_move (search rules) c.empty.ensures _ _ scrolled_up length_up c.requires.1.1 c.times.ensures.0 c.times-size.ensures.0 c.as_size-width.ensures c.scroll_up.ensures)
+    (lines_move (search rules) c.empty.ensures _ _ scrolled_up length_up c.requires.le_count.1 c.times.ensures.0 c.times-size.ensures.0 c.as_size-width.ensures c.scroll_up.ensures)

@@ -18,4 +18,4 @@ unmark_ends-requires c =
 pub returns : goal.returns
 returns c =
     let a = c.args in
-    shifted_acts c.requires.1.0 c.requires.0.stands.screen_low a.from a.count (cond a.down scrolled_down scrolled_up) (carried a.down a.from a.count) c.scroll.ensures c.carry.ensures c.unmark_ends.ensures
+    shifted_acts c.requires.marks_len c.requires.ready.stands.screen_low a.from a.count (cond a.down scrolled_down scrolled_up) (carried a.down a.from a.count) c.scroll.ensures c.carry.ensures c.unmark_ends.ensures

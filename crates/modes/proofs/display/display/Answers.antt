@@ -14,12 +14,12 @@ returns-then-on-settings c cells dots =
 
 pub hold-first-requires : goal.hold-first-requires
 hold-first-requires c =
-    let f = fits c.args.t1 c.args.on (c.height_of-height.ensures _ refl refl) c.requires.0 c.requires.1.0 in
+    let f = fits c.args.settings c.args.on (c.height_of-height.ensures _ refl refl) c.requires.0 c.requires.1.0 in
     (f.0, f.1)
 
 pub hold-second-requires : goal.hold-second-requires
 hold-second-requires c =
-    let f = fits c.args.t1 c.args.on (c.height_of-height.ensures _ refl refl) c.requires.0 c.requires.1.0 in
+    let f = fits c.args.settings c.args.on (c.height_of-height.ensures _ refl refl) c.requires.0 c.requires.1.0 in
     (f.0, f.2)
 
 pub returns : goal.returns

@@ -11,4 +11,4 @@ use Rattle.spelling.proofs.counted.pattern.Goals as goal
 pub returns : goal.returns
 unfolding front
 returns c =
-    record { front_is = ap (λ (l : List ℕ). 27 ∷ 224 ∷ c.args.code ∷ l) (eight c.args.t2 (search rules)); usable = record { some = omega arith; most = omega arith; size = refl } }
+    record { front_is = ap (λ (l : List ℕ). 27 ∷ 224 ∷ c.args.code ∷ l) (eight c.args.rows (search rules)); usable = record { some = omega arith; most = omega arith; size = refl } }

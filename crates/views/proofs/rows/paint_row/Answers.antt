@@ -6,14 +6,14 @@ use Rattle.views.proofs.rows.paint_row.Goals as goal
 
 pub start-requires : goal.start-requires
 start-requires c =
-    row_inside c.args.view.left c.args.row c.args.view.rows (omega arith) c.requires.0.0.left_inside
+    row_inside c.args.view.left c.args.row c.args.view.rows (omega arith) c.requires.framed.0.left_inside
 
 pub start-requires-2 : goal.start-requires-2
 start-requires-2 c =
-    row_inside c.args.view.right c.args.row c.args.view.rows (omega arith) c.requires.0.0.right_inside
+    row_inside c.args.view.right c.args.row c.args.view.rows (omega arith) c.requires.framed.0.right_inside
 
 pub returns : goal.returns
 returns c =
     let a = c.args in
-    row_made a.view c.requires.0.0 a.cells.now (omega arith) a.row a.shown.now c.start.ensures c.start-2.ensures
+    row_made a.view c.requires.framed.0 a.cells.now (omega arith) a.row a.shown.now c.start.ensures c.start-2.ensures
     (omega arith) (omega arith) c.copy_in.ensures c.fill.ensures c.copy_in-2.ensures

@@ -21,15 +21,15 @@ loop-row-init c =
 
 pub paint_row-requires : goal.paint_row-requires
 paint_row-requires c =
-    ((subst (λ (v : View). Framed v) (sym (made-anew c.args.panes c.requires.1.0)) c.requires.0, omega arith), search rules)
+    ((subst (λ (v : View). Framed v) (sym (made-anew c.args.panes c.requires.one_value)) c.requires.framed, omega arith), search rules)
 
 pub loop-row-preserved : goal.loop-row-preserved
 loop-row-preserved c =
-    let few = c.requires.0.rows_high in
+    let few = c.requires.framed.rows_high in
     (omega arith, (search rules, painted_next 0 _ _ (c.loop-row.row * 80) 80 ((c.loop-row.row + 1) * 80) c.loop-row.invariant.1.1 c.paint_row.ensures (omega arith) (omega arith) (omega arith)))
 
 pub returns : goal.returns
 returns c =
     let loop = c.loop-row in
     let n : loop.row * 80 ≡ c.args.panes.rows * 80 = omega arith in
-    loop.invariant.1.1 ∙ (λ i. painted 0 (n i) (seen (made-anew c.args.panes c.requires.1.0 i) c.args.cells.now) c.args.shown.now)
+    loop.invariant.1.1 ∙ (λ i. painted 0 (n i) (seen (made-anew c.args.panes c.requires.one_value i) c.args.cells.now) c.args.shown.now)

@@ -12,25 +12,25 @@ fits at rows width e h = rw e at h
 
 pub overflow_mul-panes : goal.overflow_mul-panes
 overflow_mul-panes c =
-    omega (arith, c.requires.0.rows_high)
+    omega (arith, c.requires.framed.rows_high)
 
 pub copy_many-requires : goal.copy_many-requires
 copy_many-requires c =
     let v = c.args.panes in
-    let framed = c.requires.0 in
+    let framed = c.requires.framed in
     omega (arith, framed.rows_high, fits v.left.at v.rows v.left.width (omega arith) framed.left_inside)
 
 pub returns-then-left-eq-ROW : goal.returns-then-left-eq-ROW
 returns-then-left-eq-ROW c =
     let a = c.args in
-    whole_made a.panes c.requires.0 a.cells.now a.shown.now (omega arith) (omega arith) c.copy_many.ensures
+    whole_made a.panes c.requires.framed a.cells.now a.shown.now (omega arith) (omega arith) c.copy_many.ensures
 
 pub paint_rows-requires : goal.paint_rows-requires
 paint_rows-requires c =
-    let h = c.requires.0.halves c.if-panes-eq2.true in
+    let h = c.requires.framed.halves c.if-panes-eq2.true in
     search rules
 
 pub paint_rows-requires-2 : goal.paint_rows-requires-2
 paint_rows-requires-2 c =
-    let h = c.requires.0.single c.if-left-eq-ROW.false c.if-panes-eq2.false in
+    let h = c.requires.framed.single c.if-left-eq-ROW.false c.if-panes-eq2.false in
     search rules
