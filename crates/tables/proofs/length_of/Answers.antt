@@ -111,7 +111,7 @@ returns-in-61-2 c =
 pub returns-in-42 : goal.returns-in-42
 unfolding find mode_row_of
 returns-in-42 c =
-    by_key _ (42 ∷ 80 ∷ 84 ∷ 89 ∷ 123 ∷ 125 ∷ 215 ∷ 246 ∷ []) _ _ refl (opened c.in-42.in-42-own.keys1)
+    by_key _ (42 ∷ 80 ∷ 84 ∷ 89 ∷ 123 ∷ 125 ∷ 215 ∷ 246 ∷ []) _ _ refl c.in-42.in-42-own.keys1
 
 pub returns-in-42-2 : goal.returns-in-42-2
 unfolding find mode_row_of

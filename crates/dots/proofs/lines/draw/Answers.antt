@@ -17,7 +17,7 @@ loop-at-init c =
 
 pub next-at-requires : goal.next-at-requires
 next-at-requires c =
-    (c.requires.measured, (c.loop-at.invariant.1.1.0, omega (arith, c.loop-at-test.true)))
+    record { measured = c.requires.measured; carried = (c.loop-at.invariant.1.1.0, omega (arith, c.loop-at-test.true)) }
 
 pub step-requires-in-loop-at : goal.step-requires-in-loop-at
 step-requires-in-loop-at c =
