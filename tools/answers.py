@@ -38,6 +38,8 @@ def arguments(text):
     while at < len(text):
         if text[at].isspace():
             at += 1
+        elif text.startswith("-- ", at):
+            at = text.index("\n", at)
         elif text[at] == ")":
             break
         elif text[at] == "(":

@@ -7,7 +7,7 @@ use Rattle.cursor.proofs.onward.Goals as goal
 
 pub down-next-requires : goal.down-next-requires
 down-next-requires c =
-    ((column_acts c.requires.ready 1 (omega arith) (omega arith) c.put_at-first.ensures).ready, c.requires.marks_len)
+    record { ready = (column_acts c.requires.ready 1 (omega arith) (omega arith) c.put_at-first.ensures).ready; marks_len = c.requires.marks_len }
 
 pub overflow_sub-next : goal.overflow_sub-next
 overflow_sub-next c =
@@ -15,7 +15,7 @@ overflow_sub-next c =
 
 pub run_on-requires : goal.run_on-requires
 run_on-requires c =
-    let done = c.down-next.ensures in ((omega (arith, done.1), omega (arith, done.0.ready.stands)), (done.0.ready.stands.screen_low, done.0.marks_are))
+    let done = c.down-next.ensures in record { le_line = (omega (arith, done.1), omega (arith, done.0.ready.stands)); screen_bound = (done.0.ready.stands.screen_low, done.0.marks_are) }
 
 pub returns : goal.returns
 returns c =

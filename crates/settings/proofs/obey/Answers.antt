@@ -20,76 +20,40 @@ use Rattle.modes.proofs.Parts.{stands}
 use borrow.Enum.Refused.{opened}
 use Rattle.settings.proofs.obey.Goals as goal
 
--- left: argument 0 is --
-
--- left: argument 1 is an
-
--- left: argument 2 is arm
-
--- left: argument 3 is a
-
--- left: argument 4 is line:
-
--- left: argument 5 is which
-
--- left: argument 6 is sequence
-
--- left: argument 7 is it
-
--- left: argument 8 is has,
-
--- left: argument 9 is and
-
--- left: argument 10 is what
-
--- left: argument 11 is its
-
--- left: argument 12 is call
-
--- left: argument 13 is asks
-
--- left: argument 33 is --
-
--- left: argument 34 is what
-
--- left: argument 35 is then
-
--- left: argument 36 is stands
-
-pub enum_known-q-in-Cover-1 : goal.enum_known-q-in-Cover-1
+pub mode2-requires : goal.mode2-requires
 unfolding settled on_screen? member obeyed flagged with_dots with_settings emptied with_layer mode_set
-enum_known-q-in-Cover-1 c =
-    let p = c.requires in (p.sized, omega (arith, ranged _ p.legal c.q-in-Mode2-1.given.1 (awake_as _ c.q-in-Mode2-1.given.1 p.awake)))
+mode2-requires c =
+    let p = c.requires in (p.sized, omega (arith, ranged _ p.legal c.in-Mode2.is (awake_as _ c.in-Mode2.is p.awake)))
+
+pub stroke-requires : goal.stroke-requires
+unfolding settled on_screen? member obeyed flagged with_dots with_settings emptied with_layer mode_set
+stroke-requires c =
+    let p = c.requires in (drawable c.in-DrawLine.is _ p.legal p.awake, p.sized.dots_are)
+
+pub dot-requires : goal.dot-requires
+unfolding settled on_screen? member obeyed flagged with_dots with_settings emptied with_layer mode_set
+dot-requires c =
+    let p = c.requires in let r = ranged _ p.legal c.in-DrawDot.is (awake_as _ c.in-DrawDot.is p.awake) in (record { number = omega (arith, r); vertical = omega (arith, r); horizontal = omega (arith, r) }, p.sized.dots_are)
 
 pub cover-requires : goal.cover-requires
 unfolding settled on_screen? member obeyed flagged with_dots with_settings emptied with_layer mode_set
 cover-requires c =
-    let p = c.requires in (drawable c.enum_told-in-DrawLine-1.given.1 _ p.legal p.awake, p.sized.dots_are)
-
-pub enum_known-q-in-Display-1 : goal.enum_known-q-in-Display-1
-unfolding settled on_screen? member obeyed flagged with_dots with_settings emptied with_layer mode_set
-enum_known-q-in-Display-1 c =
-    let p = c.requires in let r = ranged _ p.legal c.q-in-DrawDot-1.given.1 (awake_as _ c.q-in-DrawDot-1.given.1 p.awake) in (record { number = omega (arith, r); vertical = omega (arith, r); horizontal = omega (arith, r) }, p.sized.dots_are)
+    let p = c.requires in omega (arith, ranged _ p.legal c.in-Cover.is (awake_as _ c.in-Cover.is p.awake), p.sized)
 
 pub display-requires : goal.display-requires
 unfolding settled on_screen? member obeyed flagged with_dots with_settings emptied with_layer mode_set
 display-requires c =
-    let p = c.requires in omega (arith, ranged _ p.legal c.q-in-Cover-1.given.1 (awake_as _ c.q-in-Cover-1.given.1 p.awake), p.sized)
+    let p = c.requires in (p.sound, (two_screens _ (awake_as _ c.in-Display.is p.awake), p.sized.layer_are))
 
 pub set-requires : goal.set-requires
 unfolding settled on_screen? member obeyed flagged with_dots with_settings emptied with_layer mode_set
 set-requires c =
-    let p = c.requires in (p.sound, (two_screens _ (awake_as _ c.q-in-Display-1.given.1 p.awake), p.sized.layer_are))
+    let p = c.requires in record { sound = p.sound; settings_value = (p.legal, p.awake) }
 
-pub shape_of-cells-in-Mode0 : goal.shape_of-cells-in-Mode0
+pub returns-in-Mode0 : goal.returns-in-Mode0
 unfolding settled on_screen? member obeyed flagged with_dots with_settings emptied with_layer mode_set
-shape_of-cells-in-Mode0 c =
-    let p = c.requires in (p.sound, (p.legal, p.awake))
-
-pub shape_of-layer-in-Mode1 : goal.shape_of-layer-in-Mode1
-unfolding settled on_screen? member obeyed flagged with_dots with_settings emptied with_layer mode_set
-shape_of-layer-in-Mode1 c =
-    arm c.q-1.given.1 (λ m. c.mode0.ensures) (refl, refl) refl
+returns-in-Mode0 c =
+    arm c.in-Mode0.is (λ m. c.mode0.ensures) (refl, refl) refl
 
 pub returns-in-Mode1 : goal.returns-in-Mode1
 unfolding settled on_screen? member obeyed flagged with_dots with_settings emptied with_layer mode_set

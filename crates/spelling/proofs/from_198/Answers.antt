@@ -9,40 +9,6 @@ use Rattle.spelling.proofs.Parts.{at_least, behind, between, together}
 use borrow.Enum.Refused.{opened}
 use Rattle.spelling.proofs.from_198.Goals as goal
 
--- left: argument 0 is --
-
--- left: argument 1 is an
-
--- left: argument 2 is arm
-
--- left: argument 3 is a
-
--- left: argument 4 is line:
-
--- left: argument 5 is which
-
--- left: argument 6 is sequence
-
--- left: argument 7 is it
-
--- left: argument 8 is has,
-
--- left: argument 9 is and
-
--- left: argument 10 is what
-
--- left: argument 11 is its
-
--- left: argument 12 is call
-
--- left: argument 13 is asks
-
--- left: argument 31 is --
-
--- left: argument 32 is its
-
--- left: argument 33 is bytes
-
 pub returns-in-DrawLine : goal.returns-in-DrawLine
 unfolding bytes_of params_of
 returns-in-DrawLine c =

@@ -10,40 +10,6 @@ use Rattle.spelling.proofs.Parts.{at_least}
 use borrow.Enum.Refused.{opened}
 use Rattle.spelling.proofs.from_211.Goals as goal
 
--- left: argument 0 is --
-
--- left: argument 1 is an
-
--- left: argument 2 is arm
-
--- left: argument 3 is a
-
--- left: argument 4 is line:
-
--- left: argument 5 is which
-
--- left: argument 6 is sequence
-
--- left: argument 7 is it
-
--- left: argument 8 is has,
-
--- left: argument 9 is and
-
--- left: argument 10 is what
-
--- left: argument 11 is its
-
--- left: argument 12 is call
-
--- left: argument 13 is asks
-
--- left: argument 42 is --
-
--- left: argument 43 is its
-
--- left: argument 44 is bytes
-
 pub returns-in-Display : goal.returns-in-Display
 unfolding bytes_of params_of
 returns-in-Display c =

@@ -11,40 +11,6 @@ use Rattle.spelling.specs.Spelling.{bytes_of, params_of}
 use borrow.Enum.Refused.{opened}
 use Rattle.spelling.proofs.spell.Goals as goal
 
--- left: argument 0 is --
-
--- left: argument 1 is an
-
--- left: argument 2 is arm
-
--- left: argument 3 is a
-
--- left: argument 4 is line:
-
--- left: argument 5 is which
-
--- left: argument 6 is sequence
-
--- left: argument 7 is it
-
--- left: argument 8 is has,
-
--- left: argument 9 is and
-
--- left: argument 10 is what
-
--- left: argument 11 is its
-
--- left: argument 12 is call
-
--- left: argument 13 is asks
-
--- left: argument 65 is --
-
--- left: argument 66 is its
-
--- left: argument 67 is bytes
-
 pub returns-in-PrintCode : goal.returns-in-PrintCode
 unfolding bytes_of params_of
 returns-in-PrintCode c =

@@ -21,7 +21,7 @@ pub loop-i-preserved : goal.loop-i-preserved
 loop-i-preserved c =
     let a = c.args in
     let l = c.loop-i in
-    (omega arith, ap (λ (t : Bool). t && (ltb l.i a.held || eqb (get_or a.t1 l.i 0) 0)) l.invariant.1 ∙ sym (ap (λ (k : ℕ). zeros? (drop a.held (take k a.t1))) (add-one l.i) ∙ zeros_step a.t1 l.i a.held (search rules)))
+    (omega arith, ap (λ (t : Bool). t && (ltb l.i a.held || eqb (get_or a.waiting l.i 0) 0)) l.invariant.1 ∙ sym (ap (λ (k : ℕ). zeros? (drop a.held (take k a.waiting))) (add-one l.i) ∙ zeros_step a.waiting l.i a.held (search rules)))
 
 pub returns : goal.returns
 returns c =

@@ -9,4 +9,4 @@ use Rattle.unfinished.proofs.join.Goals as goal
 pub returns : goal.returns
 returns c =
     let a = c.args in
-    joins (replicate 64 0) a.t1 a.piece.now a.held a.count (length-replicate {A = ℕ} 64 0) c.requires.0 (search rules) c.requires.1.0 c.requires.1.1 _ _ c.copy_in.ensures c.copy_in-2.ensures
+    joins (replicate 64 0) a.waiting a.piece.now a.held a.count (length-replicate {A = ℕ} 64 0) c.requires.0 (search rules) c.requires.1.0 c.requires.1.1 _ _ c.copy_in.ensures c.copy_in-2.ensures

@@ -14,60 +14,24 @@ use Rattle.values.proofs.Idle.{awake_as, idle}
 use borrow.Enum.Refused.{opened}
 use Rattle.values.proofs.set.Goals as goal
 
--- left: argument 0 is --
-
--- left: argument 1 is an
-
--- left: argument 2 is arm
-
--- left: argument 3 is a
-
--- left: argument 4 is line:
-
--- left: argument 5 is which
-
--- left: argument 6 is sequence
-
--- left: argument 7 is it
-
--- left: argument 8 is has,
-
--- left: argument 9 is and
-
--- left: argument 10 is what
-
--- left: argument 11 is its
-
--- left: argument 12 is call
-
--- left: argument 13 is asks
-
--- left: argument 60 is --
-
--- left: argument 61 is what
-
--- left: argument 62 is then
-
--- left: argument 63 is stands
-
-pub enum_told-in-InsOn : goal.enum_told-in-InsOn
+pub tracking-requires : goal.tracking-requires
 unfolding settled on_screen? member obeyed flagged with_settings with_keys with_kind_patterns array_ranges
-enum_told-in-InsOn c =
-    omega (arith, ranged _ c.requires.settings_value.0 c.q-in-Tracking-1.given.1 (awake_as _ c.q-in-Tracking-1.given.1 c.requires.settings_value.1))
-
-pub delay-requires : goal.delay-requires
-unfolding settled on_screen? member obeyed flagged with_settings with_keys with_kind_patterns array_ranges
-delay-requires c =
-    omega (arith, c.requires.sound.arrays)
-
-pub interval-requires : goal.interval-requires
-unfolding settled on_screen? member obeyed flagged with_settings with_keys with_kind_patterns array_ranges
-interval-requires c =
-    omega (arith, c.requires.sound.arrays)
+tracking-requires c =
+    omega (arith, ranged _ c.requires.settings_value.0 c.in-Tracking.is (awake_as _ c.in-Tracking.is c.requires.settings_value.1))
 
 pub arrows-requires : goal.arrows-requires
 unfolding settled on_screen? member obeyed flagged with_settings with_keys with_kind_patterns array_ranges
 arrows-requires c =
+    omega (arith, c.requires.sound.arrays)
+
+pub arrows-requires-in-Arrows2 : goal.arrows-requires-in-Arrows2
+unfolding settled on_screen? member obeyed flagged with_settings with_keys with_kind_patterns array_ranges
+arrows-requires-in-Arrows2 c =
+    omega (arith, c.requires.sound.arrays)
+
+pub arrows-requires-in-Arrows3 : goal.arrows-requires-in-Arrows3
+unfolding settled on_screen? member obeyed flagged with_settings with_keys with_kind_patterns array_ranges
+arrows-requires-in-Arrows3 c =
     omega (arith, c.requires.sound.arrays)
 
 pub returns-in-CursorOff : goal.returns-in-CursorOff

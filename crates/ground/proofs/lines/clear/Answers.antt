@@ -6,7 +6,7 @@ use Rattle.ground.proofs.lines.clear.Goals as goal
 
 pub unmark-requires : goal.unmark-requires
 unmark-requires c =
-    ((omega arith, (omega arith, omega arith)), search rules)
+    record { le_from = (omega arith, (omega arith, omega arith)); screen_bound = search rules }
 
 pub returns : goal.returns
 returns c =

@@ -7,11 +7,11 @@ use Rattle.ground.proofs.lines.erase_through.Goals as goal
 
 pub blank_from-requires : goal.blank_from-requires
 blank_from-requires c =
-    (c.requires.ready, omega (arith, through_room c.requires.ready.stands c.args.to c.requires.line_le_to.1))
+    record { ready = c.requires.ready; count_bound = omega (arith, through_room c.requires.ready.stands c.args.to c.requires.line_le_to.1) }
 
 pub unmark-requires : goal.unmark-requires
 unmark-requires c =
-    ((omega arith, (omega arith, omega arith)), search rules)
+    record { le_from = (omega arith, (omega arith, omega arith)); screen_bound = search rules }
 
 pub returns : goal.returns
 returns c =

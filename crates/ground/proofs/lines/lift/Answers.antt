@@ -6,11 +6,11 @@ use Rattle.ground.proofs.lines.lift.Goals as goal
 
 pub carry-requires : goal.carry-requires
 carry-requires c =
-    ((omega arith, omega arith), search rules)
+    record { le_count = (omega arith, omega arith); screen_bound = search rules }
 
 pub scroll-requires : goal.scroll-requires
 scroll-requires c =
-    (search rules, (omega arith, omega arith))
+    record { ready = search rules; le_count = (omega arith, omega arith) }
 
 pub returns : goal.returns
 returns c =

@@ -9,11 +9,11 @@ use Rattle.ground.proofs.lines.shift.Goals as goal
 
 pub carry-requires : goal.carry-requires
 carry-requires c =
-    ((omega arith, omega arith), search rules)
+    record { le_count = (omega arith, omega arith); screen_bound = search rules }
 
 pub unmark_ends-requires : goal.unmark_ends-requires
 unmark_ends-requires c =
-    ((omega arith, omega arith), search rules)
+    record { le_count = (omega arith, omega arith); screen_bound = search rules }
 
 pub returns : goal.returns
 returns c =

@@ -26,6 +26,6 @@ pub returns : goal.returns
 unfolding emptied with_layer with_settings
 returns c cells dots =
     let a = c.args in
-    let new = displayed a.t1 a.on (c.height_of-height.ensures _ refl refl) c.hold-first.ensures c.hold-second.ensures c.lesser.ensures in
+    let new = displayed a.settings a.on (c.height_of-height.ensures _ refl refl) c.hold-first.ensures c.hold-second.ensures c.lesser.ensures in
     stands new refl (c.fill.ensures ∙ ap (λ (n : ℕ). replicate n 0) c.requires.1.1) refl
     ∙ line_changes a.on _ c.if-on-settings.false

@@ -21,7 +21,7 @@ loop-row-init c =
 
 pub paint_row-requires : goal.paint_row-requires
 paint_row-requires c =
-    ((subst (λ (v : View). Framed v) (sym (made-anew c.args.panes c.requires.one_value)) c.requires.framed, omega arith), search rules)
+    record { framed = (subst (λ (v : View). Framed v) (sym (made-anew c.args.panes c.requires.one_value)) c.requires.framed, omega arith); cells_len = search rules }
 
 pub loop-row-preserved : goal.loop-row-preserved
 loop-row-preserved c =
