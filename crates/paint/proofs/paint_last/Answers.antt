@@ -42,7 +42,7 @@ pub paint_row-requires : goal.paint_row-requires
 paint_row-requires c =
     let v = c.view_of-panes in
     let s = c.args.settings in
-    ((v.ensures.framed, omega (arith, v.ensures.rows_are, rows_plain s c.if-settings-eq0.false)), search rules)
+    record { framed = (v.ensures.framed, omega (arith, v.ensures.rows_are, rows_plain s c.if-settings-eq0.false)); cells_len = search rules }
 
 pub returns : goal.returns
 returns c layer dots =

@@ -11,6 +11,10 @@ pub returns-then-message-at : goal.returns-then-message-at
 returns-then-message-at c =
     too_few _ _ _ (omega arith)
 
+pub loop-k-init : goal.loop-k-init
+unfolding all_print?
+loop-k-init c = search rules
+
 pub loop-k-preserved : goal.loop-k-preserved
 loop-k-preserved c =
     let a = c.args in

@@ -14,7 +14,7 @@ overflow_sub-end c =
 
 pub fitting-count-requires : goal.fitting-count-requires
 fitting-count-requires c =
-    (c.late_step-first.ensures.ready.stands, omega (arith, c.requires.at_lt_end))
+    record { stands = c.late_step-first.ensures.ready.stands; le_count = omega (arith, c.requires.at_lt_end) }
 
 pub cell-from-requires : goal.cell-from-requires
 cell-from-requires c =
@@ -28,7 +28,7 @@ copy_in-requires c =
 
 pub uncover-requires : goal.uncover-requires
 uncover-requires c =
-    let h = c.late_step-first.ensures.ready in (h.stands, h.layer_are)
+    let h = c.late_step-first.ensures.ready in record { stands = h.stands; layer_of = h.layer_are }
 
 pub overflow_sub-count : goal.overflow_sub-count
 overflow_sub-count c =
@@ -47,11 +47,11 @@ right-right-requires c =
     let a = c.args in
     let w = c.late_step-first.ensures in
     let laid = line_laid w a.message.now a.at a.end c.fitting-count.result c.fitting-count.ensures c.requires.at_lt_end.1 c.cell-from.ensures c.copy_in.ensures c.uncover.ensures c.further-last.ensures in
-    (laid.ready, w.marks_are)
+    record { ready = laid.ready; marks_len = w.marks_are }
 
 pub track-next-requires : goal.track-next-requires
 track-next-requires c =
-    let h = c.right-right.ensures.ready in (h.stands, h.layer_are)
+    let h = c.right-right.ensures.ready in record { stands = h.stands; layer_of = h.layer_are }
 
 pub overflow_add-result : goal.overflow_add-result
 overflow_add-result c =

@@ -19,7 +19,7 @@ print_chunk-next-requires c =
     let n = c.args.end - c.args.at in
     let k = or_false (ltb c.as_size.result n) c.misses.result c.if-as_size-count.false in
     let room = ltb-false c.as_size.result n k.0 in
-    (h.ready, ((λ st e i. c.misses.ensures st e i ∙ k.1), (omega (arith, h.at_lt_end), (omega (arith, room, c.as_size.ensures, h.ready.stands.fits), omega (arith, h.at_lt_end)))))
+    record { ready = h.ready; reads = (λ st e i. c.misses.ensures st e i ∙ k.1); le_count = (omega (arith, h.at_lt_end), (omega (arith, room, c.as_size.ensures, h.ready.stands.fits), omega (arith, h.at_lt_end))) }
 
 pub returns-then-as_size-count : goal.returns-then-as_size-count
 returns-then-as_size-count c =

@@ -11,7 +11,7 @@ loop-i-init c =
 
 pub print_part-part-requires : goal.print_part-part-requires
 print_part-part-requires c =
-    let a = c.loop-i.invariant.1.acts in (a.ready, (a.marks_are, search rules))
+    let a = c.loop-i.invariant.1.acts in record { ready = a.ready; marks_len = a.marks_are; at_lt_end = search rules }
 
 pub loop-i-preserved : goal.loop-i-preserved
 loop-i-preserved c =

@@ -8,16 +8,6 @@ use Rattle.runs.specs.Run.{Printing}
 use Rattle.runs.proofs.Runs.{all_printing, printing_more, printing_one, there}
 use Rattle.runs.proofs.run_end.Goals as goal
 
--- a block that prints, a long one, and a byte that does, where they are looked for
-block : (c : tie.Then1 invariant-loop2 decreases-loop invariant-loop decreases-loop invariant-loop decreases-loop) → Printing c.before.before.before.before.args.message.now c.before.before.loop.i (c.before.before.loop.i + 16)
-block c = all_printing c.before.before.before.before.args.message.now c.before.before.loop.i 16 (omega arith) (sym c.before.block-prints.ensures ∙ c.if1.true)
-
-long : (c : tie.Then2 invariant-loop2 decreases-loop invariant-loop decreases-loop invariant-loop decreases-loop) → Printing c.before.before.before.before.before.before.before.args.message.now c.before.before.loop2.i (c.before.before.loop2.i + 128)
-long c = all_printing c.before.before.before.before.before.before.before.args.message.now c.before.before.loop2.i 128 (omega arith) (sym c.before.block-prints2.ensures ∙ c.if2.true)
-
-byte : (c : tie.Then3 invariant-loop2 decreases-loop invariant-loop decreases-loop invariant-loop decreases-loop) → Printing c.before.before.before.before.before.before.before.args.message.now c.before.before.loop3.i (c.before.before.loop3.i + 1)
-byte c = printing_one (sym c.before.prints.ensures ∙ c.if3.true)
-
 pub overflow_add-i : goal.overflow_add-i
 overflow_add-i c =
     omega (arith, there c.args.message.now c.args.at c.requires)
@@ -28,15 +18,15 @@ loop-i-init c =
 
 pub overflow_add-i-in-loop-i : goal.overflow_add-i-in-loop-i
 overflow_add-i-in-loop-i c =
-    omega (arith, (block c).inside)
+    omega (arith, (all_printing c.args.message.now c.loop-i.i 16 (omega arith) (sym c.block_prints.ensures ∙ c.loop-i-test.true)).inside)
 
 pub loop-i-2-init : goal.loop-i-2-init
 loop-i-2-init c =
-    (omega arith, printing_more c.loop-i.invariant (block c))
+    (omega arith, printing_more c.loop-i.invariant (all_printing c.args.message.now c.loop-i.i 16 (omega arith) (sym c.block_prints.ensures ∙ c.loop-i-test.true)))
 
 pub loop-i-smaller : goal.loop-i-smaller
 loop-i-smaller c =
-    omega (arith, (block c).inside, c.loop-i-2.invariant.0)
+    omega (arith, (all_printing c.args.message.now c.loop-i.i 16 (omega arith) (sym c.block_prints.ensures ∙ c.loop-i-test.true)).inside, c.loop-i-2.invariant.0)
 
 pub loop-i-preserved : goal.loop-i-preserved
 loop-i-preserved c =
@@ -44,15 +34,15 @@ loop-i-preserved c =
 
 pub overflow_add-i-in-loop-i-2 : goal.overflow_add-i-in-loop-i-2
 overflow_add-i-in-loop-i-2 c =
-    omega (arith, (long c).inside)
+    omega (arith, (all_printing c.args.message.now c.loop-i-2.i 128 (omega arith) (sym c.block_prints-in-loop-i-2.ensures ∙ c.loop-i-2-test.true)).inside)
 
 pub loop-i-2-smaller : goal.loop-i-2-smaller
 loop-i-2-smaller c =
-    omega (arith, (long c).inside)
+    omega (arith, (all_printing c.args.message.now c.loop-i-2.i 128 (omega arith) (sym c.block_prints-in-loop-i-2.ensures ∙ c.loop-i-2-test.true)).inside)
 
 pub loop-i-2-preserved : goal.loop-i-2-preserved
 loop-i-2-preserved c =
-    (omega (arith, c.loop-i-2.invariant.0), printing_more c.loop-i-2.invariant.1 (long c))
+    (omega (arith, c.loop-i-2.invariant.0), printing_more c.loop-i-2.invariant.1 (all_printing c.args.message.now c.loop-i-2.i 128 (omega arith) (sym c.block_prints-in-loop-i-2.ensures ∙ c.loop-i-2-test.true)))
 
 pub loop-i-3-init : goal.loop-i-3-init
 loop-i-3-init c =
@@ -60,15 +50,15 @@ loop-i-3-init c =
 
 pub overflow_add-i-in-loop-i-3 : goal.overflow_add-i-in-loop-i-3
 overflow_add-i-in-loop-i-3 c =
-    omega (arith, (byte c).inside)
+    omega (arith, (printing_one {m = c.args.message.now} {at = c.loop-i-3.i} (sym c.prints.ensures ∙ c.loop-i-3-test.true)).inside)
 
 pub loop-i-3-smaller : goal.loop-i-3-smaller
 loop-i-3-smaller c =
-    omega (arith, (byte c).inside)
+    omega (arith, (printing_one {m = c.args.message.now} {at = c.loop-i-3.i} (sym c.prints.ensures ∙ c.loop-i-3-test.true)).inside)
 
 pub loop-i-3-preserved : goal.loop-i-3-preserved
 loop-i-3-preserved c =
-    printing_more c.loop-i-3.invariant (byte c)
+    printing_more c.loop-i-3.invariant (printing_one {m = c.args.message.now} {at = c.loop-i-3.i} (sym c.prints.ensures ∙ c.loop-i-3-test.true))
 
 pub returns : goal.returns
 returns c =

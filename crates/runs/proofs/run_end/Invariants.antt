@@ -16,3 +16,12 @@ invariant-loop-i-2 l = (l.initial.i ≤ l.i) × Printing l.message l.at l.i
 
 abbrev pub decreases-loop-i : goal.decreases-loop-i
 decreases-loop-i l = length l.message - l.i
+
+abbrev pub decreases-loop-i-2 : goal.decreases-loop-i-2
+decreases-loop-i-2 l = length l.message - l.i
+
+abbrev pub invariant-loop-i-3 : goal.invariant-loop-i-3
+invariant-loop-i-3 l = Printing l.message l.at l.i
+
+abbrev pub decreases-loop-i-3 : goal.decreases-loop-i-3
+decreases-loop-i-3 l = length l.message - l.i

@@ -18,10 +18,10 @@ returns-then-mode-eq1 c =
 
 pub returns-then-mode-eq2 : goal.returns-then-mode-eq2
 unfolding shape_ranges
-returns-then-mode-eq2 c = let i =
-    c in rw (ne_eqb _ _ i.before.if1.false, ne_eqb _ _ i.if2.false, eq-eqb _ _ c.if-mode-eq2.true, i.before.before.minus2.ensures) (let a = i.before.before.before.before.args in mode_2 a.lines1 a.lines2 a.columns1 a.columns2 (79 - a.columns1))
+returns-then-mode-eq2 c = 
+    rw (ne_eqb _ _ c.if-mode-eq0.false, ne_eqb _ _ c.if-mode-eq1.false, eq-eqb _ _ c.if-mode-eq2.true, c.minus-beside.ensures) (let a = c.args in mode_2 a.lines1 a.lines2 a.columns1 a.columns2 (79 - a.columns1))
 
 pub returns : goal.returns
 unfolding shape_ranges
-returns c = let i =
-    c in rw (ne_eqb _ _ i.before.if1.false, ne_eqb _ _ i.if2.false, ne_eqb _ _ c.if-mode-eq2.false) c.curve.ensures
+returns c = 
+    rw (ne_eqb _ _ c.if-mode-eq0.false, ne_eqb _ _ c.if-mode-eq1.false, ne_eqb _ _ c.if-mode-eq2.false) c.curve.ensures
