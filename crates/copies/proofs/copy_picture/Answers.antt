@@ -25,7 +25,7 @@ view_of-panes-requires c =
 
 pub paint_under-requires : goal.paint_under-requires
 paint_under-requires c = let v =
-    c in (v.view_of.ensures.framed, (v.before.before.before.before.before.requires.0.cells_are, length-replicate {A = ℕ} 640 0))
+    c in record { framed = v.view_of.ensures.framed; cells_len = (v.before.before.before.before.before.requires.0.cells_are, length-replicate {A = ℕ} 640 0) }
 
 pub paint_keys-requires : goal.paint_keys-requires
 paint_keys-requires c =
@@ -33,7 +33,7 @@ paint_keys-requires c =
 
 pub lay_over-requires : goal.lay_over-requires
 lay_over-requires c =
-    ((c.requires.0.layer_are, search rules), λ e. absurd (differ (sym e)))
+    record { layer_len = (c.requires.0.layer_are, search rules); layer_value = λ e. absurd (differ (sym e)) }
 
 pub loop-row-init : goal.loop-row-init
 unfolding copied_rows

@@ -10,17 +10,17 @@ use Rattle.screen.proofs.control.Goals as goal
 pub track-requires : goal.track-requires
 unfolding control
 track-requires c =
-    let a = back_acts c.requires.ready c.before-in-8.ensures c.put_at-next.ensures in (a.ready.stands, a.ready.layer_are)
+    let a = back_acts c.requires.ready c.before-in-8.ensures c.put_at-next.ensures in record { stands = a.ready.stands; layer_of = a.ready.layer_are }
 
 pub track-requires-in-10 : goal.track-requires-in-10
 unfolding control
 track-requires-in-10 c =
-    let a = c.down-next.ensures.0 in (a.ready.stands, a.ready.layer_are)
+    let a = c.down-next.ensures.0 in record { stands = a.ready.stands; layer_of = a.ready.layer_are }
 
 pub track-requires-in-13 : goal.track-requires-in-13
 unfolding control
 track-requires-in-13 c =
-    let a = column_acts c.requires.ready 1 (omega arith) (omega arith) c.put_at-next-in-13.ensures in (a.ready.stands, a.ready.layer_are)
+    let a = column_acts c.requires.ready 1 (omega arith) (omega arith) c.put_at-next-in-13.ensures in record { stands = a.ready.stands; layer_of = a.ready.layer_are }
 
 pub returns-in-8 : goal.returns-in-8
 unfolding control

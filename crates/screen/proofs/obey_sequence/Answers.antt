@@ -16,27 +16,27 @@ use Rattle.screen.proofs.obey_sequence.Goals as goal
 pub put-requires : goal.put-requires
 unfolding member obeyed on_screen?
 put-requires c =
-    (c.requires.ready.stands, (c.requires.ready.layer_are, ranged _ c.requires.frame_value c.in-Put.is (never_idle 61 refl refl _)))
+    record { stands = c.requires.ready.stands; layer_of = c.requires.ready.layer_are; in_ranges = ranged _ c.requires.frame_value c.in-Put.is (never_idle 61 refl refl _) }
 
 pub shift-requires : goal.shift-requires
 unfolding member obeyed on_screen?
 shift-requires c =
-    let e = ranged _ c.requires.frame_value c.in-LinesUp.is (never_idle 144 refl refl _) in (c.requires.ready, (c.requires.marks_len, (e.1.0.0.0, e.1.0.1)))
+    let e = ranged _ c.requires.frame_value c.in-LinesUp.is (never_idle 144 refl refl _) in record { ready = c.requires.ready; marks_len = c.requires.marks_len; le_count = (e.1.0.0.0, e.1.0.1) }
 
 pub shift-requires-in-LinesDown : goal.shift-requires-in-LinesDown
 unfolding member obeyed on_screen?
 shift-requires-in-LinesDown c =
-    let e = ranged _ c.requires.frame_value c.in-LinesDown.is (never_idle 145 refl refl _) in (c.requires.ready, (c.requires.marks_len, (e.1.0.0.0, e.1.0.1)))
+    let e = ranged _ c.requires.frame_value c.in-LinesDown.is (never_idle 145 refl refl _) in record { ready = c.requires.ready; marks_len = c.requires.marks_len; le_count = (e.1.0.0.0, e.1.0.1) }
 
 pub turn-requires-in-WindowTop : goal.turn-requires-in-WindowTop
 unfolding member obeyed on_screen?
 turn-requires-in-WindowTop c =
-    let h = c.requires.ready in (h.stands, ((omega arith, omega arith), h.layer_are))
+    let h = c.requires.ready in record { stands = h.stands; le_top = (omega arith, omega arith); layer_of = h.layer_are }
 
 pub turn-requires-in-WindowBottom : goal.turn-requires-in-WindowBottom
 unfolding member obeyed on_screen?
 turn-requires-in-WindowBottom c =
-    let h = c.requires.ready in (h.stands, ((omega arith, omega arith), h.layer_are))
+    let h = c.requires.ready in record { stands = h.stands; le_top = (omega arith, omega arith); layer_of = h.layer_are }
 
 pub returns-in-PrintCode : goal.returns-in-PrintCode
 unfolding member obeyed on_screen?

@@ -8,7 +8,7 @@ use Rattle.screen.proofs.put.Goals as goal
 
 pub track_far-requires : goal.track_far-requires
 track_far-requires c =
-    (put_stands c.requires.stands (omega arith) (omega arith) (omega arith) (omega arith) c.put_at-next.ensures, search rules)
+    record { stands = put_stands c.requires.stands (omega arith) (omega arith) (omega arith) (omega arith) c.put_at-next.ensures; layer_of = search rules }
 
 pub returns : goal.returns
 returns c cells m =
