@@ -86,7 +86,7 @@ fn keyable(number: usize, text: &[u8]) -> bool
 
 // "17, after 3": the number of a key call, whatever the stores
 pub fn key_number(settings: Settings, number: usize, text: &[u8]) -> u8
-    ensures { result ≡ first_of (reasons (terminal settings [] [] [] []) (Asked.keyText number text.now)) }
+    ensures { result ≡ first_of (reasons (terminal settings [] [] [] []) (Asked.key_text number text.now)) }
 {
     if soundness::sound(settings) {
         if keyable(number, text) { 0 } else { 17 }

@@ -24,8 +24,7 @@ view_of-panes-requires c =
     (c.requires.0.sound, c.top_of-top.ensures)
 
 pub paint_under-requires : goal.paint_under-requires
-paint_under-requires c = let v =
-    c in record { framed = v.view_of.ensures.framed; cells_len = (v.before.before.before.before.before.requires.0.cells_are, length-replicate {A = ℕ} 640 0) }
+paint_under-requires c = record { framed = c.view_of-panes.ensures.framed; cells_len = (c.requires.0.cells_are, length-replicate {A = ℕ} 640 0) }
 
 pub paint_keys-requires : goal.paint_keys-requires
 paint_keys-requires c =

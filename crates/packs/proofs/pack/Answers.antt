@@ -11,8 +11,7 @@ returns-then-number-ne0 c =
     pack_refused (terminal a.settings a.cells.now a.layer.now a.dots.now a.shown.now) a.pack.now a.printer.now _ _ c.pack_number-number.ensures c.if-number-ne0.true c.refusal-answer.ensures
 
 pub send_each-requires : goal.send_each-requires
-send_each-requires c = let test =
-    c in sym test.before.pack-number.ensures ∙ test.if1.false
+send_each-requires c = sym c.pack_number-number.ensures ∙ c.if-number-ne0.false
 
 pub returns : goal.returns
 returns c =

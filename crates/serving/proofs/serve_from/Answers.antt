@@ -101,16 +101,13 @@ finish-requires c =
     (record { sound = g.sound; cells_are = g.cells_are; layer_are = g.layer_are }, (c.loop-at.invariant.ready.layer_are.empty, c.requires.servable.shown_are))
 
 pub shape_of-cells : goal.shape_of-cells
-shape_of-cells c = let head =
-    c in head.loop.invariant.going.good.cells_are ∙ sym head.before.before.before.before.before.before.before.before.before.before.before.before.requires.0.good.cells_are
+shape_of-cells c = c.loop-at.invariant.going.good.cells_are ∙ sym c.requires.servable.good.cells_are
 
 pub shape_of-layer : goal.shape_of-layer
-shape_of-layer c = let head =
-    c in head.loop.invariant.going.good.layer_are ∙ sym head.before.before.before.before.before.before.before.before.before.before.before.before.requires.0.good.layer_are
+shape_of-layer c = c.loop-at.invariant.going.good.layer_are ∙ sym c.requires.servable.good.layer_are
 
 pub shape_of-dots : goal.shape_of-dots
-shape_of-dots c = let head =
-    c in head.loop.invariant.going.good.dots_are ∙ sym head.before.before.before.before.before.before.before.before.before.before.before.before.requires.0.good.dots_are
+shape_of-dots c = c.loop-at.invariant.going.good.dots_are ∙ sym c.requires.servable.good.dots_are
 
 pub shape_of-printer : goal.shape_of-printer
 shape_of-printer c =

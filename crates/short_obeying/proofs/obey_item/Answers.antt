@@ -36,12 +36,10 @@ returns-in-Printed c =
     rw c.in-Printed.is (run_arm _ c.print_run.ensures)
 
 pub print_code-one-requires : goal.print_code-one-requires
-print_code-one-requires c = let entry =
-    c in (entry.requires.0, entry.requires.1.0)
+print_code-one-requires c = (c.requires.ready, c.requires.marks_len)
 
 pub overflow_add-result : goal.overflow_add-result
-overflow_add-result c = let entry =
-    c in omega (arith, entry.requires.1.1.inside, entry.requires.1.1.sendable)
+overflow_add-result c = omega (arith, c.requires.offered.inside, c.requires.offered.sendable)
 
 pub returns-in-PrintCode : goal.returns-in-PrintCode
 returns-in-PrintCode c =

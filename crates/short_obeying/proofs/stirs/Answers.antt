@@ -7,8 +7,7 @@ use Rattle.short_obeying.proofs.Stirring.{control_stirs, sequence_stirs}
 use Rattle.short_obeying.proofs.stirs.Goals as goal
 
 pub returns-in-Control : goal.returns-in-Control
-returns-in-Control c = let case =
-    c in rw case.item.given.1 (control_stirs case.item.given.0.0 c.lowest.ensures)
+returns-in-Control c = rw c.in-Control.is (control_stirs c.in-Control.c c.lowest.ensures)
 
 pub returns-in-Sequence : goal.returns-in-Sequence
 returns-in-Sequence c =

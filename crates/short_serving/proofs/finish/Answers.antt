@@ -17,8 +17,7 @@ placed-places-requires c =
     chosen _ c.requires.0.sound
 
 pub paint-requires : goal.paint-requires
-paint-requires c = let entry =
-    c in (visible entry.args.settings entry.args.place entry.requires.0 c.placed-places.ensures, entry.requires.1)
+paint-requires c = (visible c.args.settings c.args.place c.requires.0 c.placed-places.ensures, c.requires.1)
 
 pub returns-then-wide : goal.returns-then-wide
 returns-then-wide c =
@@ -34,8 +33,7 @@ returns-then-wide c =
     )
 
 pub paint_row_8-requires : goal.paint_row_8-requires
-paint_row_8-requires c = let entry =
-    c in (visible entry.args.settings entry.args.place entry.requires.0 c.placed-places.ensures, entry.requires.1.1)
+paint_row_8-requires c = (visible c.args.settings c.args.place c.requires.0 c.placed-places.ensures, c.requires.1.1)
 
 pub returns : goal.returns
 returns c =

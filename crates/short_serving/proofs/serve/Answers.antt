@@ -99,12 +99,10 @@ finish-requires c =
     (record { sound = g.sound; cells_are = g.cells_are; layer_are = g.layer_are }, (c.loop-at.invariant.loop.ready.layer_are.empty, c.loop-at.invariant.still.size))
 
 pub shape_of-cells : goal.shape_of-cells
-shape_of-cells c = let head =
-    c in head.loop.invariant.loop.going.good.cells_are ∙ sym head.before.before.before.before.before.before.before.before.before.before.before.before.before.requires.good.cells_are
+shape_of-cells c = c.loop-at.invariant.loop.going.good.cells_are ∙ sym c.requires.good.cells_are
 
 pub shape_of-layer : goal.shape_of-layer
-shape_of-layer c = let head =
-    c in head.loop.invariant.loop.going.good.layer_are ∙ sym head.before.before.before.before.before.before.before.before.before.before.before.before.before.requires.good.layer_are
+shape_of-layer c = c.loop-at.invariant.loop.going.good.layer_are ∙ sym c.requires.good.layer_are
 
 pub shape_of-shown : goal.shape_of-shown
 shape_of-shown c =
@@ -112,8 +110,7 @@ shape_of-shown c =
     search (rules, same)
 
 pub shape_of-dots : goal.shape_of-dots
-shape_of-dots c = let head =
-    c in head.loop.invariant.loop.going.good.dots_are ∙ sym head.before.before.before.before.before.before.before.before.before.before.before.before.before.requires.good.dots_are
+shape_of-dots c = c.loop-at.invariant.loop.going.good.dots_are ∙ sym c.requires.good.dots_are
 
 pub shape_of-printer : goal.shape_of-printer
 shape_of-printer c =

@@ -37,12 +37,10 @@ returns-then-number-ne0 c =
     closing-not (terminal a.settings a.cells.now a.layer.now a.dots.now a.shown.now) _ _ c.closing_number-number.ensures c.if-number-ne0.true c.refusal-answer.ensures
 
 pub slice_bounds-waiting-end : goal.slice_bounds-waiting-end
-slice_bounds-waiting-end c = let there =
-    c in omega (arith, (line there).ranges, size (first there))
+slice_bounds-waiting-end c = omega (arith, (line c).ranges, size (first c))
 
 pub slice_bounds-message-end : goal.slice_bounds-message-end
-slice_bounds-message-end c = let there =
-    c in sym (length-take-le _ _ (omega (arith, (line there).ranges, size (first there))))
+slice_bounds-message-end c = sym (length-take-le _ _ (omega (arith, (line c).ranges, size (first c))))
 
 pub returns-then-one-ne0 : goal.returns-then-one-ne0
 returns-then-one-ne0 c =
@@ -51,12 +49,10 @@ returns-then-one-ne0 c =
     closing-by a.settings a.cells.now a.layer.now a.dots.now a.shown.now (size start) (zero (told c)) _ _ _ _ _ _ _ (by_quiet a.settings c.quieted.ensures c.message-one.ensures) c.if-one-ne0.true
 
 pub overflow_cast-start : goal.overflow_cast-start
-overflow_cast-start c = let asked =
-    c in omega (arith, (line (told asked)).fits)
+overflow_cast-start c = omega (arith, (line (told c)).fits)
 
 pub overflow_sub-start : goal.overflow_sub-start
-overflow_sub-start c = let asked =
-    c in (line (told asked)).no_longer
+overflow_sub-start c = (line (told c)).no_longer
 
 pub slice_bounds-waiting-end-2 : goal.slice_bounds-waiting-end-2
 slice_bounds-waiting-end-2 c =
@@ -77,12 +73,10 @@ counted_from-requires c =
     closing_near a.settings a.cells.now a.layer.now a.dots.now a.shown.now (size start) (zero (told c)) _ _ _ _ _ _ _ (by_quiet a.settings c.quieted.ensures c.message-one.ensures)
 
 pub shape_of-cells : goal.shape_of-cells
-shape_of-cells c = let asked =
-    c in search (rules, asked.message)
+shape_of-cells c = search (rules, c.message-one)
 
 pub shape_of-layer : goal.shape_of-layer
-shape_of-layer c = let asked =
-    c in omega (arith, asked.message.auto)
+shape_of-layer c = omega (arith, c.message-one.auto)
 
 pub returns : goal.returns
 returns c =

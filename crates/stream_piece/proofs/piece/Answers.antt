@@ -28,12 +28,10 @@ returns-then-out-ne0 c =
     plain_refused (plain (found c)) a.cells.now a.layer.now a.dots.now a.shown.now a.printer.now _ _ _ _ _ _ _ c.message-out.ensures (omega (arith, c.if-out-ne0))
 
 pub overflow_cast-taken : goal.overflow_cast-taken
-overflow_cast-taken c = let asked =
-    c in omega (arith, (plain (found asked)).few)
+overflow_cast-taken c = omega (arith, (plain (found c)).few)
 
 pub overflow_add-reached : goal.overflow_add-reached
-overflow_add-reached c = let asked =
-    c in omega (arith, plain (found asked))
+overflow_add-reached c = omega (arith, plain (found c))
 
 pub counted_from-answer-requires : goal.counted_from-answer-requires
 counted_from-answer-requires c =

@@ -8,12 +8,10 @@ use Rattle.unfinished.proofs.ItemLaws.{alone, cut, listed, plain, unlisted}
 use Rattle.unfinished.proofs.whole_item.Goals as goal
 
 pub returns-then-bytes-at-ne27 : goal.returns-then-bytes-at-ne27
-returns-then-bytes-at-ne27 c = let start =
-    c in plain start.args.bytes.now start.args.at start.requires c.if-bytes-at-ne27.true
+returns-then-bytes-at-ne27 c = plain c.args.bytes.now c.args.at c.requires c.if-bytes-at-ne27.true
 
 pub returns-then-left-lt2 : goal.returns-then-left-lt2
-returns-then-left-lt2 c = let start =
-    c in alone start.args.bytes.now start.args.at start.requires c.if-bytes-at-ne27.false c.if-left-lt2.true
+returns-then-left-lt2 c = alone c.args.bytes.now c.args.at c.requires c.if-bytes-at-ne27.false c.if-left-lt2.true
 
 pub returns-then-length-eq0 : goal.returns-then-length-eq0
 returns-then-length-eq0 c =

@@ -4,12 +4,10 @@ use Rattle.traces.proofs.Stepping.{head_fits, tested}
 use Rattle.traces.proofs.strokes.is_stroke.Goals as goal
 
 pub kind_at-kind-requires : goal.kind_at-kind-requires
-kind_at-kind-requires c = let a =
-    c in head_fits a.args.trace.now a.args.at a.requires.0 a.requires.1
+kind_at-kind-requires c = head_fits c.args.trace.now c.args.at c.requires.0 c.requires.1
 
 pub length_at-length-requires : goal.length_at-length-requires
-length_at-length-requires c = let a =
-    c in omega (arith, head_fits a.args.trace.now a.args.at a.requires.0 a.requires.1)
+length_at-length-requires c = omega (arith, head_fits c.args.trace.now c.args.at c.requires.0 c.requires.1)
 
 pub returns : goal.returns
 returns c =
