@@ -28,7 +28,7 @@ returns-then-idle c =
 
 pub print_copy-requires : goal.print_copy-requires
 print_copy-requires c =
-    (c.requires.good, rw c.in-Sequence.is at c.requires.roomy)
+    record { good = c.requires.good; q_in_bounds = rw c.in-Sequence.is at c.requires.roomy }
 
 pub store_pattern-requires : goal.store_pattern-requires
 store_pattern-requires c =

@@ -14,4 +14,4 @@ returns-in-Sequence c =
 
 pub returns-in_default : goal.returns-in_default
 returns-in_default c =
-    bare_other c.args.mode c.args.item c.args.bare (opened c.in_default.in_default-own.keys3)
+    bare_other c.args.mode c.args.item c.args.bare c.in_default.in_default-own.keys3

@@ -14,4 +14,4 @@ returns-in-Sequence c =
 
 pub returns-in_default : goal.returns-in_default
 returns-in_default c =
-    other_spares c.args.item (opened c.in_default.in_default-own.keys3)
+    other_spares c.args.item c.in_default.in_default-own.keys3

@@ -52,13 +52,13 @@ returns-then-not-in_line c =
 -- within the line
 pub print_line-next-requires : goal.print_line-next-requires
 print_line-next-requires c =
-    let l = c.in_line.ensures (not-false _ c.if-not-in_line.false) in
+    let l = c.in_line.ensures (c.if-not-in_line.false) in
     ((begun c).loop.ready, (l.seen, ((l.some, (l.room, omega arith)), (able c).shown_are)))
 
 pub paint_row_8-requires : goal.paint_row_8-requires
 paint_row_8-requires c =
     let a = c.args in
-    let seen = line_visible a.settings a.message.now a.cells.now a.layer.now a.dots.now a.shown.now a.printer.now (able c) c.frame_of-frame.ensures c.selected_place-place.ensures (c.in_line.ensures (not-false _ c.if-not-in_line.false)) c.print_line-next.ensures in
+    let seen = line_visible a.settings a.message.now a.cells.now a.layer.now a.dots.now a.shown.now a.printer.now (able c) c.frame_of-frame.ensures c.selected_place-place.ensures (c.in_line.ensures (c.if-not-in_line.false)) c.print_line-next.ensures in
     (visible a.settings c.print_line-next.result seen.0 c.placed-places.ensures, seen.1)
 
 pub answer_of-answer-requires : goal.answer_of-answer-requires
@@ -69,5 +69,5 @@ pub returns : goal.returns
 returns c =
     let a = c.args in
     short_served a.settings a.message.now a.cells.now a.layer.now a.dots.now a.shown.now a.printer.now _ _ _ _ _ _ (sym c.call_number-number.ensures ∙ c.if-number-ne0.false)
-    (line_served a.settings a.message.now a.cells.now a.layer.now a.dots.now a.shown.now a.printer.now (able c) c.frame_of-frame.ensures c.selected_place-place.ensures (c.in_line.ensures (not-false _ c.if-not-in_line.false)) c.print_line-next.ensures c.placed-places.ensures
+    (line_served a.settings a.message.now a.cells.now a.layer.now a.dots.now a.shown.now a.printer.now (able c) c.frame_of-frame.ensures c.selected_place-place.ensures (c.in_line.ensures (c.if-not-in_line.false)) c.print_line-next.ensures c.placed-places.ensures
     (c.answer_of-answer.ensures ∙ ap (answer_at (length a.message.now)) c.no_counts.ensures) c.paint_row_8.ensures)

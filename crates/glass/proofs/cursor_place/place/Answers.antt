@@ -13,17 +13,17 @@ use Rattle.glass.proofs.cursor_place.place.Goals as goal
 pub returns-then-not-sound : goal.returns-then-not-sound
 unfolding cursor_at
 returns-then-not-sound c =
-    rw (sym c.sound.ensures ∙ not-true _ c.if-not-sound.true)
+    rw (sym c.sound.ensures ∙ c.if-not-sound.true)
 
 pub returns-then-settings-eq0 : goal.returns-then-settings-eq0
 unfolding cursor_at
 returns-then-settings-eq0 c =
-    let good = sym c.sound.ensures ∙ not-false _ c.if-not-sound.false in
+    let good = sym c.sound.ensures ∙ c.if-not-sound.false in
     rw (good, eq-eqb _ _ c.if-settings-eq0.true)
 
 pub frame_of-requires : goal.frame_of-requires
 frame_of-requires c =
-    sound_true _ (sym c.sound.ensures ∙ not-false _ c.if-not-sound.false)
+    sound_true _ (sym c.sound.ensures ∙ c.if-not-sound.false)
 
 pub shown-requires : goal.shown-requires
 unfolding cursor_at
@@ -33,7 +33,7 @@ shown-requires c =
 pub returns : goal.returns
 unfolding cursor_at
 returns c =
-    let good = sym c.sound.ensures ∙ not-false _ c.if-not-sound.false in
+    let good = sym c.sound.ensures ∙ c.if-not-sound.false in
     let s = c.args.settings in
     rw (good, ne_eqb _ _ c.if-settings-eq0.false)
     (sym (c.shown.ensures (state s [] [] []) c.frame_of.ensures.0.framed (sym c.here.ensures)))

@@ -8,13 +8,13 @@ use Rattle.glass_drawing.proofs.drawing.stroke.Goals as goal
 
 pub returns-then-not-changed : goal.returns-then-not-changed
 returns-then-not-changed c =
-    struck_none _ _ _ _ _ (sym c.changed.ensures ∙ not-true _ c.if-not-changed.true)
+    struck_none _ _ _ _ _ (sym c.changed.ensures ∙ c.if-not-changed.true)
 
 pub returns-then-not-apart : goal.returns-then-not-apart
 returns-then-not-apart c =
-    struck_letter _ _ _ _ _ (sym c.changed.ensures ∙ not-false _ c.if-not-changed.false) (sym c.apart.ensures ∙ not-true _ c.if-not-apart.true) c.letter_of-letter.ensures (omega arith)
+    struck_letter _ _ _ _ _ (sym c.changed.ensures ∙ c.if-not-changed.false) (sym c.apart.ensures ∙ c.if-not-apart.true) c.letter_of-letter.ensures (omega arith)
 
 pub returns : goal.returns
 returns c =
-    struck_both _ _ _ _ _ (sym c.changed.ensures ∙ not-false _ c.if-not-changed.false) (sym c.apart.ensures ∙ not-false _ c.if-not-apart.false) c.letter_of-letter.ensures c.address-head.ensures
+    struck_both _ _ _ _ _ (sym c.changed.ensures ∙ c.if-not-changed.false) (sym c.apart.ensures ∙ c.if-not-apart.false) c.letter_of-letter.ensures c.address-head.ensures
     c.copy_in.ensures (omega arith)

@@ -42,12 +42,12 @@ pub returns-then-not-uncut : goal.returns-then-not-uncut
 unfolding packable
 returns-then-not-uncut c =
     let p = c.args.pack.now in
-    sym (bytes_numbered p (le-leb (length p) 60000 (omega (arith, c.if-pack-gt-PACK.false))) (sym c.uncut.ensures ∙ not-true _ c.if-not-uncut.true) refl refl)
+    sym (bytes_numbered p (le-leb (length p) 60000 (omega (arith, c.if-pack-gt-PACK.false))) (sym c.uncut.ensures ∙ c.if-not-uncut.true) refl refl)
 
 pub loop-at-init : goal.loop-at-init
 unfolding known_in sendable_in
 loop-at-init c =
-    (record { inside = omega arith; uncut = sym c.uncut.ensures ∙ not-false _ c.if-not-uncut.false }, (refl, refl))
+    (record { inside = omega arith; uncut = sym c.uncut.ensures ∙ c.if-not-uncut.false }, (refl, refl))
 
 pub length_at-size-requires : goal.length_at-size-requires
 length_at-size-requires c =

@@ -10,32 +10,32 @@ pub returns-then-not-stores_sized : goal.returns-then-not-stores_sized
 unfolding sized
 returns-then-not-stores_sized c =
     let a = c.args in
-    sym (pack_numbered (terminal a.settings a.cells.now a.layer.now a.dots.now a.shown.now) a.pack.now (sym c.stores_sized.ensures ∙ not-true _ c.if-not-stores_sized.true) refl refl refl)
+    sym (pack_numbered (terminal a.settings a.cells.now a.layer.now a.dots.now a.shown.now) a.pack.now (sym c.stores_sized.ensures ∙ c.if-not-stores_sized.true) refl refl refl)
 
 pub returns-then-number-ne0 : goal.returns-then-number-ne0
 unfolding sized
 returns-then-number-ne0 c =
     let a = c.args in
-    sym (pack_numbered (terminal a.settings a.cells.now a.layer.now a.dots.now a.shown.now) a.pack.now (sym c.stores_sized.ensures ∙ not-false _ c.if-not-stores_sized.false) (sym c.bytes_number-number.ensures) refl refl
+    sym (pack_numbered (terminal a.settings a.cells.now a.layer.now a.dots.now a.shown.now) a.pack.now (sym c.stores_sized.ensures ∙ c.if-not-stores_sized.false) (sym c.bytes_number-number.ensures) refl refl
     ∙ rw (ne_eqb _ _ c.if-number-ne0.true))
 
 pub returns-then-not-sound : goal.returns-then-not-sound
 unfolding sized sound_in
 returns-then-not-sound c =
     let a = c.args in
-    sym (pack_numbered (terminal a.settings a.cells.now a.layer.now a.dots.now a.shown.now) a.pack.now (sym c.stores_sized.ensures ∙ not-false _ c.if-not-stores_sized.false) (sym c.bytes_number-number.ensures ∙ c.if-number-ne0.false)
-    (sym c.sound.ensures ∙ not-true _ c.if-not-sound.true) refl)
+    sym (pack_numbered (terminal a.settings a.cells.now a.layer.now a.dots.now a.shown.now) a.pack.now (sym c.stores_sized.ensures ∙ c.if-not-stores_sized.false) (sym c.bytes_number-number.ensures ∙ c.if-number-ne0.false)
+    (sym c.sound.ensures ∙ c.if-not-sound.true) refl)
 
 pub returns-then-settings-eq0 : goal.returns-then-settings-eq0
 unfolding sized sound_in none_waits
 returns-then-settings-eq0 c =
     let a = c.args in
-    sym (pack_numbered (terminal a.settings a.cells.now a.layer.now a.dots.now a.shown.now) a.pack.now (sym c.stores_sized.ensures ∙ not-false _ c.if-not-stores_sized.false) (sym c.bytes_number-number.ensures ∙ c.if-number-ne0.false)
-    (sym c.sound.ensures ∙ not-false _ c.if-not-sound.false) (eq-eqb _ _ c.if-settings-eq0.true))
+    sym (pack_numbered (terminal a.settings a.cells.now a.layer.now a.dots.now a.shown.now) a.pack.now (sym c.stores_sized.ensures ∙ c.if-not-stores_sized.false) (sym c.bytes_number-number.ensures ∙ c.if-number-ne0.false)
+    (sym c.sound.ensures ∙ c.if-not-sound.false) (eq-eqb _ _ c.if-settings-eq0.true))
 
 pub returns-else-settings-eq0 : goal.returns-else-settings-eq0
 unfolding sized sound_in none_waits
 returns-else-settings-eq0 c =
     let a = c.args in
-    sym (pack_numbered (terminal a.settings a.cells.now a.layer.now a.dots.now a.shown.now) a.pack.now (sym c.stores_sized.ensures ∙ not-false _ c.if-not-stores_sized.false) (sym c.bytes_number-number.ensures ∙ c.if-number-ne0.false)
-    (sym c.sound.ensures ∙ not-false _ c.if-not-sound.false) (ne_eqb _ _ c.if-settings-eq0.false))
+    sym (pack_numbered (terminal a.settings a.cells.now a.layer.now a.dots.now a.shown.now) a.pack.now (sym c.stores_sized.ensures ∙ c.if-not-stores_sized.false) (sym c.bytes_number-number.ensures ∙ c.if-number-ne0.false)
+    (sym c.sound.ensures ∙ c.if-not-sound.false) (ne_eqb _ _ c.if-settings-eq0.false))

@@ -8,7 +8,7 @@ use Rattle.writer.proofs.laying.write_spelled.Goals as goal
 
 pub returns-then-not-sound : goal.returns-then-not-sound
 returns-then-not-sound c =
-    unsound _ _ _ _ (sym c.sound.ensures ∙ not-true _ c.if-not-sound.true)
+    unsound _ _ _ _ (sym c.sound.ensures ∙ c.if-not-sound.true)
 
 pub judge-verdict-requires : goal.judge-verdict-requires
 judge-verdict-requires c =
@@ -16,7 +16,7 @@ judge-verdict-requires c =
 
 pub returns-then-verdict-ne0 : goal.returns-then-verdict-ne0
 returns-then-verdict-ne0 c =
-    refused_read _ _ _ _ (sym c.sound.ensures ∙ not-false _ c.if-not-sound.false) _ c.judge-verdict.ensures (λ z. omega (arith, c.if-verdict-ne0.true, z))
+    refused_read _ _ _ _ (sym c.sound.ensures ∙ c.if-not-sound.false) _ c.judge-verdict.ensures (λ z. omega (arith, c.if-verdict-ne0.true, z))
 
 pub lay-requires : goal.lay-requires
 lay-requires c =
@@ -25,4 +25,4 @@ lay-requires c =
 pub returns : goal.returns
 returns c =
     let w = c.judge-verdict.ensures in
-    laid _ _ _ _ (sym c.sound.ensures ∙ not-false _ c.if-not-sound.false) _ w (omega (arith, c.if-verdict-ne0.false)) (quiet_word _ _ _ w) _ _ c.lay.ensures
+    laid _ _ _ _ (sym c.sound.ensures ∙ c.if-not-sound.false) _ w (omega (arith, c.if-verdict-ne0.false)) (quiet_word _ _ _ w) _ _ c.lay.ensures
