@@ -26,7 +26,7 @@ paint-requires c =
     let a = c.args in
     let s = a.settings in
     let there = get_or-set_same s.places s.selected a.place nowhere (omega (arith, length-set s.places s.selected a.place, c.requires.0.sound.arrays.0, chosen _ c.requires.0.sound)) in
-    (subst (λ (ps : List Place). (Visible (with_places s ps) a.cells.now a.layer.now) × (a.place.top ≡ (place_of (with_places s ps) s.selected).top)) (sym c.placed-places.ensures) (c.requires.0, ap (λ (p : Place). p.top) (sym there)), c.requires.1)
+    record { visible = subst (λ (ps : List Place). (Visible (with_places s ps) a.cells.now a.layer.now) × (a.place.top ≡ (place_of (with_places s ps) s.selected).top)) (sym c.placed-places.ensures) (c.requires.0, ap (λ (p : Place). p.top) (sym there)); layer_value = c.requires.1 }
 
 pub returns-then-paints : goal.returns-then-paints
 returns-then-paints c =

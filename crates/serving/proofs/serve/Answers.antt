@@ -10,7 +10,7 @@ use Rattle.serving.proofs.serve.Goals as goal
 pub serve_from-requires : goal.serve_from-requires
 serve_from-requires c =
     let e = c.no_counts-none.ensures in
-    (c.requires, (omega arith, (subst (λ (x : Counts). x.accepted + x.refused ≤ 0) (sym e) (omega arith), ap (λ (x : Counts). x.printed) e)))
+    record { servable = c.requires; from_in_bounds = (omega arith, (subst (λ (x : Counts). x.accepted + x.refused ≤ 0) (sym e) (omega arith), ap (λ (x : Counts). x.printed) e)) }
 
 pub returns : goal.returns
 returns c =

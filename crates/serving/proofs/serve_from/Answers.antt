@@ -31,7 +31,7 @@ overflow_sub-printer c =
 
 pub read_at-read-requires : goal.read_at-read-requires
 read_at-read-requires c =
-    (c.loop-at-test.true, c.loop-at.invariant.sendable)
+    record { at_in_bounds = c.loop-at-test.true; message_len_bound = c.loop-at.invariant.sendable }
 
 pub count-counts-requires : goal.count-counts-requires
 count-counts-requires c =
@@ -43,7 +43,7 @@ slice_bounds-obey_item-end c =
 
 pub obey_item-run-requires : goal.obey_item-run-requires
 obey_item-run-requires c =
-    (c.loop-at.invariant.ready, (marks_are _ _ _ _ _ _ _ _ c.loop-at.invariant, offered _ _ _ _ _ _ _ _ c.loop-at.invariant c.loop-at-test.true c.read_at-read.result c.read_at-read.ensures))
+    record { ready = c.loop-at.invariant.ready; marks_len = marks_are _ _ _ _ _ _ _ _ c.loop-at.invariant; offered = offered _ _ _ _ _ _ _ _ c.loop-at.invariant c.loop-at-test.true c.read_at-read.result c.read_at-read.ensures }
 
 pub wipe_after-requires : goal.wipe_after-requires
 wipe_after-requires c =
