@@ -5,14 +5,6 @@ use borrow.Author.Rules.{rules}
 use Rattle.terminal.proofs.Keys.{Placed, among, refused, stored}
 use Rattle.terminal.proofs.key.Goals as goal
 
--- where the text is to be stored
-placed : (c : tie.After-texts2) → let a = c.before.before.before.before.before.before.args in Placed a.number a.text.now a.settings
-placed c =
-    let a = c.before.before.before.before.before.before.args in
-    let n = c.before.before.before.before.key-number in
-    let z : n.result ≡ 0 = omega arith in
-    among a.number a.text.now a.settings (sym n.ensures ∙ z)
-
 pub returns-then-refused-ne0 : goal.returns-then-refused-ne0
 returns-then-refused-ne0 c =
     let a = c.args in
@@ -21,19 +13,24 @@ returns-then-refused-ne0 c =
 
 pub slice_bounds-copy_in-end : goal.slice_bounds-copy_in-end
 slice_bounds-copy_in-end c =
-    sym (placed c).ten
+    let z : c.key_number-refused.result ≡ 0 = omega arith in
+    let placed = among c.args.number c.args.text.now c.args.settings (sym c.key_number-refused.ensures ∙ z) in
+    sym placed.ten
 
 pub overflow_sub-number : goal.overflow_sub-number
 overflow_sub-number c =
-    omega (arith, placed c)
+    let z : c.key_number-refused.result ≡ 0 = omega arith in
+    omega (arith, among c.args.number c.args.text.now c.args.settings (sym c.key_number-refused.ensures ∙ z))
 
 pub overflow_mul-number : goal.overflow_mul-number
 overflow_mul-number c =
-    omega (arith, placed c)
+    let z : c.key_number-refused.result ≡ 0 = omega arith in
+    omega (arith, among c.args.number c.args.text.now c.args.settings (sym c.key_number-refused.ensures ∙ z))
 
 pub copy_in-requires : goal.copy_in-requires
 copy_in-requires c =
-    omega (arith, placed c)
+    let z : c.key_number-refused.result ≡ 0 = omega arith in
+    omega (arith, among c.args.number c.args.text.now c.args.settings (sym c.key_number-refused.ensures ∙ z))
 
 pub returns : goal.returns
 returns c =
