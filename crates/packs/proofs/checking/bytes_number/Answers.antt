@@ -14,25 +14,6 @@ use Rattle.packs.proofs.Walking.{Whole, behind, fits, known_on, over, sendable_o
 use Rattle.packs.proofs.Numbers.{bytes_numbered}
 use Rattle.packs.proofs.checking.bytes_number.Goals as goal
 
--- where a record begins, all of it is there
-whole : (c : tie.After-length-at invariant-loop decreases-loop) → let head = c.before.before in
-    head.loop.at + (c.length_at.result + 4) ≤ length head.before.before.before.before.before.args.pack.now
-whole c =
-    let head = c.before.before in
-    fits head.before.before.before.before.before.args.pack.now head.loop.at c.length_at.result head.loop.invariant.0 c.before.loop-test.true c.length_at.ensures
-
--- the number by the four tests, once all of the pack was walked over
-walked : (c : tie.After-loop invariant-loop decreases-loop) → let head = c.before in
-    first_of (of_bytes head.before.before.before.before.before.args.pack.now) ≡ cond true (cond true (cond head.loop.known (cond head.loop.few 0 2) 21) 20) 19
-unfolding packable
-walked c =
-    let head = c.before in
-    let told = head.before.before in
-    let p = told.before.before.before.args.pack.now in
-    let past = c.loop-test.false in
-    bytes_numbered p (le-leb (length p) 60000 (omega (arith, told.before.if1.false))) (sym told.uncut.ensures ∙ not-false _ head.before.if2.false)
-    (head.loop.invariant.1.0 ∙ over p head.loop.at known? head.loop.known past) (head.loop.invariant.1.1 ∙ over p head.loop.at (λ (r : Record). sendable r.body) head.loop.few past)
-
 pub returns-then-pack-gt-PACK : goal.returns-then-pack-gt-PACK
 unfolding packable
 returns-then-pack-gt-PACK c = let p =
@@ -56,15 +37,15 @@ length_at-size-requires c =
 
 pub kind_at-requires : goal.kind_at-requires
 kind_at-requires c =
-    omega (arith, whole c)
+    omega (arith, fits c.args.pack.now c.loop-at.at c.length_at-size.result c.loop-at.invariant.0 c.loop-at-test.true c.length_at-size.ensures)
 
 pub overflow_add-at-in-loop-at : goal.overflow_add-at-in-loop-at
 overflow_add-at-in-loop-at c =
-    omega (arith, whole c)
+    omega (arith, fits c.args.pack.now c.loop-at.at c.length_at-size.result c.loop-at.invariant.0 c.loop-at-test.true c.length_at-size.ensures)
 
 pub loop-at-smaller : goal.loop-at-smaller
 loop-at-smaller c =
-    omega (arith, whole c)
+    omega (arith, fits c.args.pack.now c.loop-at.at c.length_at-size.result c.loop-at.invariant.0 c.loop-at-test.true c.length_at-size.ensures)
 
 pub loop-at-preserved : goal.loop-at-preserved
 loop-at-preserved c =
@@ -80,13 +61,28 @@ loop-at-preserved c =
     )
 
 pub returns-then-not-known : goal.returns-then-not-known
+unfolding packable
 returns-then-not-known c =
-    sym (walked c ∙ rw (not-true c.loop-at.known c.if-not-known.true))
+    let p = c.args.pack.now in
+    let past = c.loop-at-test.false in
+    let walked = bytes_numbered p (le-leb (length p) 60000 (omega (arith, c.if-pack-gt-PACK.false))) (sym c.uncut.ensures ∙ c.if-not-uncut.false)
+    (c.loop-at.invariant.1.0 ∙ over p c.loop-at.at known? c.loop-at.known past) (c.loop-at.invariant.1.1 ∙ over p c.loop-at.at (λ (r : Record). sendable r.body) c.loop-at.few past) in
+    sym (walked ∙ rw c.if-not-known.true)
 
 pub returns-then-few : goal.returns-then-few
+unfolding packable
 returns-then-few c =
-    sym (walked c ∙ rw (not-false c.loop-at.known c.if-not-known.false, c.if-few.true))
+    let p = c.args.pack.now in
+    let past = c.loop-at-test.false in
+    let walked = bytes_numbered p (le-leb (length p) 60000 (omega (arith, c.if-pack-gt-PACK.false))) (sym c.uncut.ensures ∙ c.if-not-uncut.false)
+    (c.loop-at.invariant.1.0 ∙ over p c.loop-at.at known? c.loop-at.known past) (c.loop-at.invariant.1.1 ∙ over p c.loop-at.at (λ (r : Record). sendable r.body) c.loop-at.few past) in
+    sym (walked ∙ rw (c.if-not-known.false, c.if-few.true))
 
 pub returns-else-few : goal.returns-else-few
+unfolding packable
 returns-else-few c =
-    sym (walked c ∙ rw (not-false c.loop-at.known c.if-not-known.false, c.if-few.false))
+    let p = c.args.pack.now in
+    let past = c.loop-at-test.false in
+    let walked = bytes_numbered p (le-leb (length p) 60000 (omega (arith, c.if-pack-gt-PACK.false))) (sym c.uncut.ensures ∙ c.if-not-uncut.false)
+    (c.loop-at.invariant.1.0 ∙ over p c.loop-at.at known? c.loop-at.known past) (c.loop-at.invariant.1.1 ∙ over p c.loop-at.at (λ (r : Record). sendable r.body) c.loop-at.few past) in
+    sym (walked ∙ rw (c.if-not-known.false, c.if-few.false))
