@@ -229,6 +229,8 @@ all {t₁} {t₂} (next {c = c₁} {cs = cs₁} g₁ p₁ m₁) (next {c = c₂}
 all {t₁} {t₂} (next {c = c₁} {cs = cs₁} g₁ p₁ m₁) (next {c = c₂} g₂ p₂ m₂) h (pair a rest) v (later x) (later y) =
     let z = quiet_parts t₁ t₂ c₁ c₂ cs₁ g₁ g₂ p₁ h v in
     all m₁ m₂ (left_alike c₁ c₂ p₁ p₂ (start_given t₁ t₂ c₁ c₂ cs₁ g₁ g₂ p₁ h v) a z.0) rest z.1 x y
+all {t₂ = t₂} {cs₂ = cs₂} (Made.none {t = t}) _ h _ v {n = n} {d₁ = d₁} {d₂ = d₂} x _ = elim x [ ]
+all {t₂ = t₂} (next {t = t} {c = c₁} {cs = cs₁} g₁ p₁ m₁) Made.none h x v {n = n} {d₁ = d₁} {d₂ = d₂} _ _ = elim x [ ]
 
 pub secrecy : Secrecy
 secrecy t₁ t₂ cs₁ cs₂ r n c₁ c₂ x y = all r.made₁ r.made₂ r.start r.calls r.hidden x y
