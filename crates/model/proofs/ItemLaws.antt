@@ -5,37 +5,31 @@ use native.Mathlib.Omega.{arith}
 use mathlib.Core.Bool.{Bool, cond, false, true}
 use mathlib.Core.List.{List, [], ◌∷◌}
 use lib.ListN.{get_or, length, length-replicate, length-set, set}
-use lib.Dec.{eqb}
-use borrow.Author.Tests.{eq-eqb, eqb-false}
+use borrow.Author.Tests.{eq-eqb}
 use Rattle.model.specs.declared.Item.{Item}
 use Rattle.model.specs.declared.Item.TheVariants.{Control, Printed, Refused, Sequence}
 use Rattle.model.specs.declared.Sequence.{Sequence as Seq}
 use Rattle.model.specs.declared.Sequence.TheVariants.{Arrows1, Arrows2, Arrows3, CapsOff, CapsOn, Charset, Clear, Copy, CursorKind, CursorOff, CursorOn, Display, DrawDot, EraseLine, EraseRest, InsOff, InsOn, DrawLine, LinesDown, LinesUp, Cover, Mode0, Mode1, Mode2, Mode3, Nothing, NumOff, NumOn, Pattern, PrintCode, Put, Repeat, RepeatDelay, RepeatInterval, SecretOff, SecretOn, Select, Shift, Step, StringsOff, StringsOn, Tracking, WindowBottom, WindowCursor, WindowDown, WindowTop, WindowUp}
 use Rattle.model.specs.declared.Settings.{Settings}
 use Rattle.model.specs.Bytes.{list_from, put}
-use Rattle.model.specs.State.{State, put_at, with_display, with_mode, with_mode3, with_stored}
+use Rattle.model.specs.State.{State, put_at, with_mode, with_mode3, with_stored}
 use Rattle.model.specs.Sequences.{code_of, drawing, idle?, idle_there}
 use Rattle.model.specs.Checks.{InRanges, Passes, in_ranges?, member, range}
-use Rattle.model.specs.Screens.{base, columns_here, columns_of, height, here, lines_of, place_of, screens, size, text_rows}
+use Rattle.model.specs.Screens.{columns_here, columns_of, height, here, lines_of, place_of, screens, text_rows}
 use Rattle.model.specs.Marks.{mark_of, marks_down, marks_up}
 use Rattle.model.specs.Sound.{Good, Inside, Shaped, Sound, array_ranges, key_ranges, mode0, mode1, mode2, plain_ranges, alone_ranges, mode3}
 use Rattle.model.specs.Judging.{legal?, legal_item?, limits_of, ranges, judged_ranges}
-use Rattle.model.specs.Rules.{apply_item, centred, displaying, emptied, flagged, key_line, mode_set, obeyed, placed, with_arrows, with_keys, with_kind_patterns, with_layer, with_led, with_settings}
+use Rattle.model.specs.Rules.{apply_item, centred, flagged, mode_set, obeyed, placed, with_arrows, with_keys, with_kind_patterns, with_led}
 use Rattle.model.specs.Kept.{StillItem, is_mode}
-use Rattle.model.proofs.Frames.{SameScreen, Spared}
+use Rattle.model.proofs.Frames.{SameScreen}
 use Rattle.model.proofs.Tests.{cond_at, differ, ranges-true}
 use Rattle.model.proofs.ByteLaws.{length_down, length_list_from, length-put, length_up}
 use Rattle.model.proofs.MarkLaws.{end_high, end_low, none_marked, sound_ends_down, sound_ends_up}
 use Rattle.model.proofs.Keep.{Kept, height_high, height_low, kept_emptied, kept_flags, kept_layer, kept_refl, kept_stored_only, kept_trans, same_emptied, same_refl, same_trans, shaped_columns, shaped_height, spared, spared_refl, alone_by, both_there, screens_low, screens_most, second_columns, second_height, kept_dots}
+pub use Rattle.model.proofs.DisplayLaws.{Obeyed}
+use Rattle.model.proofs.DisplayLaws.{obeyed_display}
 use Rattle.model.proofs.DotLaws.{length-lined, length-with_dot}
 use Rattle.model.proofs.Steps.{fits, height_fits, kept_at, kept_cleared, kept_control, kept_erased, kept_held, kept_printed, kept_shifted, kept_top, kept_tracked_far, length_mark, sound_marks}
-
--- what an item does: the state stays good; all but a mode setting leave each cell and the cursor of the screen that is not selected as they
--- were, and what is still, all but that and a changed 211, its window too
-pub record Obeyed (a b : State) (mode : Bool) (still : Type 0) : Type 0 where
-  pub good : Good b
-  pub other : mode ≡ false → (k : ℕ) → k < 2 → (k ≡ a.settings.selected → ⊥) → Spared k a b
-  pub window : still → (k : ℕ) → k < 2 → (k ≡ a.settings.selected → ⊥) → SameScreen k a b
 
 -- of what leaves the other screen as it was
 pub quiet : {a b : State} {still : Type 0} → Good b → ((k : ℕ) → k < 2 → (k ≡ a.settings.selected → ⊥) → SameScreen k a b) → Obeyed a b false still
@@ -108,46 +102,6 @@ sound_mode3 s h = record {
 keys : {a : State} → Good a → InRanges (key_ranges a.settings.kind a.settings.keys)
 unfolding plain_ranges
 keys g = g.sound.plain.1.1.1.1.1
-
--- settings under another key display: both tops and the step are held
-sound_display : (n : ℕ) (s : Settings) → Sound s → Passes (range 0 n 1) → (s.mode ≡ 3 → ⊥) → Sound (displaying n s)
-unfolding displaying lines_of columns_of place_of plain_ranges array_ranges key_ranges height text_rows mark_of screens
-sound_display n s h e d =
-    let t : Settings = with_display s n s.places s.step in
-    record {
-      arrays = (omega arith, h.arrays.1);
-      shaped = h.shaped;
-      selected = h.selected;
-      inside = all;
-      step_low = omega (arith, h.step_low, height_low t);
-      step_high = omega arith;
-      plain = search (h.plain, e) depth 30;
-      line = h.line;
-      marked = h.marked;
-      alone = alone_by _ _ _ _ (λ m. absurd (d m));
-    }
-  where
-    all : (k : ℕ) → k < screens s → Inside (displaying n s) k
-    all zero l = omega (arith, h.inside 0 l, shaped_height h.shaped, height_high (with_display s n s.places s.step))
-    all (suc zero) l = omega (arith, h.inside 1 l, second_height h.shaped d, height_high (with_display s n s.places s.step))
-    all (suc (suc k)) l = absurd (omega (arith, screens_most s))
-
--- 211: another display may move both windows, and nothing else of a screen; the one that stands moves nothing
-spared_display : (n : ℕ) (a : State) (k : ℕ) → k < 2 → Spared k a (emptied (with_settings (displaying n a.settings) a))
-unfolding emptied with_layer with_settings displaying lines_of columns_of place_of base size
-spared_display n a zero l = record { same_base = refl; same_lines = refl; same_columns = refl; same_line = refl; same_column = refl; same_late = refl; same_cells = refl; same_marks = refl }
-spared_display n a (suc zero) l = record { same_base = refl; same_lines = refl; same_columns = refl; same_line = refl; same_column = refl; same_late = refl; same_cells = refl; same_marks = refl }
-spared_display n a (suc (suc k)) l = absurd (omega arith)
-
-obeyed_display : (n : ℕ) (a : State) → Good a → Passes (range 0 n 1) → (a.settings.mode ≡ 3 → ⊥) → Obeyed a (key_line n a) false (StillItem (Sequence (Display n)) a)
-unfolding key_line emptied with_layer with_settings displaying
-obeyed_display n a g e d = cond_at (λ (b : State). Obeyed a b false (StillItem (Sequence (Display n)) a)) (eqb n a.settings.display) _ _
-    (λ z. record { good = g; other = λ m k l o. spared_refl k a; window = λ m k l o. same_refl k a })
-    (λ z. record {
-      good = record { sound = sound_display n a.settings g.sound e d; cells_are = g.cells_are; layer_are = length-replicate {A = ℕ} 1280 0; dots_are = g.dots_are };
-      other = λ m k l o. spared_display n a k l;
-      window = λ m. absurd (eqb-false n a.settings.display z (m.1 n refl d));
-    })
 
 -- one of three flags set
 set_low : (l : List ℕ) (w i f : ℕ) → get_or l i 0 ≤ 1 → f ≤ 1 → get_or (set l w f) i 0 ≤ 1

@@ -11,6 +11,7 @@ pub mod Frames
 pub mod Keep
 pub mod Marking
 pub mod Steps
+pub mod DisplayLaws
 pub mod ItemLaws
 pub mod Following
 pub mod Events
