@@ -1,9 +1,13 @@
-// Bytes read into a caller's buffer, from whatever gives some: standard input, a file. A read that fails gives none, as at the end.
+// What the programs read: bytes into a caller's buffer, from whatever gives some, and the files that arguments name. A read that fails gives no byte, as
+// at the end.
 #![tactic(auto)]
+
+mod arguments;
 
 ghost use Rattle.std.specs.Prelude.{◌≤◌, length};
 ghost use Rattle.input.specs.Counts.{IsPrefixLen};
 
+pub use arguments::{is_given, open_named};
 use std::io::Read;
 
 // As many bytes as one read gives, at the start of `buf`: 0 at the end, and where the read fails.
