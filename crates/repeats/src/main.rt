@@ -108,7 +108,7 @@ fn say_codes(out: &impl Print, output: &[u8; 65535], count: u64) {
         if i as u64 == count {
             return;
         }
-        say_code(output, i);
+        say_code(out, output, i);
         i += 1;
     }
 }
