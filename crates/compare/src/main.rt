@@ -4,72 +4,69 @@
 #![tactic(auto)]
 
 ghost use Rattle.std.specs.Prelude.{◌≤◌};
-ghost use Rattle.io.specs.Counts.{IsPrefixLen};
+ghost use Rattle.input.specs.Counts.{IsPrefixLen};
 
 use differences::{Difference, First, Listing};
+use std::io::Read;
+use std::rt::{Env, Files};
 
-fn main() {
+fn main(rt: HostRuntime) {
     let mut first = [0u8; 640];
     let mut second = [0u8; 640];
-    let n = read_named(1, &mut first);
-    let m = read_named(2, &mut second);
+    let n = read_named(&rt, 1, &mut first);
+    let m = read_named(&rt, 2, &mut second);
     let found = differences::first_difference(&first[..n], &second[..m]);
     let listing = differences::compare_in(&first[..n], &second[..m], differences::blank());
-    say_first(found);
-    say_list(listing);
+    say_first(&rt, found);
+    say_list(&rt, listing);
 }
 
 // Reads the file that the argument names, and answers how many bytes it has: 0 if it cannot be read, or has more than a screen, or if there are
-// not two arguments (the program's own name is one more).
-fn read_named(argument: usize, screen: &mut [u8]) -> usize
+// not two arguments.
+fn read_named<R: Env + Files>(rt: &R, argument: usize, screen: &mut [u8]) -> usize
     ensures { IsPrefixLen result screen.new }
 {
-    if os::arg_count() != 3 {
+    if !input::is_given(rt, 2) {
         return 0;
     }
-    let mut path = io::buffer();
-    let length = os::arg(argument, &mut path);
-    if os::errno() != 0 {
+    if input::is_given(rt, 3) {
         return 0;
     }
-    let fd = os::open_read(&path[..length]);
-    if fd < 0 {
-        return 0;
+    match input::open_named(rt, argument) {
+        Some(mut file) => read_all(&mut file, screen),
+        None => 0,
     }
-    let count = read_all(fd, screen);
-    libc::close(fd);
-    count
 }
 
 // After the screen's bytes there must be the file's end: no byte more, and no fault.
-fn read_all(fd: i32, screen: &mut [u8]) -> usize
+fn read_all<F: Read>(file: &mut F, screen: &mut [u8]) -> usize
     ensures { IsPrefixLen result screen.new }
 {
-    let count = io::read_full(fd, screen);
+    let count = input::read_full(file, screen);
     let mut more = [0u8; 1];
-    let rest = libc::read(fd, &mut more);
-    if rest != 0 {
-        return 0;
+    match file.read(&mut more) {
+        Ok(0) => count,
+        Ok(_) => 0,
+        Err(_) => 0,
     }
-    count
 }
 
-fn say_first(found: First) {
+fn say_first(out: &impl Print, found: First) {
     match found {
         First::At(difference) => {
-            report::say(b"first ");
-            say_record(difference);
+            report::say(out, b"first ");
+            say_record(out, difference);
         }
-        First::Nothing => report::say(b"none\n"),
+        First::Nothing => report::say(out, b"none\n"),
         First::Refused(number) => {
-            report::say_byte(b"refused ", number);
-            report::say(b"\n");
+            report::say_byte(out, b"refused ", number);
+            report::say(out, b"\n");
         }
     }
 }
 
 // The records that the call counted: none, if it was refused.
-fn say_list(listing: Listing)
+fn say_list(out: &impl Print, listing: Listing)
     requires { listing.answer.count ≤ 640 }
 {
     let list = listing.list;
@@ -78,15 +75,15 @@ fn say_list(listing: Listing)
     let mut k: usize = 0;
     while k < count {
         let record = list[k];
-        say_record(record);
+        say_record(out, record);
         k += 1;
     }
 }
 
-fn say_record(difference: Difference) {
-    report::say_byte(b"", difference.row);
-    report::say_byte(b" ", difference.column);
-    report::say_byte(b" ", difference.first);
-    report::say_byte(b" ", difference.second);
-    report::say(b"\n");
+fn say_record(out: &impl Print, difference: Difference) {
+    report::say_byte(out, b"", difference.row);
+    report::say_byte(out, b" ", difference.column);
+    report::say_byte(out, b" ", difference.first);
+    report::say_byte(out, b" ", difference.second);
+    report::say(out, b"\n");
 }

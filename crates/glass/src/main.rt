@@ -8,11 +8,11 @@
 mod cursor_place;
 mod totals;
 
-ghost use Rattle.io.specs.Counts.{IsPrefixLen};
+ghost use Rattle.input.specs.Counts.{IsPrefixLen};
 
 use glass_drawing::{curve, drawing};
-use libc::{STDIN_FILENO, STDOUT_FILENO};
 use model::{Answer, CELLS, DOTS, LAYER, Outcome, SHOWN, Settings};
+use std::io::Read;
 
 // The stream as its last call left it: the settings, and the counts of all its calls.
 #[derive(Clone, Copy)]
@@ -23,18 +23,20 @@ struct Stream {
 
 // One part has at most 256 bytes. With an ESC that waited it asks for at most 128 copies, in mode 3 of all dots, so that none is refused for want of
 // room.
-fn main() {
+fn main(rt: HostRuntime) {
+    let mut from = rt.stdin();
     let mut cells = [0u8; CELLS];
     let mut layer = [0u8; LAYER];
     let mut shown = [0u8; SHOWN];
     let mut dots = [0u8; DOTS];
     let mut printer = [0u8; 128 * DOTS];
     let mut part = [0u8; 256];
-    let mut stream = open(&mut cells, &mut layer, &mut shown, &mut dots);
-    let mut length = next_part(stream.total.number, &mut part);
+    let mut stream = open(&rt, &mut cells, &mut layer, &mut shown, &mut dots);
+    let mut length = next_part(&mut from, stream.total.number, &mut part);
     let mut turns = u64::MAX;
     while turns > 0 && length > 0 {
         stream = take(
+            &rt,
             stream,
             &part[..length],
             &mut cells,
@@ -43,35 +45,41 @@ fn main() {
             &mut dots,
             &mut printer,
         );
-        length = next_part(stream.total.number, &mut part);
+        length = next_part(&mut from, stream.total.number, &mut part);
         turns -= 1;
     }
-    close(stream, &mut cells, &mut layer, &mut shown, &mut dots);
+    close(&rt, stream, &mut cells, &mut layer, &mut shown, &mut dots);
 }
 
 // As much as one read gives: nothing at the input's end, where the read fails, and after a call that was refused by a number.
-fn next_part(number: u8, part: &mut [u8]) -> usize
+fn next_part<R: Read>(from: &mut R, number: u8, part: &mut [u8]) -> usize
     ensures { IsPrefixLen result part.new }
 {
     if number != 0 {
         return 0;
     }
-    let got = libc::read(STDIN_FILENO, part);
-    io::count(got, part)
+    input::read_once(from, part)
 }
 
 // A blank glass.
-fn open(cells: &mut [u8], layer: &mut [u8], shown: &mut [u8; SHOWN], dots: &mut [u8]) -> Stream {
+fn open(
+    out: &impl Print,
+    cells: &mut [u8],
+    layer: &mut [u8],
+    shown: &mut [u8; SHOWN],
+    dots: &mut [u8],
+) -> Stream {
     let opened = terminal::opening(1, cells, layer, shown, dots);
     let settings = opened.settings;
     let total = totals::none();
-    report::say(b"\x1b[H\x1b[2J");
-    say_under(settings, total);
+    report::say(out, b"\x1b[H\x1b[2J");
+    say_under(out, settings, total);
     Stream { settings, total }
 }
 
 // A piece. One that would take the count past its limit is refused by 15, which ends the stream.
 fn take(
+    out: &impl Print,
     stream: Stream,
     piece: &[u8],
     cells: &mut [u8],
@@ -83,12 +91,13 @@ fn take(
     let before = *shown;
     let given = stream.settings;
     let outcome = stream_piece::piece(given, piece, cells, layer, shown, dots, printer);
-    say_curve(given.mode, outcome.settings.mode, dots);
-    redrawn(stream.total, outcome, &before, shown)
+    say_curve(out, given.mode, outcome.settings.mode, dots);
+    redrawn(out, stream.total, outcome, &before, shown)
 }
 
 // The closing. What the terminal shows next comes under the glass.
 fn close(
+    out: &impl Print,
     stream: Stream,
     cells: &mut [u8],
     layer: &mut [u8],
@@ -99,44 +108,50 @@ fn close(
     let given = stream.settings;
     let outcome = stream_closing::closing(given, cells, layer, shown, dots);
     let mode = outcome.settings.mode;
-    say_curve(given.mode, mode, dots);
-    redrawn(stream.total, outcome, &before, shown);
+    say_curve(out, given.mode, mode, dots);
+    redrawn(out, stream.total, outcome, &before, shown);
     if mode == 3 {
-        report::say(b"\x1b[19;01H");
+        report::say(out, b"\x1b[19;01H");
     } else {
-        report::say(b"\x1b[10;01H");
+        report::say(out, b"\x1b[10;01H");
     }
 }
 
 // The dots below, in mode 3; they are put away when it is left.
-fn say_curve(before: u8, now: u8, dots: &[u8]) {
+fn say_curve(out: &impl Print, before: u8, now: u8, dots: &[u8]) {
     if now == 3 {
-        curve::say(dots);
+        curve::say(out, dots);
     } else if before == 3 {
-        report::say(b"\x1b[10;01H\x1b[J");
+        report::say(out, b"\x1b[10;01H\x1b[J");
     }
 }
 
 // What a call left is drawn over what stood on the glass.
-fn redrawn(total: Answer, outcome: Outcome, before: &[u8; SHOWN], shown: &[u8; SHOWN]) -> Stream {
+fn redrawn(
+    out: &impl Print,
+    total: Answer,
+    outcome: Outcome,
+    before: &[u8; SHOWN],
+    shown: &[u8; SHOWN],
+) -> Stream {
     let settings = outcome.settings;
     let total = totals::added(total, outcome.answer);
     let drawn = drawing::draw(before, shown);
     let bytes = drawn.bytes;
     let length = drawn.length;
-    io::write_all(STDOUT_FILENO, &bytes[..length]);
-    say_under(settings, total);
+    report::say(out, &bytes[..length]);
+    say_under(out, settings, total);
     Stream { settings, total }
 }
 
 // The line under the rows, and the cursor.
-fn say_under(settings: Settings, total: Answer) {
-    report::say(b"\x1b[9;01H");
-    report::say_answer(total);
-    report::say_byte(b" parameter ", total.parameter);
-    report::say(b"\x1b[K");
+fn say_under(out: &impl Print, settings: Settings, total: Answer) {
+    report::say(out, b"\x1b[9;01H");
+    report::say_answer(out, total);
+    report::say_byte(out, b" parameter ", total.parameter);
+    report::say(out, b"\x1b[K");
     let place = cursor_place::place(settings);
     if place < 640 {
-        report::say(&drawing::address(place));
+        report::say(out, &drawing::address(place));
     }
 }

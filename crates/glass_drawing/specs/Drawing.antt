@@ -2,7 +2,7 @@
 -- changed". What is asked of the terminal is a list of strokes; the bytes are those of ECMA-48. What a terminal that reads them then shows is
 -- said in Seen, which knows nothing of strokes.
 use Rattle.std.specs.Prelude.{◌≡◌, ℕ, zero, suc, ◌+◌, ◌-◌, ◌/◌, ◌%◌, ◌≤◌, Bool, cond, not, ◌||◌, List, [], ◌∷◌, ◌++◌, get_or, take, eqb}
-use Rattle.io.specs.Counts.{IsPrefixLen}
+use Rattle.input.specs.Counts.{IsPrefixLen}
 use Rattle.report.specs.Letters.{letter}
 use Rattle.glass_drawing.specs.declared.drawing.Drawn.{Drawn}
 use Rattle.glass_drawing.specs.Seen.{Redraws}

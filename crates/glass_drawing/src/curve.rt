@@ -6,15 +6,15 @@ ghost use Rattle.glass_drawing.specs.Curve.{letter_of, letters_to, pattern_of, r
 use model::DOTS;
 
 // In rows 11 to 18 of the terminal.
-pub fn say(dots: &[u8]) {
+pub fn say(out: &impl Print, dots: &[u8]) {
     if dots.len() != DOTS {
         return;
     }
     let mut row: usize = 0;
     while row < 8 {
-        report::say_number(b"\x1b[", row as u64 + 11);
-        report::say(b";01H");
-        report::say(&row_of(dots, row));
+        report::say_number(out, b"\x1b[", row as u64 + 11);
+        report::say(out, b";01H");
+        report::say(out, &row_of(dots, row));
         row += 1;
     }
 }

@@ -5,15 +5,15 @@
 ghost use Rattle.std.specs.Prelude.{◌≡◌, cond, eqb};
 ghost use Rattle.tables.specs.Lengths.{length_of};
 
-fn main() {
+fn main(rt: HostRuntime) {
     let mut second: u16 = 0;
     while second < 256 {
-        say_length(listed(second as u8));
+        say_length(&rt, listed(second as u8));
         second += 1;
     }
     let mut mode: u16 = 0;
     while mode < 256 {
-        say_length(tables::length_of(208, mode as u8));
+        say_length(&rt, tables::length_of(208, mode as u8));
         mode += 1;
     }
 }
@@ -29,7 +29,7 @@ fn listed(second: u8) -> usize
     }
 }
 
-fn say_length(length: usize) {
-    report::say_number(b"", length as u64);
-    report::say(b"\n");
+fn say_length(out: &impl Print, length: usize) {
+    report::say_number(out, b"", length as u64);
+    report::say(out, b"\n");
 }

@@ -19,15 +19,16 @@ pub struct Played {
 const ROOM: usize = 1312;
 
 // A key text: its first byte is the key's number.
-pub fn play_key_record(number: u64, played: Played, body: &[u8]) -> Played {
+pub fn play_key_record(out: &impl Print, number: u64, played: Played, body: &[u8]) -> Played {
     if body.len() == 0 {
         return played;
     }
-    play_key(number, played, body[0], &body[1..])
+    play_key(out, number, played, body[0], &body[1..])
 }
 
 // An opening: its only byte is the rule.
 pub fn play_opening_record(
+    out: &impl Print,
     number: u64,
     played: Played,
     body: &[u8],
@@ -39,7 +40,7 @@ pub fn play_opening_record(
     if body.len() == 0 {
         return played;
     }
-    play_opening(number, played, body[0], cells, layer, shown, dots)
+    play_opening(out, number, played, body[0], cells, layer, shown, dots)
 }
 
 // From an opening by rule 1; no printer bytes yet.
@@ -56,14 +57,14 @@ pub fn open(cells: &mut [u8], layer: &mut [u8], shown: &mut [u8], dots: &mut [u8
 }
 
 // A key call, and its line: `K answer A`. It is lent no store, and prints nothing.
-pub fn play_key(number: u64, played: Played, key: u8, text: &[u8]) -> Played
+pub fn play_key(out: &impl Print, number: u64, played: Played, key: u8, text: &[u8]) -> Played
     ensures { KeyPlayed key text.now played result }
 {
     let before = played.settings;
     let outcome = terminal::key(before, key as usize, text);
     let settings = outcome.settings;
     let answer = outcome.answer;
-    say_short(number, answer.number);
+    say_short(out, number, answer.number);
     Played {
         settings,
         printer: played.printer,
@@ -73,6 +74,7 @@ pub fn play_key(number: u64, played: Played, key: u8, text: &[u8]) -> Played
 
 // An opening by a rule, and its line: `K answer A`. What it returns is used from then on, also where it was refused.
 pub fn play_opening(
+    out: &impl Print,
     number: u64,
     played: Played,
     rule: u8,
@@ -85,7 +87,7 @@ pub fn play_opening(
 {
     let opened = terminal::opening(rule as usize, cells, layer, shown, dots);
     let settings = opened.settings;
-    say_short(number, opened.number);
+    say_short(out, number, opened.number);
     Played {
         settings,
         printer: played.printer,
@@ -94,12 +96,12 @@ pub fn play_opening(
 }
 
 // Another printer room from here on, and its line: `K room N`.
-pub fn play_room(number: u64, played: Played, body: &[u8]) -> Played {
+pub fn play_room(out: &impl Print, number: u64, played: Played, body: &[u8]) -> Played {
     let room = room_of(body);
     if number != 0 {
-        report::say_number(b"", number);
-        report::say_number(b" room ", room as u64);
-        report::say(b"\n");
+        report::say_number(out, b"", number);
+        report::say_number(out, b" room ", room as u64);
+        report::say(out, b"\n");
     }
     let settings = played.settings;
     Played {
@@ -110,10 +112,16 @@ pub fn play_room(number: u64, played: Played, body: &[u8]) -> Played {
 }
 
 // The line of a call; what it left, and the sum over its printer bytes, is handed on.
-pub fn told(number: u64, played: Played, outcome: Outcome, printer: &[u8]) -> Played
+pub fn told(
+    out: &impl Print,
+    number: u64,
+    played: Played,
+    outcome: Outcome,
+    printer: &[u8],
+) -> Played
     ensures { Told played outcome printer.now result }
 {
-    say_line(number, outcome.answer);
+    say_line(out, number, outcome.answer);
     summed(played, outcome, printer)
 }
 
@@ -132,39 +140,39 @@ pub fn summed(played: Played, outcome: Outcome, printer: &[u8]) -> Played
 }
 
 // `K answer A`; nothing with number 0.
-fn say_short(number: u64, answer: u8) {
+fn say_short(out: &impl Print, number: u64, answer: u8) {
     if number == 0 {
         return;
     }
-    report::say_number(b"", number);
-    report::say_byte(b" answer ", answer);
-    report::say(b"\n");
+    report::say_number(out, b"", number);
+    report::say_byte(out, b" answer ", answer);
+    report::say(out, b"\n");
 }
 
 // `K answer A taken T accepted C refused R first F at O printed P parameter N`; nothing with number 0.
-fn say_line(number: u64, answer: Answer) {
+fn say_line(out: &impl Print, number: u64, answer: Answer) {
     if number == 0 {
         return;
     }
-    say_counts(number, answer);
-    report::say(b"\n");
+    say_counts(out, number, answer);
+    report::say(out, b"\n");
 }
 
 // The same with ` record N` at its end.
-pub fn say_pack(number: u64, answer: Answer, record: u32) {
+pub fn say_pack(out: &impl Print, number: u64, answer: Answer, record: u32) {
     if number == 0 {
         return;
     }
-    say_counts(number, answer);
-    report::say_number(b" record ", record as u64);
-    report::say(b"\n");
+    say_counts(out, number, answer);
+    report::say_number(out, b" record ", record as u64);
+    report::say(out, b"\n");
 }
 
 // A line's words, but for its end.
-fn say_counts(number: u64, answer: Answer) {
-    report::say_number(b"", number);
-    report::say(b" ");
-    report::say_answer(answer);
-    report::say_number(b" printed ", answer.printed as u64);
-    report::say_byte(b" parameter ", answer.parameter);
+fn say_counts(out: &impl Print, number: u64, answer: Answer) {
+    report::say_number(out, b"", number);
+    report::say(out, b" ");
+    report::say_answer(out, answer);
+    report::say_number(out, b" printed ", answer.printed as u64);
+    report::say_byte(out, b" parameter ", answer.parameter);
 }

@@ -10,6 +10,7 @@ use playing::{Played, say_pack, summed, told};
 
 // One message call, and its line.
 pub fn play_message(
+    out: &impl Print,
     number: u64,
     played: Played,
     message: &[u8],
@@ -23,11 +24,12 @@ pub fn play_message(
 {
     let before = played.settings;
     let outcome = terminal::message(before, message, cells, layer, shown, dots, printer);
-    told(number, played, outcome, printer)
+    told(out, number, played, outcome, printer)
 }
 
 // One short message, and its line.
 pub fn play_short(
+    out: &impl Print,
     number: u64,
     played: Played,
     message: &[u8],
@@ -41,11 +43,12 @@ pub fn play_short(
 {
     let before = played.settings;
     let outcome = short::message_short(before, message, cells, layer, shown, dots, printer);
-    told(number, played, outcome, printer)
+    told(out, number, played, outcome, printer)
 }
 
 // One piece of a stream, and its line.
 pub fn play_piece(
+    out: &impl Print,
     number: u64,
     played: Played,
     piece: &[u8],
@@ -59,11 +62,12 @@ pub fn play_piece(
 {
     let before = played.settings;
     let outcome = stream_piece::piece(before, piece, cells, layer, shown, dots, printer);
-    told(number, played, outcome, printer)
+    told(out, number, played, outcome, printer)
 }
 
 // One pack of messages, and its line: a message's, and the record of the first refusal.
 pub fn play_pack(
+    out: &impl Print,
     number: u64,
     played: Played,
     pack: &[u8],
@@ -79,12 +83,13 @@ pub fn play_pack(
     let packed = packs::pack(before, pack, cells, layer, shown, dots, printer);
     let settings = packed.settings;
     let answer = packed.answer;
-    say_pack(number, answer, packed.record);
+    say_pack(out, number, answer, packed.record);
     summed(played, Outcome { settings, answer }, printer)
 }
 
 // The closing of a stream, and its line. It is lent no printer buffer.
 pub fn play_closing(
+    out: &impl Print,
     number: u64,
     played: Played,
     cells: &mut [u8],
@@ -97,5 +102,5 @@ pub fn play_closing(
     let before = played.settings;
     let outcome = stream_closing::closing(before, cells, layer, shown, dots);
     let none = [0u8; 0];
-    told(number, played, outcome, &none)
+    told(out, number, played, outcome, &none)
 }

@@ -1,11 +1,12 @@
-// Recordings of calls, read record by record from standard input: body length and kind, two bytes each, little-endian, then the body.
+// Recordings of calls, read record by record: body length and kind, two bytes each, little-endian, then the body.
 #![tactic(auto)]
 
 ghost use Rattle.std.specs.Prelude.{◌≡◌, ◌+◌, ◌*◌, ◌≤◌};
 
-use libc::STDIN_FILENO;
+use input::read_full;
+use std::io::Read;
 
-// What stands at the input: its end, a record that is cut, or a whole record, whose body is in the caller's buffer.
+// What stands next in a recording: its end, a record that is cut, or a whole record, whose body is in the caller's buffer.
 #[derive(Clone, Copy)]
 pub enum Record {
     End,
@@ -26,9 +27,9 @@ pub struct Next {
 
 // The next record; the start of `body` is its body. Callers lend 65,536 bytes, in which every body fits. It only reads: what comes in
 // is not for a contract to say.
-pub fn next_record(body: &mut [u8]) -> Record {
+pub fn next_record<R: Read>(from: &mut R, body: &mut [u8]) -> Record {
     let mut head = [0u8; 4];
-    let came = io::read_full(STDIN_FILENO, &mut head);
+    let came = read_full(from, &mut head);
     if came == 0 {
         return Record::End;
     }
@@ -42,7 +43,7 @@ pub fn next_record(body: &mut [u8]) -> Record {
     if end > body.len() {
         return Record::Cut;
     }
-    let filled = io::read_full(STDIN_FILENO, &mut body[start..end]);
+    let filled = read_full(from, &mut body[start..end]);
     if filled < end {
         return Record::Cut;
     }
@@ -57,10 +58,10 @@ pub fn little(low: u8, high: u8) -> u16
 }
 
 // The next record, or the recording's end: after its last byte, or at a record that is cut, passes the limit or asks for nothing.
-pub fn next_call(left: usize, body: &mut [u8]) -> Next
+pub fn next_call<R: Read>(from: &mut R, left: usize, body: &mut [u8]) -> Next
     ensures { (result.size ≤ left) × (result.size ≤ 65539) }
 {
-    match next_record(body) {
+    match next_record(from, body) {
         Record::End => ended(false),
         Record::Cut => ended(true),
         Record::Whole { kind, length } => {

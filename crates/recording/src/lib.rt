@@ -8,6 +8,7 @@ use playing_messages::{play_closing, play_message, play_pack, play_piece, play_s
 // What a record asks for, its line with that number; with number 0 it is done with no word. Other kinds than these eight never come here, nor a body
 // that is too short for its kind.
 pub fn play(
+    out: &impl Print,
     number: u64,
     kind: u16,
     played: Played,
@@ -19,10 +20,10 @@ pub fn play(
     printer: &mut [u8],
 ) -> Played {
     match kind {
-        3 => play_closing(number, played, cells, layer, shown, dots),
-        4 => play_key_record(number, played, body),
-        7 => play_opening_record(number, played, body, cells, layer, shown, dots),
-        8 => play_room(number, played, body),
+        3 => play_closing(out, number, played, cells, layer, shown, dots),
+        4 => play_key_record(out, number, played, body),
+        7 => play_opening_record(out, number, played, body, cells, layer, shown, dots),
+        8 => play_room(out, number, played, body),
         _ => {
             let start: usize = 0;
             let end = played.room;
@@ -30,13 +31,16 @@ pub fn play(
                 return played;
             }
             let room = &mut printer[start..end];
-            play_sent(number, kind, played, body, cells, layer, shown, dots, room)
+            play_sent(
+                out, number, kind, played, body, cells, layer, shown, dots, room,
+            )
         }
     }
 }
 
 // A call that is lent a printer buffer.
 fn play_sent(
+    out: &impl Print,
     number: u64,
     kind: u16,
     played: Played,
@@ -48,9 +52,17 @@ fn play_sent(
     printer: &mut [u8],
 ) -> Played {
     match kind {
-        2 => play_piece(number, played, body, cells, layer, shown, dots, printer),
-        5 => play_pack(number, played, body, cells, layer, shown, dots, printer),
-        6 => play_short(number, played, body, cells, layer, shown, dots, printer),
-        _ => play_message(number, played, body, cells, layer, shown, dots, printer),
+        2 => play_piece(
+            out, number, played, body, cells, layer, shown, dots, printer,
+        ),
+        5 => play_pack(
+            out, number, played, body, cells, layer, shown, dots, printer,
+        ),
+        6 => play_short(
+            out, number, played, body, cells, layer, shown, dots, printer,
+        ),
+        _ => play_message(
+            out, number, played, body, cells, layer, shown, dots, printer,
+        ),
     }
 }

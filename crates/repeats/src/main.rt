@@ -4,8 +4,9 @@
 
 ghost use Rattle.std.specs.Prelude.{◌<◌, ◌≤◌, length};
 
-use libc::STDIN_FILENO;
 use model::Settings;
+use std::io::Read;
+use std::rt::{Env, Files};
 
 // What the argument names: whether it can be read, and how many bytes of the caller's buffer it has. With no argument it is the empty message.
 #[derive(Clone, Copy)]
@@ -15,47 +16,47 @@ struct Named {
 }
 
 // One byte more than a message and a trace may have, so that longer ones are refused and not cut.
-fn main() {
+fn main(rt: HostRuntime) {
     let mut message = [0u8; 4097];
-    let named = read_message(&mut message);
+    let named = read_message(&rt, &mut message);
     let length = named.length;
     if named.readable {
         let settings = left_by(&message[..length]);
-        work_out(settings);
+        work_out(&rt, &mut rt.stdin(), settings);
     } else {
-        report::say(b"bad file\n");
+        report::say(&rt, b"bad file\n");
     }
 }
 
 // The message that the first argument names.
-fn read_message(message: &mut [u8]) -> Named
+fn read_message<R: Env + Files>(rt: &R, message: &mut [u8]) -> Named
     ensures { result.length ≤ length message.old }
 {
-    if os::arg_count() < 2 {
+    if !input::is_given(rt, 1) {
         return Named {
             readable: true,
             length: 0,
         };
     }
-    let mut path = io::buffer();
-    let size = os::arg(1, &mut path);
-    if os::errno() != 0 {
-        return unreadable();
+    match input::open_named(rt, 1) {
+        Some(mut file) => read_file(&mut file, message),
+        None => unreadable(),
     }
-    let file = os::open_read(&path[..size]);
-    if file < 0 {
-        return unreadable();
-    }
-    let first = libc::read(file, message);
-    if first < 0 {
-        return unreadable();
-    }
-    let start = io::count(first, message);
-    let more = io::read_full(file, &mut message[start..]);
-    libc::close(file);
-    Named {
-        readable: true,
-        length: start + more,
+}
+
+// The message in a file, which cannot be read where its first read fails.
+fn read_file<F: Read>(file: &mut F, message: &mut [u8]) -> Named
+    ensures { result.length ≤ length message.old }
+{
+    match file.read(message) {
+        Ok(start) => {
+            let more = input::read_full(file, &mut message[start..]);
+            Named {
+                readable: true,
+                length: start + more,
+            }
+        }
+        Err(_) => unreadable(),
     }
 }
 
@@ -89,36 +90,36 @@ fn left_by(message: &[u8]) -> Settings {
     outcome.settings
 }
 
-fn work_out(settings: Settings) {
+fn work_out<R: Read>(out: &impl Print, from: &mut R, settings: Settings) {
     let mut trace = [0u8; 60001];
-    let length = io::read_full(STDIN_FILENO, &mut trace);
+    let length = input::read_full(from, &mut trace);
     let mut output = [0u8; 65535];
     let repeats = traces::key_repeats(settings, &trace[..length], &mut output);
-    report::say_byte(b"answer ", repeats.number);
-    report::say_number(b" codes ", repeats.count);
-    report::say(b"\n");
-    say_codes(&output, repeats.count);
+    report::say_byte(out, b"answer ", repeats.number);
+    report::say_number(out, b" codes ", repeats.count);
+    report::say(out, b"\n");
+    say_codes(out, &output, repeats.count);
 }
 
 // The first `count` codes of the output, which has room for 13,107.
-fn say_codes(output: &[u8; 65535], count: u64) {
+fn say_codes(out: &impl Print, output: &[u8; 65535], count: u64) {
     let mut i: usize = 0;
     while i < 13107 {
         if i as u64 == count {
             return;
         }
-        say_code(output, i);
+        say_code(out, output, i);
         i += 1;
     }
 }
 
-fn say_code(output: &[u8; 65535], i: usize)
+fn say_code(out: &impl Print, output: &[u8; 65535], i: usize)
     requires { i < 13107 }
 {
     let at = i * 5;
     let low = records::little(output[at], output[at + 1]);
     let high = records::little(output[at + 2], output[at + 3]);
-    report::say_number(b"", low as u64 + 65536 * (high as u64));
-    report::say_byte(b" ", output[at + 4]);
-    report::say(b"\n");
+    report::say_number(out, b"", low as u64 + 65536 * (high as u64));
+    report::say_byte(out, b" ", output[at + 4]);
+    report::say(out, b"\n");
 }

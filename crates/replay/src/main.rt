@@ -5,7 +5,8 @@ use model::{CELLS, DOTS, LAYER, SHOWN};
 use record_input::MOST_ROOM;
 
 // A recording holds at most 1,000,000 bytes.
-fn main() {
+fn main(rt: HostRuntime) {
+    let mut from = rt.stdin();
     let mut cells = [0u8; CELLS];
     let mut layer = [0u8; LAYER];
     let mut shown = [0u8; SHOWN];
@@ -15,10 +16,11 @@ fn main() {
     let mut played = playing::open(&mut cells, &mut layer, &mut shown, &mut dots);
     let mut number: u64 = 1;
     let mut left: usize = 1000000;
-    let mut next = record_input::next_call(left, &mut body);
+    let mut next = record_input::next_call(&mut from, left, &mut body);
     while next.size >= 4 {
         let length = next.size - 4;
         played = recording::play(
+            &rt,
             number,
             next.kind,
             played,
@@ -31,12 +33,12 @@ fn main() {
         );
         number += 1;
         left -= next.size;
-        next = record_input::next_call(left, &mut body);
+        next = record_input::next_call(&mut from, left, &mut body);
     }
     if next.bad {
-        report::say_number(b"", number);
-        report::say(b" bad record\n");
+        report::say_number(&rt, b"", number);
+        report::say(&rt, b" bad record\n");
     }
     let settings = played.settings;
-    report::say_standing(settings, &cells, &layer, &shown, &dots, played.printer);
+    report::say_standing(&rt, settings, &cells, &layer, &shown, &dots, played.printer);
 }

@@ -2,23 +2,23 @@
 ghost use Rattle.std.specs.Prelude.{◌≡◌, ◌<◌};
 ghost use Rattle.report.specs.Letters.{letter};
 
-use libc::STDOUT_FILENO;
+use crate::{say, say_number};
 use model::SHOWN;
 
 // The eight rows of the shown screen, each a line with its number.
-pub fn say_rows(shown: &[u8; SHOWN]) {
+pub fn say_rows(out: &impl Print, shown: &[u8; SHOWN]) {
     let mut r: usize = 0;
     while r < 8 {
-        say_row(shown, r);
+        say_row(out, shown, r);
         r += 1;
     }
 }
 
 // Row r from 0. The line after its number starts with a blank, which goes too where the row is blank.
-fn say_row(shown: &[u8; SHOWN], r: usize)
+fn say_row(out: &impl Print, shown: &[u8; SHOWN], r: usize)
     requires { r < 8 }
 {
-    io::print_decimal(STDOUT_FILENO, r as u64 + 1);
+    say_number(out, b"", r as u64 + 1);
     let mut line = [32u8; 82];
     let mut end: usize = 0;
     let mut i: usize = 0;
@@ -33,7 +33,7 @@ fn say_row(shown: &[u8; SHOWN], r: usize)
     }
     line[end] = 10;
     let length = end + 1;
-    io::write_all(STDOUT_FILENO, &line[..length]);
+    say(out, &line[..length]);
 }
 
 // The letter of a code: "codes outside 32 to 126 as a dot".

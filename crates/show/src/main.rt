@@ -1,13 +1,12 @@
 // Reads a message from standard input, plays it from an opening with printer room 656, and prints the answer and the rows.
 #![tactic(auto)]
 
-use libc::STDIN_FILENO;
 use model::{CELLS, COPY, DOTS, LAYER, MESSAGE, SHOWN};
 
 // One byte more than a message may have, so that a longer one is refused and not cut.
-fn main() {
+fn main(rt: HostRuntime) {
     let mut message = [0u8; MESSAGE + 1];
-    let length = io::read_full(STDIN_FILENO, &mut message);
+    let length = input::read_full(&mut rt.stdin(), &mut message);
     let mut cells = [0u8; CELLS];
     let mut layer = [0u8; LAYER];
     let mut shown = [0u8; SHOWN];
@@ -25,7 +24,7 @@ fn main() {
         &mut printer,
     );
     let answer = outcome.answer;
-    report::say_answer(answer);
-    report::say(b"\n");
-    report::say_rows(&shown);
+    report::say_answer(&rt, answer);
+    report::say(&rt, b"\n");
+    report::say_rows(&rt, &shown);
 }

@@ -27,7 +27,8 @@ struct Case {
     stage: u8,
 }
 
-fn main() {
+fn main(rt: HostRuntime) {
+    let mut from = rt.stdin();
     let mut cells = [0u8; CELLS];
     let mut layer = [0u8; LAYER];
     let mut shown = [0u8; SHOWN];
@@ -37,9 +38,10 @@ fn main() {
     let mut case = new_case(BEFORE, &mut cells, &mut layer, &mut shown, &mut dots);
     let mut turns = u64::MAX;
     while turns > 0 && case.stage != OVER {
-        let record = record_input::next_record(&mut body);
+        let record = record_input::next_record(&mut from, &mut body);
         let length = body_length(record);
         case = step(
+            &rt,
             case,
             record,
             &body[..length],
@@ -82,6 +84,7 @@ fn new_case(
 
 // One record, or the end of the file.
 fn step(
+    out: &impl Print,
     case: Case,
     record: Record,
     body: &[u8],
@@ -93,36 +96,44 @@ fn step(
 ) -> Case {
     match record {
         Record::End => {
-            say_case(case, cells, layer, shown, dots);
+            say_case(out, case, cells, layer, shown, dots);
             over(case)
         }
-        Record::Cut => bad_record(case),
+        Record::Cut => bad_record(out, case),
         Record::Whole { kind, length: _ } => match kind {
             0 => {
-                say_case(case, cells, layer, shown, dots);
-                report::say(b"case ");
-                report::say(body);
-                report::say(b"\n");
+                say_case(out, case, cells, layer, shown, dots);
+                report::say(out, b"case ");
+                report::say(out, body);
+                report::say(out, b"\n");
                 new_case(INSIDE, cells, layer, shown, dots)
             }
-            1 => message(case, body, cells, layer, shown, dots, printer),
-            2 => with_room(case, body),
-            _ => bad_record(case),
+            1 => message(out, case, body, cells, layer, shown, dots, printer),
+            2 => with_room(out, case, body),
+            _ => bad_record(out, case),
         },
     }
 }
 
 // What stands at a case's end.
-fn say_case(case: Case, cells: &[u8], layer: &[u8], shown: &[u8; 640], dots: &[u8]) {
+fn say_case(
+    out: &impl Print,
+    case: Case,
+    cells: &[u8],
+    layer: &[u8],
+    shown: &[u8; 640],
+    dots: &[u8],
+) {
     if case.stage == INSIDE {
         let played = case.played;
         let settings = played.settings;
-        report::say_standing(settings, cells, layer, shown, dots, played.printer);
+        report::say_standing(out, settings, cells, layer, shown, dots, played.printer);
     }
 }
 
 // A message, in a case and with a room that the buffer has.
 fn message(
+    out: &impl Print,
     case: Case,
     message: &[u8],
     cells: &mut [u8],
@@ -132,14 +143,15 @@ fn message(
     printer: &mut [u8],
 ) -> Case {
     if case.stage != INSIDE {
-        return bad_record(case);
+        return bad_record(out, case);
     }
     let start: usize = 0;
     let end = case.room;
     if end > printer.len() {
-        return bad_record(case);
+        return bad_record(out, case);
     }
     let played = playing_messages::play_message(
+        out,
         case.number,
         case.played,
         message,
@@ -157,9 +169,9 @@ fn message(
     }
 }
 
-fn with_room(case: Case, body: &[u8]) -> Case {
+fn with_room(out: &impl Print, case: Case, body: &[u8]) -> Case {
     if body.len() != 4 {
-        return bad_record(case);
+        return bad_record(out, case);
     }
     let low = record_input::little(body[0], body[1]);
     let high = record_input::little(body[2], body[3]);
@@ -172,8 +184,8 @@ fn with_room(case: Case, body: &[u8]) -> Case {
     }
 }
 
-fn bad_record(case: Case) -> Case {
-    report::say(b"bad record\n");
+fn bad_record(out: &impl Print, case: Case) -> Case {
+    report::say(out, b"bad record\n");
     over(case)
 }
 

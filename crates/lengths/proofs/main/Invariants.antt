@@ -1,6 +1,5 @@
 -- `lengths::main` is safe and ends: 256 second bytes, then 256 mode bytes.
 use Prim.Native.Nat.{◌-◌, ◌≤◌}
-use borrow.Author.Rules.{rules}
 use Rattle.lengths.proofs.main.Given as goal
 
 abbrev pub invariant-loop-second : goal.invariant-loop-second

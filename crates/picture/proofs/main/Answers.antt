@@ -1,11 +1,9 @@
 -- `picture::main` is safe and ends: the stores keep their sizes, a body fits its buffer, a record's size is at most what is left of the
 -- 1,000,000 bytes, and what is left falls with each record.
-use mathlib.Core.Path.{◌≡◌, sym}
-use Prim.Native.Nat.{◌-◌, ◌≤◌}
+use mathlib.Core.Path.{sym}
+use Prim.Native.Nat.{◌-◌}
 use native.Mathlib.Omega.{arith}
-use lib.ListN.{length}
 use lib.Seq.{length-take-le}
-use borrow.Author.Rules.{rules}
 use Rattle.picture.proofs.main.Goals as goal
 
 pub slice_bounds-play-end : goal.slice_bounds-play-end

@@ -1,13 +1,12 @@
 -- The call's promise, with its answer named by the definition: at no stores it is the same.
 use mathlib.Core.Path.{refl, subst}
 use mathlib.Core.List.{[]}
-use borrow.Author.Rules.{rules}
 use Rattle.model.specs.declared.Answer.{Answer}
 use Rattle.calls.specs.Calls.{KeyPromised}
 use Rattle.playing.proofs.play_key.Goals as goal
 
 pub returns : goal.returns
-returns c =
+returns g c =
     let a = c.args in
     let out = c.key-outcome in
     record {

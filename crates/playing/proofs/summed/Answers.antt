@@ -1,6 +1,5 @@
 -- `summed` meets its contract: the sum is over the part that the printer call hands back.
 use mathlib.Core.Path.{◌∙◌, ap, refl}
-use borrow.Author.Rules.{rules}
 use Rattle.report.specs.Adler.{adler_from}
 use Rattle.playing.proofs.summed.Goals as goal
 

@@ -1,8 +1,7 @@
 -- `play_closing` meets its contract: the closing call promises what is left, and `told` hands it on.
-use borrow.Author.Rules.{rules}
 use Rattle.playing_messages.proofs.Copies.{plays_of}
 use Rattle.playing_messages.proofs.play_closing.Goals as goal
 
 pub returns : goal.returns
-returns c =
+returns g c =
     plays_of c.closing-outcome.ensures c.told.ensures

@@ -1,8 +1,7 @@
 -- `play_pack` meets its contract: the pack call promises what is left, and `summed` hands it on.
-use borrow.Author.Rules.{rules}
 use Rattle.playing_messages.proofs.Copies.{plays_of}
 use Rattle.playing_messages.proofs.play_pack.Goals as goal
 
 pub returns : goal.returns
-returns c =
+returns g c =
     plays_of c.pack-packed.ensures c.summed.ensures

@@ -1,8 +1,7 @@
 -- `play_piece` meets its contract: the piece call promises what is left, and `told` hands it on.
-use borrow.Author.Rules.{rules}
 use Rattle.playing_messages.proofs.Copies.{plays_of}
 use Rattle.playing_messages.proofs.play_piece.Goals as goal
 
 pub returns : goal.returns
-returns c =
+returns g c =
     plays_of c.piece-outcome.ensures c.told.ensures

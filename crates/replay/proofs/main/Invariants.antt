@@ -1,15 +1,12 @@
 -- `replay::main` is safe and ends: the stores keep their sizes, a body fits its buffer, a record's size is at most what is left of the
 -- 1,000,000 bytes, and what is left falls with each record.
-use mathlib.Core.Path.{◌≡◌, sym}
-use Prim.Native.Nat.{◌+◌, ◌-◌, ◌≤◌}
-use native.Mathlib.Omega.{arith}
+use mathlib.Core.Path.{◌≡◌}
+use Prim.Native.Nat.{◌+◌, ◌≤◌}
 use lib.ListN.{length}
-use lib.Seq.{length-take-le}
-use borrow.Author.Rules.{rules}
 use Rattle.replay.proofs.main.Given as goal
 
 abbrev pub invariant-loop-next : goal.invariant-loop-next
-invariant-loop-next l = (length l.shown ≡ 3840) × (length l.dots ≡ 1280) × (length l.printer ≡ 640) × (length l.body ≡ 3840) × (length l.played ≡ 8192) × (length l.number ≡ 65536) × (next.size ≤ left) × (next.size ≤ 65539) × (l.next + left ≤ 1000001)
+invariant-loop-next l = (length l.cells ≡ 3840) × (length l.layer ≡ 1280) × (length l.shown ≡ 640) × (length l.dots ≡ 3840) × (length l.printer ≡ 8192) × (length l.body ≡ 65536) × (l.next.size ≤ l.left) × (l.next.size ≤ 65539) × (l.number + l.left ≤ 1000001)
 
 abbrev pub decreases-loop-next : goal.decreases-loop-next
-decreases-loop-next l = left
+decreases-loop-next l = l.left

@@ -1,5 +1,5 @@
 -- `vectors::main` is safe and ends: the stores keep their sizes, a body fits its buffer, and a count of turns falls.
-use Rattle.std.proofs.Common.{◌≡◌, ℕ, length, sym, arith, length-take-le, rules}
+use Rattle.std.proofs.Common.{ℕ, sym, arith, length-take-le, rules}
 use lib.ListN.{length-replicate}
 use Rattle.vectors.proofs.main.Goals as goal
 

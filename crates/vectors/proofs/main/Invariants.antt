@@ -1,6 +1,5 @@
 -- `vectors::main` is safe and ends: the stores keep their sizes, a body fits its buffer, and a count of turns falls.
-use Rattle.std.proofs.Common.{◌≡◌, ℕ, length, sym, arith, length-take-le, rules}
-use lib.ListN.{length-replicate}
+use Rattle.std.proofs.Common.{◌≡◌, length}
 use Rattle.vectors.proofs.main.Given as goal
 
 abbrev pub invariant-loop-turns : goal.invariant-loop-turns

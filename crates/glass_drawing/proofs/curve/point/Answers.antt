@@ -1,6 +1,5 @@
 -- `point`: by whether one of the six dots is on.
 use native.Mathlib.Omega.{arith}
-use borrow.Author.Rules.{rules}
 use borrow.Author.Tests.{eq-eqb, ne_eqb}
 use Rattle.glass_drawing.specs.Curve.{raised}
 use Rattle.glass_drawing.proofs.curve.point.Goals as goal

@@ -1,10 +1,9 @@
 -- `row_of`: in each turn the first letters stand, and behind the last of them nothing is left of what stood at first.
 use mathlib.Core.Path.{◌∙◌, ◌≡◌, sym}
-use Prim.Native.Nat.{◌-◌, ◌≤◌, ℕ}
+use Prim.Native.Nat.{ℕ}
 use native.Mathlib.Omega.{arith}
-use lib.ListN.{length, length-replicate}
+use lib.ListN.{length-replicate}
 use borrow.Author.Rules.{rules}
-use Rattle.model.specs.Bytes.{put}
 use Rattle.store.proofs.Laws.{put_all, put-none}
 use Rattle.glass_drawing.specs.Curve.{letters_to}
 use Rattle.glass_drawing.proofs.Letters.{length-letters, one_more}

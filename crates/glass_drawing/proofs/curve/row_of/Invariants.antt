@@ -1,13 +1,9 @@
 -- `row_of`: in each turn the first letters stand, and behind the last of them nothing is left of what stood at first.
-use mathlib.Core.Path.{◌∙◌, ◌≡◌, sym}
-use Prim.Native.Nat.{◌-◌, ◌≤◌, ℕ}
-use native.Mathlib.Omega.{arith}
-use lib.ListN.{length, length-replicate}
-use borrow.Author.Rules.{rules}
+use mathlib.Core.Path.{◌≡◌}
+use Prim.Native.Nat.{◌-◌, ◌≤◌}
+use lib.ListN.{length}
 use Rattle.model.specs.Bytes.{put}
-use Rattle.store.proofs.Laws.{put_all, put-none}
 use Rattle.glass_drawing.specs.Curve.{letters_to}
-use Rattle.glass_drawing.proofs.Letters.{length-letters, one_more}
 use Rattle.glass_drawing.proofs.curve.row_of.Given as goal
 
 abbrev pub invariant-loop-column : goal.invariant-loop-column

@@ -1,5 +1,4 @@
 -- `apart` meets its contract by its tests.
-use borrow.Author.Rules.{rules}
 use borrow.Author.Tests.{eq-eqb, ne_eqb}
 use Rattle.glass_drawing.specs.Drawing.{apart}
 use Rattle.glass_drawing.proofs.drawing.apart.Goals as goal

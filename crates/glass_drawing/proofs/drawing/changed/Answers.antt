@@ -1,5 +1,4 @@
 -- `changed` meets its contract: two letters compared.
-use borrow.Author.Rules.{rules}
 use Rattle.glass_drawing.specs.Drawing.{changed}
 use Rattle.glass_drawing.proofs.drawing.changed.Goals as goal
 

@@ -1,16 +1,10 @@
 -- `draw` meets its contract: in each turn, what is drawn, with what is left to be drawn behind it, is the whole; what a terminal shows then is
 -- Seen's law.
-use mathlib.Core.Path.{◌≡◌, refl, subst, sym}
-use Prim.Native.Nat.{◌*◌, ◌-◌, ◌≤◌, ℕ}
-use native.Mathlib.Omega.{arith}
+use mathlib.Core.Path.{◌≡◌}
+use Prim.Native.Nat.{◌*◌, ◌-◌, ◌≤◌}
 use mathlib.Core.List.{◌++◌}
-use lib.ListN.{length, length-replicate, take}
-use lib.Seq.{length-take-le}
-use borrow.Author.Rules.{rules}
+use lib.ListN.{length, take}
 use Rattle.glass_drawing.specs.Drawing.{bytes_of, strokes, strokes_from}
-use Rattle.glass_drawing.specs.Seen.{Redraws}
-use Rattle.glass_drawing.proofs.Seen.{redraws}
-use Rattle.glass_drawing.proofs.Strokes.{ended, turn}
 use Rattle.glass_drawing.proofs.drawing.draw.Given as goal
 
 abbrev pub invariant-loop-p : goal.invariant-loop-p

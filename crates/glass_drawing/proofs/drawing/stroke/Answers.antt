@@ -1,8 +1,6 @@
 -- `stroke` meets its contract: by whether the letter changed, and whether the terminal's cursor is behind the place before.
 use mathlib.Core.Path.{◌∙◌, sym}
 use native.Mathlib.Omega.{arith}
-use borrow.Author.Rules.{rules}
-use borrow.Author.Tests.{not-false, not-true}
 use Rattle.glass_drawing.proofs.Strokes.{struck_both, struck_letter, struck_none}
 use Rattle.glass_drawing.proofs.drawing.stroke.Goals as goal
 

@@ -1,11 +1,8 @@
 -- `adler32`: what is reached, with the bytes that are left, gives the sum of all.
-use mathlib.Core.Path.{◌≡◌, ◌∙◌, refl, sym}
+use mathlib.Core.Path.{◌≡◌}
 use Prim.Native.Nat.{◌-◌, ◌≤◌}
-use native.Mathlib.Omega.{arith}
 use lib.ListN.{length, drop}
-use borrow.Author.Rules.{rules}
 use Rattle.report.specs.Adler.{adler_from}
-use Rattle.report.proofs.Sums.{adler_end, adler_next}
 use Rattle.report.proofs.adler.adler32.Given as goal
 
 abbrev pub invariant-loop-i : goal.invariant-loop-i

@@ -1,6 +1,5 @@
 -- `with_byte` is one step of the definition.
 use mathlib.Core.Path.{refl}
-use borrow.Author.Rules.{rules}
 use Rattle.report.specs.Adler.{first_sum, with_byte}
 use Rattle.report.proofs.adler.with_byte.Goals as goal
 

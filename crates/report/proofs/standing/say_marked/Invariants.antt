@@ -1,10 +1,9 @@
 -- `say_marked` is safe and ends: a bit below 48.
-use Prim.Native.Nat.{◌-◌, ◌≤◌}
-use borrow.Author.Rules.{rules}
+use Rattle.std.proofs.Common.{◌-◌, ◌≤◌}
 use Rattle.report.proofs.standing.say_marked.Given as goal
 
 abbrev pub invariant-loop-i : goal.invariant-loop-i
-invariant-loop-i l = l.i ≤ 48
+invariant-loop-i g l = l.i ≤ 48
 
 abbrev pub decreases-loop-i : goal.decreases-loop-i
-decreases-loop-i l = 48 - l.i
+decreases-loop-i g l = 48 - l.i

@@ -1,0 +1,33 @@
+// The program's arguments, counted from 1; number 0 is the program's own name.
+use std::env::FillError;
+use std::rt::{Env, Files};
+
+// The bytes that any path has room in.
+const PATH: usize = 4096;
+
+// Whether there are so many arguments.
+pub fn is_given(env: &impl Env, argument: usize) -> bool {
+    let mut start = [0u8; 1];
+    match env.arg(argument, &mut start) {
+        Ok(_) => true,
+        Err(FillError::TooLong) => true,
+        Err(FillError::NotPresent) => false,
+    }
+}
+
+// The file that an argument names, opened for reading. None where there is no such argument, where it is no text or too long for a path, and where
+// the file cannot be opened.
+pub fn open_named<R: Env + Files>(rt: &R, argument: usize) -> Option<R::File> {
+    let mut path = [0u8; PATH];
+    match rt.arg(argument, &mut path) {
+        Ok(length) => open_path(rt, &path[..length]),
+        Err(_) => None,
+    }
+}
+
+fn open_path<R: Files>(files: &R, path: &[u8]) -> Option<R::File> {
+    match str::from_utf8(path) {
+        Ok(text) => std::fs::open(files, text).ok(),
+        Err(_) => None,
+    }
+}
