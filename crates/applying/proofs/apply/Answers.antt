@@ -9,7 +9,6 @@ use Rattle.model.specs.State.{state}
 use Rattle.store.proofs.Laws.{put-none}
 use Rattle.applying.proofs.Acted.{no_sequence}
 use Rattle.applying.proofs.Idle.{awake_settled, idle_leaves}
-use borrow.Author.Rules.{rules}
 use borrow.Enum.Refused.{opened}
 use Rattle.applying.proofs.apply.Goals as goal
 

@@ -1,7 +1,6 @@
 -- `print_copy`: a copy is put behind those before it; any other sequence prints nothing.
 use mathlib.Core.Path.{◌∙◌, sym}
 use Rattle.store.proofs.Laws.{put-none}
-use borrow.Author.Rules.{rules}
 use Rattle.applying.proofs.print_copy.Goals as goal
 
 pub copy-requires : goal.copy-requires

@@ -2,7 +2,6 @@
 use mathlib.Core.Path.{ap, subst, ◌∙◌}
 use Prim.Native.Nat.{ℕ, ◌≤◌}
 use lib.ListN.{length, length-replicate}
-use borrow.Author.Rules.{rules}
 use Rattle.differences.specs.Answers.{nowhere}
 use Rattle.differences.proofs.Storing.{at_most}
 use Rattle.compare.proofs.main.Goals as goal

@@ -1,6 +1,5 @@
 -- `say_list`: a record after the other, as many as were counted.
 use Prim.Native.Nat.{◌-◌, ◌≤◌}
-use borrow.Author.Rules.{rules}
 use Rattle.compare.proofs.say_list.Given as goal
 
 abbrev pub invariant-loop-k : goal.invariant-loop-k

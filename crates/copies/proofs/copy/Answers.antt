@@ -3,7 +3,6 @@ use mathlib.Core.Path.{◌∙◌, ap}
 use Prim.Native.Nat.{ℕ}
 use native.Mathlib.Omega.{arith}
 use mathlib.Core.List.{List}
-use borrow.Author.Rules.{rules}
 use Rattle.model.specs.Bytes.{put}
 use Rattle.model.specs.State.{state}
 use Rattle.copies.proofs.Copies.{copied_else, copied-there, size_else, size_there}

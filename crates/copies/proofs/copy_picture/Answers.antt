@@ -1,9 +1,9 @@
 -- `copy_picture`: after `row` turns the rows before it are in the buffer.
-use mathlib.Core.Path.{◌∙◌, ◌≡◌, ap, refl, sym}
-use Prim.Native.Nat.{◌-◌, ◌≤◌, ℕ}
+use mathlib.Core.Path.{◌∙◌, ap, refl, sym}
+use Prim.Native.Nat.{◌-◌, ℕ}
 use native.Mathlib.Omega.{arith}
 use mathlib.Core.List.{List}
-use lib.ListN.{get_or, length, length-replicate}
+use lib.ListN.{length-replicate}
 use borrow.Author.Rules.{rules}
 use Rattle.model.specs.Bytes.{put}
 use Rattle.model.specs.State.{state}

@@ -1,10 +1,10 @@
 -- `copy_row`: after i turns i codes of the row are put; then the two codes behind them.
 use mathlib.Core.Path.{◌∙◌, ◌≡◌, refl, sym}
-use Prim.Native.Nat.{◌-◌, ◌≤◌}
+use Prim.Native.Nat.{◌-◌}
 use native.Mathlib.Omega.{arith}
 use lib.ListN.{length, length-set}
 use borrow.Author.Rules.{rules}
-use Rattle.model.specs.Bytes.{list_from, put}
+use Rattle.model.specs.Bytes.{list_from}
 use Rattle.model.proofs.ByteLaws.{length_list_from}
 use Rattle.store.proofs.Laws.{put-none, put_two}
 use Rattle.copies.specs.Copy.{printed, row_copied}

@@ -1,14 +1,9 @@
 -- `copy_row`: after i turns i codes of the row are put; then the two codes behind them.
-use mathlib.Core.Path.{◌∙◌, ◌≡◌, refl, sym}
+use mathlib.Core.Path.{◌≡◌}
 use Prim.Native.Nat.{◌-◌, ◌≤◌}
-use native.Mathlib.Omega.{arith}
-use lib.ListN.{length, length-set}
-use borrow.Author.Rules.{rules}
+use lib.ListN.{length}
 use Rattle.model.specs.Bytes.{list_from, put}
-use Rattle.model.proofs.ByteLaws.{length_list_from}
-use Rattle.store.proofs.Laws.{put-none, put_two}
-use Rattle.copies.specs.Copy.{printed, row_copied}
-use Rattle.views.proofs.Painted.{listed_more}
+use Rattle.copies.specs.Copy.{printed}
 use Rattle.copies.proofs.copy_row.Given as goal
 
 abbrev pub invariant-loop-i : goal.invariant-loop-i

@@ -1,6 +1,5 @@
 -- One accepted sequence more, and its printer bytes.
 use mathlib.Core.Path.{refl}
-use borrow.Author.Rules.{rules}
 use Rattle.counting.proofs.accept.Goals as goal
 
 pub returns : goal.returns

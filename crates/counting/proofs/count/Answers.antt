@@ -3,7 +3,6 @@ use mathlib.Core.Path.{◌∙◌, ap}
 use Prim.Native.Nat.{ℕ}
 use native.Mathlib.Omega.{arith}
 use Rattle.counting.specs.Counting.{accepted_with}
-use borrow.Author.Rules.{rules}
 use Rattle.counting.proofs.count.Goals as goal
 
 pub accept-requires : goal.accept-requires

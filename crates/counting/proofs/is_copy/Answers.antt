@@ -1,7 +1,6 @@
 -- Only a copy is 80.
 use mathlib.Core.Path.{sym}
 use Rattle.judging.proofs.JudgingLaws.{no_copy}
-use borrow.Author.Rules.{rules}
 use borrow.Enum.Refused.{opened}
 use Rattle.counting.proofs.is_copy.Goals as goal
 

@@ -1,6 +1,5 @@
 -- By the test.
 use borrow.Author.Tests.{eq-eqb, ne_eqb}
-use borrow.Author.Rules.{rules}
 use Rattle.counting.proofs.refuse.Goals as goal
 
 pub returns-then-counts-eq0 : goal.returns-then-counts-eq0

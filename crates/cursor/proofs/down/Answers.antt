@@ -1,6 +1,5 @@
 -- `down` meets its contract: a line further down, or on the last line a lift; the cursor is put anew in both.
 use native.Mathlib.Omega.{arith}
-use borrow.Author.Rules.{rules}
 use Rattle.ground.proofs.Carried.{unmarked_acts}
 use Rattle.cursor.proofs.Moves.{down_lifts, down_moves}
 use Rattle.cursor.proofs.down.Goals as goal

@@ -1,6 +1,5 @@
 -- `late_step` meets its contract: the step where the cursor is late, else nothing.
 use native.Mathlib.Omega.{arith}
-use borrow.Author.Rules.{rules}
 use Rattle.ground.proofs.Carried.{unmarked_acts}
 use Rattle.cursor.proofs.Moves.{late_step_steps, late_step_still}
 use Rattle.cursor.proofs.late_step.Goals as goal

@@ -1,6 +1,5 @@
 -- `onward` meets its contract: column 1, a line down, and the line above is marked.
 use native.Mathlib.Omega.{arith}
-use borrow.Author.Rules.{rules}
 use Rattle.ground.proofs.Carried.{then_with, unmarked_acts}
 use Rattle.cursor.proofs.Moves.{column_acts, onward_marks}
 use Rattle.cursor.proofs.onward.Goals as goal

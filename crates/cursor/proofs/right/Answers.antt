@@ -1,6 +1,5 @@
 -- `right` meets its contract: a column further; in the last one it is late, or goes to column 1 of the next line, as the rule says.
 use native.Mathlib.Omega.{arith}
-use borrow.Author.Rules.{rules}
 use Rattle.ground.proofs.Carried.{unmarked_acts}
 use Rattle.cursor.proofs.Moves.{right_steps, right_late, right_wraps}
 use Rattle.cursor.proofs.right.Goals as goal

@@ -1,6 +1,5 @@
 -- `shown` meets its contract: above the window, in its rows, in the right half of mode 1, below it.
 use native.Mathlib.Omega.{arith}
-use borrow.Author.Rules.{rules}
 use Rattle.cursor.proofs.ShownLaws.{shown_above, shown_below, shown_far, shown_near}
 use Rattle.cursor.proofs.shown.Goals as goal
 

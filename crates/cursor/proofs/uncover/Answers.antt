@@ -1,5 +1,4 @@
 -- `uncover` meets its contract: a bare layer stays, whatever place shows the cursor's cell.
-use borrow.Author.Rules.{rules}
 use Rattle.cursor.proofs.ShownLaws.{bare_uncovers}
 use Rattle.cursor.proofs.uncover.Goals as goal
 

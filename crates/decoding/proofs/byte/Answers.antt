@@ -1,7 +1,6 @@
 -- `decoding::byte` meets its contract: past the end the list gives its default.
 use mathlib.Core.Path.{sym}
 use lib.ListN.{get_or-eq_default}
-use borrow.Author.Rules.{rules}
 use Rattle.decoding.proofs.byte.Goals as goal
 
 pub returns-else-i-bytes : goal.returns-else-i-bytes

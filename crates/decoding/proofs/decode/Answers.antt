@@ -1,7 +1,6 @@
 -- `decoding::decode` meets its contract: 208 by its mode byte, others by the list.
 use mathlib.Core.Path.{◌∙◌, sym}
 use Prim.Native.Nat.{◌+◌}
-use borrow.Author.Rules.{rules}
 use Rattle.decoding.proofs.DecodingLaws.{whole_listed, whole_mode}
 use Rattle.decoding.proofs.decode.Goals as goal
 

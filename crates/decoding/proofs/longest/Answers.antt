@@ -2,7 +2,6 @@
 use mathlib.Core.Path.{◌≡◌}
 use Prim.Native.Nat.{ℕ, ◌+◌}
 use native.Mathlib.Omega.{arith}
-use borrow.Author.Rules.{rules}
 use Rattle.model.specs.Sequences.{find}
 use Rattle.decoding.specs.Decoding.{kind_from}
 use Rattle.decoding.proofs.DecodingLaws.{handed_on}

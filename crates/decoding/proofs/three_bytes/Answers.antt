@@ -1,5 +1,4 @@
 -- `decoding::three_bytes` meets its contract: arm by arm, by the row that the byte picks.
-use borrow.Author.Rules.{rules}
 use Rattle.model.specs.Sequences.{find}
 use Rattle.decoding.specs.Decoding.{kind_from}
 use Rattle.decoding.proofs.DecodingLaws.{handed_on}

@@ -1,13 +1,12 @@
 -- `first_difference`: no place that was looked at differs, so the search from here finds what the search from the start does; a row's end is
 -- the next row's start.
-use mathlib.Core.Path.{◌≡◌, refl, sym, ap, ◌∙◌}
-use Prim.Native.Nat.{◌+◌, ◌-◌, ◌*◌, ◌≤◌}
+use mathlib.Core.Path.{refl, sym, ap, ◌∙◌}
+use Prim.Native.Nat.{◌+◌, ◌-◌, ◌*◌}
 use native.Mathlib.Omega.{arith}
-use borrow.Author.Rules.{rules}
 use borrow.Author.Tests.{eq-eqb, ne_eqb}
-use Rattle.differences.specs.declared.First.TheVariants.{At, Nothing, Refused}
+use Rattle.differences.specs.declared.First.TheVariants.{At, Refused}
 use Rattle.differences.specs.Answers.{first_of, sized}
-use Rattle.differences.proofs.Laws.{place_from, place_same, moved, first_here, first_none, first_promised}
+use Rattle.differences.proofs.Laws.{place_same, moved, first_here, first_none, first_promised}
 use Rattle.differences.proofs.first_difference.Goals as goal
 
 pub returns-then-first-ne640 : goal.returns-then-first-ne640

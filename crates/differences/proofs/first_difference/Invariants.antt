@@ -1,13 +1,9 @@
 -- `first_difference`: no place that was looked at differs, so the search from here finds what the search from the start does; a row's end is
 -- the next row's start.
-use mathlib.Core.Path.{◌≡◌, refl, sym, ap, ◌∙◌}
+use mathlib.Core.Path.{◌≡◌}
 use Prim.Native.Nat.{◌+◌, ◌-◌, ◌*◌, ◌≤◌}
-use native.Mathlib.Omega.{arith}
-use borrow.Author.Rules.{rules}
-use borrow.Author.Tests.{eq-eqb, ne_eqb}
-use Rattle.differences.specs.declared.First.TheVariants.{At, Nothing, Refused}
-use Rattle.differences.specs.Answers.{first_of, sized}
-use Rattle.differences.proofs.Laws.{place_from, place_same, moved, first_here, first_none, first_promised}
+use Rattle.differences.specs.declared.First.TheVariants.{Nothing}
+use Rattle.differences.proofs.Laws.{place_from}
 use Rattle.differences.proofs.first_difference.Given as goal
 
 abbrev pub invariant-loop-column : goal.invariant-loop-column

@@ -1,5 +1,4 @@
 -- `values`: the definition's case for each variant.
-use borrow.Author.Rules.{rules}
 use Rattle.differences.proofs.values.Goals as goal
 
 pub returns-in-At : goal.returns-in-At

@@ -2,7 +2,6 @@
 use mathlib.Core.Path.{◌∙◌, ap, refl}
 use Prim.Native.Nat.{ℕ}
 use native.Mathlib.Omega.{arith}
-use borrow.Author.Rules.{rules}
 use Rattle.model.specs.Dot.{with_dot}
 use Rattle.drawing.proofs.dot.Goals as goal
 

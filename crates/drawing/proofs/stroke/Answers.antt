@@ -1,6 +1,5 @@
 -- `drawing::stroke` meets its contract: the line is drawn from start to end, by the mask and the function that the bytes say.
 use mathlib.Core.Path.{◌∙◌, refl, sym}
-use borrow.Author.Rules.{rules}
 use Rattle.model.proofs.Tests.{differ}
 use Rattle.drawing.proofs.Strokes.{ends_on, stroke_does}
 use Rattle.drawing.proofs.Strokes.{no-stroke}

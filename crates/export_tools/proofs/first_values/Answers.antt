@@ -1,6 +1,5 @@
 -- `first_values`: the values of what `first_difference` answers, which it promises.
 use mathlib.Core.Path.{◌∙◌}
-use borrow.Author.Rules.{rules}
 use Rattle.export_tools.proofs.first_values.Goals as goal
 
 pub returns : goal.returns

@@ -1,6 +1,6 @@
 -- `glass::main` is safe and ends: the stores keep their sizes, a part fits its buffer, and a count of turns falls.
-use mathlib.Core.Path.{◌≡◌, sym}
-use Prim.Native.Nat.{◌≤◌, ℕ}
+use mathlib.Core.Path.{sym}
+use Prim.Native.Nat.{ℕ}
 use native.Mathlib.Omega.{arith}
 use lib.ListN.{length, length-replicate}
 use lib.Seq.{length-take-le}

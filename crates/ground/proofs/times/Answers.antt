@@ -1,6 +1,5 @@
 -- `times` meets its contract: the product of two bytes is below 65,536.
 use native.Mathlib.Omega.{arith}
-use borrow.Author.Rules.{rules}
 use Rattle.ground.proofs.Cells.{product}
 use Rattle.ground.proofs.times.Goals as goal
 

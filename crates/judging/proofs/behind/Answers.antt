@@ -1,5 +1,4 @@
 -- `judging::behind` meets its contract: by the test.
-use borrow.Author.Rules.{rules}
 use Rattle.judging.proofs.behind.Goals as goal
 
 pub returns-then-good : goal.returns-then-good

@@ -1,7 +1,6 @@
 -- `judging::check` meets its contract: arm by arm, by the checks of its sequence.
 use mathlib.Core.Path.{ap, refl}
 use mathlib.Core.Bool.{Bool}
-use borrow.Author.Rules.{rules}
 use Rattle.model.specs.Checks.{member, passes}
 use Rattle.model.specs.declared.Limits.{Limits}
 use Rattle.model.specs.declared.Sequence.{Sequence as Seq}

@@ -1,7 +1,6 @@
 -- `judging::dot` meets its contract: in mode 3 the tests of its number and its row, then that of its column.
 use mathlib.Core.Path.{refl}
 use mathlib.Core.List.{[], ◌∷◌}
-use borrow.Author.Rules.{rules}
 use Rattle.model.specs.Checks.{free, member, passes, range}
 use Rattle.model.specs.Dot.{two_bytes}
 use Rattle.model.specs.Sequences.{idle?}

@@ -1,5 +1,4 @@
 -- `judging::fit` meets its contract: only a copy needs room.
-use borrow.Author.Rules.{rules}
 use borrow.Author.Tests.{le-ltb, lt-ltb}
 use Rattle.model.specs.Judging.{fitting}
 use Rattle.judging.proofs.JudgingLaws.{no_copy}

@@ -1,6 +1,5 @@
 -- `judging::judge` meets its contract: a sequence by what `check` finds, then by `fit`.
 use mathlib.Core.Path.{◌∙◌}
-use borrow.Author.Rules.{rules}
 use Rattle.judging.proofs.JudgingLaws.{judged_bad, judged_good, unjudged}
 use borrow.Enum.Refused.{opened}
 use Rattle.judging.proofs.judge.Goals as goal

@@ -1,5 +1,4 @@
 -- `judging::of_two` meets its contract: the parameter is `behind`'s.
-use borrow.Author.Rules.{rules}
 use Rattle.judging.proofs.of_two.Goals as goal
 
 pub returns : goal.returns

@@ -1,5 +1,4 @@
 -- `judging::placing` meets its contract: the tests of line and column.
-use borrow.Author.Rules.{rules}
 use Rattle.model.specs.Checks.{passes}
 use Rattle.judging.proofs.JudgingLaws.{two}
 use Rattle.judging.proofs.placing.Goals as goal

@@ -1,7 +1,6 @@
 -- `judging::point` meets its contract: by its two tests, the first of them decided.
 use mathlib.Core.Path.{◌∙◌, sym}
 use native.Mathlib.Omega.{arith}
-use borrow.Author.Rules.{rules}
 use Rattle.judging.proofs.JudgingLaws.{first_bad_lem, first_good}
 use Rattle.judging.proofs.point.Goals as goal
 

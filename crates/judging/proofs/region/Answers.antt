@@ -1,5 +1,4 @@
 -- `judging::region` meets its contract: its tests are those of the two checks.
-use borrow.Author.Rules.{rules}
 use Rattle.model.specs.Checks.{passes}
 use Rattle.judging.proofs.JudgingLaws.{two}
 use Rattle.judging.proofs.region.Goals as goal

@@ -1,6 +1,4 @@
 -- `judging::stroke` meets its contract: the start's checks, then the end's, then that of the function.
-use mathlib.Core.Path.{refl}
-use borrow.Author.Rules.{rules}
 use Rattle.model.specs.Checks.{passes}
 use Rattle.judging.proofs.JudgingLaws.{behind_free, both_parts, no_check, one, no-stroke}
 use borrow.Enum.Refused.{opened}

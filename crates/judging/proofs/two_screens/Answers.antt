@@ -1,5 +1,4 @@
 -- `judging::two_screens` meets its contract: its tests are those of the mode's checks.
-use borrow.Author.Rules.{rules}
 use Rattle.model.specs.Checks.{passes}
 use Rattle.judging.proofs.JudgingLaws.{behind_free, two}
 use Rattle.judging.proofs.two_screens.Goals as goal

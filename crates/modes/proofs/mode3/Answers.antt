@@ -1,6 +1,5 @@
 -- `modes::mode3` meets its contract: what `set` leaves, with type 3 and key display 1.
 use mathlib.Core.Path.{ap}
-use borrow.Author.Rules.{rules}
 use Rattle.model.specs.State.{State, state, with_display, with_stored}
 use Rattle.model.specs.Rules.{mode_set}
 use Rattle.modes.proofs.mode3.Goals as goal

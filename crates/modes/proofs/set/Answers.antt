@@ -2,7 +2,6 @@
 use mathlib.Core.Path.{◌∙◌, ap, refl}
 use Prim.Native.Nat.{ℕ}
 use lib.ListN.{replicate}
-use borrow.Author.Rules.{rules}
 use Rattle.model.specs.Rules.{mode_set}
 use Rattle.modes.proofs.Parts.{stands}
 use Rattle.modes.proofs.set.Goals as goal

@@ -1,11 +1,8 @@
 -- By the tests, in their order; 3 has three ways: the shape; the places, what is stored and the marks; the line.
-use mathlib.Core.Path.{◌∙◌, ◌≡◌, refl, sym}
+use mathlib.Core.Path.{◌∙◌, refl, sym}
 use mathlib.Core.Bool.{◌&&◌, false, true}
-use borrow.Author.Rules.{rules}
 use borrow.Author.Tests.{le-leb, lt-leb}
-use Rattle.calls.specs.Calls.{sendable, sized, terminal}
-use Rattle.model.specs.Line.{line?}
-use Rattle.model.specs.Sound.{sound?}
+use Rattle.calls.specs.Calls.{sized, terminal}
 use Rattle.soundness.proofs.Chains.{sound_line, sound_places, sound_shape}
 use Rattle.numbers.proofs.MessageTests.{none_wait, not_sound, numbered, some_wait}
 use Rattle.numbers.proofs.call_number.Goals as goal

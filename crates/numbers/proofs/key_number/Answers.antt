@@ -1,7 +1,6 @@
 -- By the two tests, in their order.
 use mathlib.Core.Path.{◌∙◌, refl, sym}
 use mathlib.Core.Bool.{false, true}
-use borrow.Author.Rules.{rules}
 use Rattle.calls.specs.Calls.{first_of}
 use Rattle.numbers.proofs.KeyTests.{keyed_number}
 use Rattle.numbers.proofs.key_number.Goals as goal

@@ -1,7 +1,6 @@
 -- By the tests, the stores' first.
 use mathlib.Core.Path.{◌∙◌, sym}
 use mathlib.Core.Bool.{◌&&◌}
-use borrow.Author.Rules.{rules}
 use Rattle.numbers.proofs.OpeningTests.{bad_rule, bad_size, no_number}
 use Rattle.numbers.proofs.opening_number.Goals as goal
 

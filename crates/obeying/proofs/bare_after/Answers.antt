@@ -1,7 +1,5 @@
 -- `bare_after` meets its contract by the item's cases.
-use borrow.Author.Rules.{rules}
 use Rattle.obeying.proofs.Layers.{bare_other}
-use borrow.Enum.Refused.{opened}
 use Rattle.obeying.proofs.bare_after.Goals as goal
 
 pub returns-in-Control : goal.returns-in-Control

@@ -1,6 +1,5 @@
 -- `bare_then` meets its contract: 210 marks the layer, the arms behind it empty it, 209's where it is not idle, and the last leaves it.
 use mathlib.Core.Path.{refl}
-use borrow.Author.Rules.{rules}
 use Rattle.model.specs.Checks.{member}
 use Rattle.obeying.proofs.Layers.{bare_awake, bare_rest, bare_select}
 use borrow.Enum.Refused.{opened}

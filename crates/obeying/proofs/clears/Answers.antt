@@ -1,7 +1,5 @@
 -- By the item's cases.
-use borrow.Author.Rules.{rules}
 use Rattle.obeying.proofs.Wiping.{other_spares}
-use borrow.Enum.Refused.{opened}
 use Rattle.obeying.proofs.clears.Goals as goal
 
 pub returns-in-Control : goal.returns-in-Control

@@ -1,6 +1,5 @@
 -- Only a clearing is 42.
 use mathlib.Core.Path.{sym}
-use borrow.Author.Rules.{rules}
 use Rattle.obeying.proofs.Wiping.{no_clear}
 use borrow.Enum.Refused.{opened}
 use Rattle.obeying.proofs.is_clear.Goals as goal

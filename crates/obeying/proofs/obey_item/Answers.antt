@@ -3,7 +3,6 @@ use mathlib.Core.Path.{refl, sym}
 use Rattle.model.specs.Rules.{apply_item}
 use Rattle.model.proofs.Tests.{differ}
 use native.Mathlib.Omega.{arith}
-use borrow.Author.Rules.{rules}
 use Rattle.obeying.proofs.obey_item.Goals as goal
 
 pub overflow_add-next : goal.overflow_add-next

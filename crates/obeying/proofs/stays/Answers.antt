@@ -1,5 +1,4 @@
 -- By the item's cases.
-use borrow.Author.Rules.{rules}
 use Rattle.obeying.proofs.stays.Goals as goal
 
 pub returns-in-Sequence : goal.returns-in-Sequence

@@ -1,5 +1,4 @@
 -- By the test: a clearing in mode 3 wipes the dots, anything else leaves them.
-use borrow.Author.Rules.{rules}
 use Rattle.obeying.proofs.Wiping.{spared_when, wiped_when}
 use Rattle.obeying.proofs.wipe_after.Goals as goal
 

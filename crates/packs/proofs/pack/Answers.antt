@@ -1,6 +1,5 @@
 -- A number that is not 0 refuses the pack, and all is as it came; else its messages are sent.
 use mathlib.Core.Path.{◌∙◌, sym}
-use borrow.Author.Rules.{rules}
 use Rattle.calls.specs.Calls.{terminal}
 use Rattle.packs.proofs.Numbers.{pack_refused}
 use Rattle.packs.proofs.pack.Goals as goal

@@ -4,7 +4,6 @@ use native.Mathlib.Omega.{arith}
 use mathlib.Core.List.{List}
 use Prim.Native.Nat.{ℕ}
 use lib.Seq.{take_all}
-use borrow.Author.Rules.{rules}
 use Rattle.model.specs.Bytes.{put}
 use Rattle.paint.proofs.Tested.{is, is_not}
 use Rattle.paint.proofs.paint_keys.Goals as goal

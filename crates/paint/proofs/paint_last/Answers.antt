@@ -1,5 +1,5 @@
 -- `paint_last`: the key texts under display 0; else the text has eight rows, and row 8 is the last of the view.
-use mathlib.Core.Path.{◌∙◌, ◌≡◌, ap}
+use mathlib.Core.Path.{◌∙◌, ap}
 use Prim.Native.Nat.{ℕ}
 use native.Mathlib.Omega.{arith}
 use mathlib.Core.List.{List}

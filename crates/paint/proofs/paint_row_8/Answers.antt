@@ -1,7 +1,6 @@
 -- `paint_row_8`: blanks in secret mode; else what the last row shows, with the layer over it, is the picture there.
 use mathlib.Core.Path.{refl}
 use native.Mathlib.Omega.{arith}
-use borrow.Author.Rules.{rules}
 use borrow.Author.Tests.{eq-eqb, ne_eqb}
 use Rattle.store.proofs.Laws.{lent_filled}
 use Rattle.paint.proofs.Pictures.{row_8_plain, row_8_secret}

@@ -1,5 +1,4 @@
 -- `reader::read_item` meets its contract: an ESC is read by `read_sequence`, another byte is an item by itself.
-use borrow.Author.Rules.{rules}
 use Rattle.reader.proofs.ReadLaws.{reads_byte}
 use Rattle.reader.proofs.read_item.Goals as goal
 

@@ -1,6 +1,5 @@
 -- `reader::read_sequence` meets its contract: a law for each way, in the order of the numbers.
 use native.Mathlib.Omega.{arith}
-use borrow.Author.Rules.{rules}
 use Rattle.reader.proofs.ReadLaws.{reads_alone, reads_ended, reads_sequence, reads_unlisted}
 use Rattle.reader.proofs.read_sequence.Goals as goal
 

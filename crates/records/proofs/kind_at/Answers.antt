@@ -1,7 +1,6 @@
 -- `kind_at`: the two bytes behind them.
 use mathlib.Core.Path.{◌∙◌, sym}
 use Rattle.records.proofs.Laws.{kind_two}
-use borrow.Author.Rules.{rules}
 use Rattle.records.proofs.kind_at.Goals as goal
 
 pub returns : goal.returns

@@ -2,7 +2,6 @@
 use mathlib.Core.Path.{◌∙◌, sym}
 use Rattle.model.specs.Records.{length_in}
 use Rattle.records.proofs.Laws.{two_at}
-use borrow.Author.Rules.{rules}
 use Rattle.records.proofs.length_at.Goals as goal
 
 pub returns : goal.returns

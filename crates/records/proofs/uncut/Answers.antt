@@ -1,9 +1,7 @@
 -- `uncut`: what is left of the bytes is cut exactly if all of them are.
-use mathlib.Core.Path.{◌∙◌, ◌≡◌, refl, sym}
-use Prim.Native.Nat.{◌-◌, ◌≤◌}
+use mathlib.Core.Path.{◌∙◌, refl, sym}
+use Prim.Native.Nat.{◌-◌}
 use native.Mathlib.Omega.{arith}
-use lib.ListN.{drop, length}
-use Rattle.model.specs.Records.{uncut?}
 use Rattle.records.proofs.Laws.{uncut_end, uncut_past, uncut_short}
 use borrow.Author.Rules.{rules}
 use Rattle.records.proofs.uncut.Goals as goal

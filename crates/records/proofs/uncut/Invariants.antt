@@ -1,11 +1,8 @@
 -- `uncut`: what is left of the bytes is cut exactly if all of them are.
-use mathlib.Core.Path.{◌∙◌, ◌≡◌, refl, sym}
+use mathlib.Core.Path.{◌≡◌}
 use Prim.Native.Nat.{◌-◌, ◌≤◌}
-use native.Mathlib.Omega.{arith}
 use lib.ListN.{drop, length}
 use Rattle.model.specs.Records.{uncut?}
-use Rattle.records.proofs.Laws.{uncut_end, uncut_past, uncut_short}
-use borrow.Author.Rules.{rules}
 use Rattle.records.proofs.uncut.Given as goal
 
 abbrev pub invariant-loop-at : goal.invariant-loop-at

@@ -1,7 +1,6 @@
 -- `repeats::main` is safe: the message is no longer than its buffer.
 use native.Mathlib.Omega.{arith}
 use lib.ListN.{length-take}
-use borrow.Author.Rules.{rules}
 use Rattle.repeats.proofs.main.Goals as goal
 
 pub slice_bounds-message-end : goal.slice_bounds-message-end

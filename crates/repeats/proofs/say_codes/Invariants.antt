@@ -1,6 +1,5 @@
 -- `say_codes` is safe and ends: no more codes than the output has room for.
 use Prim.Native.Nat.{◌-◌, ◌≤◌}
-use borrow.Author.Rules.{rules}
 use Rattle.repeats.proofs.say_codes.Given as goal
 
 abbrev pub invariant-loop-i : goal.invariant-loop-i

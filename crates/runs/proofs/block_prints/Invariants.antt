@@ -1,10 +1,7 @@
 -- `block_prints`: the loop's test is that of the first k bytes of the block.
-use mathlib.Core.Path.{◌∙◌, ◌≡◌, ap}
+use mathlib.Core.Path.{◌≡◌}
 use Prim.Native.Nat.{◌-◌, ◌≤◌}
-use native.Mathlib.Omega.{arith}
-use borrow.Author.Rules.{rules}
 use Rattle.runs.specs.Run.{all_print?}
-use Rattle.runs.proofs.Runs.{all_more, too_few}
 use Rattle.runs.proofs.block_prints.Given as goal
 
 abbrev pub invariant-loop-k : goal.invariant-loop-k

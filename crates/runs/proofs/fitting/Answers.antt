@@ -1,7 +1,6 @@
 -- `fitting` meets its contract: one byte where the window misses the cursor, else as many as the line has room for.
 use mathlib.Core.Path.{◌∙◌}
 use native.Mathlib.Omega.{arith}
-use borrow.Author.Rules.{rules}
 use Rattle.runs.proofs.fitting.Goals as goal
 
 pub returns-then-misses : goal.returns-then-misses

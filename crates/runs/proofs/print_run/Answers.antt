@@ -1,8 +1,8 @@
 -- `print_run`: the bytes from `at` up to i were printed, part by part.
-use Prim.Native.Nat.{◌-◌, ◌≤◌}
+use Prim.Native.Nat.{◌-◌}
 use native.Mathlib.Omega.{arith}
 use borrow.Author.Rules.{rules}
-use Rattle.runs.proofs.Runs.{Along, along_all, along_none, along_part}
+use Rattle.runs.proofs.Runs.{along_all, along_none, along_part}
 use Rattle.runs.proofs.print_run.Goals as goal
 
 pub loop-i-init : goal.loop-i-init

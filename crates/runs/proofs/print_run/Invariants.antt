@@ -1,8 +1,6 @@
 -- `print_run`: the bytes from `at` up to i were printed, part by part.
 use Prim.Native.Nat.{◌-◌, ◌≤◌}
-use native.Mathlib.Omega.{arith}
-use borrow.Author.Rules.{rules}
-use Rattle.runs.proofs.Runs.{Along, along_all, along_none, along_part}
+use Rattle.runs.proofs.Runs.{Along}
 use Rattle.runs.proofs.print_run.Given as goal
 
 abbrev pub invariant-loop-i : goal.invariant-loop-i

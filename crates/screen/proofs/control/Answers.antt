@@ -1,6 +1,5 @@
 -- `control` meets its contract: a step and the tracking for 8, 10 and 13, clearing for 12, nothing for another code.
 use native.Mathlib.Omega.{arith}
-use borrow.Author.Rules.{rules}
 use Rattle.model.specs.Rules.{control}
 use Rattle.ground.proofs.Acting.{then_above}
 use Rattle.ground.proofs.Carried.{dots_aside, then_above_with, unmarked_acts}

@@ -1,7 +1,6 @@
 -- `frame_of` meets its contract: the branch says which screen is selected.
 use mathlib.Core.Path.{◌∙◌, ◌≡◌, refl}
 use native.Mathlib.Omega.{arith}
-use borrow.Author.Rules.{rules}
 use Rattle.model.specs.Screens.{base, columns_of, lines_of}
 use Rattle.model.proofs.Keep.{chosen}
 use Rattle.screen.proofs.Frames.{columns_high, frame, shift_first, shift_second}

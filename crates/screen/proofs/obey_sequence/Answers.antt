@@ -2,7 +2,6 @@
 -- window are idle in mode 3; there the top has one place.
 use mathlib.Core.Path.{refl}
 use native.Mathlib.Omega.{arith}
-use borrow.Author.Rules.{rules}
 use Rattle.model.specs.Checks.{member}
 use Rattle.model.specs.Rules.{obeyed}
 use Rattle.model.specs.OnScreen.{on_screen?}

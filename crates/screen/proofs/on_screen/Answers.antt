@@ -1,6 +1,5 @@
 -- `on_screen` meets its contract: each arm computes it of the sequence that it names, and the last is for the others.
 use mathlib.Core.Path.{sym}
-use borrow.Author.Rules.{rules}
 use Rattle.model.specs.Checks.{member}
 use Rattle.model.specs.OnScreen.{on_screen?}
 use Rattle.screen.proofs.Sequences.{off_screen}

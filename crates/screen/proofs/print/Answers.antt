@@ -1,5 +1,4 @@
 -- `print` meets its contract: the step that waited, and the rest of the rule.
-use borrow.Author.Rules.{rules}
 use Rattle.model.specs.Rules.{printed}
 use Rattle.ground.proofs.Carried.{then_with}
 use Rattle.screen.proofs.print.Goals as goal

@@ -1,6 +1,5 @@
 -- `shift_of` meets its contract by the test of its branch.
 use borrow.Author.Tests.{eq-eqb, ne_eqb}
-use borrow.Author.Rules.{rules}
 use Rattle.screen.proofs.shift_of.Goals as goal
 
 pub returns-then-mode-eq2 : goal.returns-then-mode-eq2

@@ -5,7 +5,6 @@ use mathlib.Core.List.{List}
 use native.Mathlib.Omega.{arith}
 use lib.ListN.{length-set}
 use lib.Seq.{get_or-set_same}
-use borrow.Author.Rules.{rules}
 use Rattle.model.specs.declared.Place.{Place}
 use Rattle.model.specs.Screens.{place_of}
 use Rattle.model.specs.Sound.{array_ranges}

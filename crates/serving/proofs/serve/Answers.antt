@@ -2,7 +2,6 @@
 use mathlib.Core.Path.{ap, subst, sym}
 use Prim.Native.Nat.{◌+◌, ◌≤◌}
 use native.Mathlib.Omega.{arith}
-use borrow.Author.Rules.{rules}
 use Rattle.counting.specs.declared.Counts.{Counts}
 use Rattle.serving.proofs.Going.{all_items}
 use Rattle.serving.proofs.serve.Goals as goal

@@ -4,13 +4,12 @@ use mathlib.Core.Path.{◌∙◌, ap, sym}
 use Prim.Native.Nat.{◌-◌, ◌<◌}
 use native.Mathlib.Omega.{arith}
 use mathlib.Core.Bool.{cond}
-use lib.ListN.{length}
 use borrow.Author.Rules.{rules}
 use Rattle.model.specs.declared.Settings.{Settings}
 use Rattle.model.specs.State.{state}
 use Rattle.model.specs.Picture.{painting}
 use Rattle.model.proofs.Keep.{chosen}
-use Rattle.serving.proofs.Turns.{Loop, acted, applying, begin, changed, countable, end, further, good, marks_are, offered}
+use Rattle.serving.proofs.Turns.{acted, applying, begin, changed, countable, end, further, good, marks_are, offered}
 use Rattle.serving.proofs.serve_from.Goals as goal
 
 pub selected_place-place-requires : goal.selected_place-place-requires

@@ -1,16 +1,8 @@
 -- The loop's invariant (proofs/Turns): what is left of the message gives the same end, and the frame and the place are those of what
 -- stands. Each way through the loop is one turn of it.
-use mathlib.Core.Path.{◌∙◌, ap, sym}
-use Prim.Native.Nat.{◌-◌, ◌<◌}
-use native.Mathlib.Omega.{arith}
-use mathlib.Core.Bool.{cond}
+use Prim.Native.Nat.{◌-◌}
 use lib.ListN.{length}
-use borrow.Author.Rules.{rules}
-use Rattle.model.specs.declared.Settings.{Settings}
-use Rattle.model.specs.State.{state}
-use Rattle.model.specs.Picture.{painting}
-use Rattle.model.proofs.Keep.{chosen}
-use Rattle.serving.proofs.Turns.{Loop, acted, applying, begin, changed, countable, end, further, good, marks_are, offered}
+use Rattle.serving.proofs.Turns.{Loop}
 use Rattle.serving.proofs.serve_from.Given as goal
 
 abbrev pub invariant-loop-at : goal.invariant-loop-at

@@ -1,6 +1,5 @@
 -- `settings::is_pattern` meets its contract: only a pattern is 224.
 use mathlib.Core.Path.{sym}
-use borrow.Author.Rules.{rules}
 use Rattle.settings.proofs.Idle.{no_pattern}
 use borrow.Enum.Refused.{opened}
 use Rattle.settings.proofs.is_pattern.Goals as goal

@@ -5,7 +5,6 @@ use mathlib.Core.Path.{◌∙◌, ap, refl}
 use Prim.Native.Nat.{ℕ}
 use native.Mathlib.Omega.{arith}
 use lib.ListN.{replicate}
-use borrow.Author.Rules.{rules}
 use Rattle.model.specs.Checks.{member}
 use Rattle.model.specs.OnScreen.{on_screen?}
 use Rattle.model.specs.Rules.{obeyed, flagged, with_dots, with_settings, emptied, with_layer, mode_set}

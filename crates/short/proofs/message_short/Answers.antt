@@ -1,10 +1,8 @@
 -- Any number but 0: nothing altered. A message within the line is one run, printed at once; any other goes through the loop.
-use mathlib.Core.Path.{◌∙◌, ◌≡◌, ap, sym}
+use mathlib.Core.Path.{◌∙◌, ap, sym}
 use native.Mathlib.Omega.{arith}
 use mathlib.Core.Bool.{false}
 use lib.ListN.{length}
-use borrow.Author.Rules.{rules}
-use borrow.Author.Tests.{not-false}
 use Rattle.model.proofs.Keep.{chosen}
 use Rattle.counting.specs.Counting.{answer_at, no_counts}
 use Rattle.serving.specs.Serves.{Servable}

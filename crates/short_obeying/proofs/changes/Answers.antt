@@ -2,7 +2,6 @@
 use mathlib.Core.Path.{refl, sym}
 use Prim.Native.Nat.{ℕ}
 use mathlib.Core.List.{List, [], ◌∷◌}
-use borrow.Author.Rules.{rules}
 use Rattle.model.specs.Checks.{member}
 use Rattle.calls.specs.Repaint.{wide_codes}
 use Rattle.model.proofs.Cases.{none_passes}

@@ -1,5 +1,4 @@
 -- `obey` meets its contract: what the crate `obeying`'s `obey_item` does, and whether the item is wide by its kind, a lift or the top (Stirring).
-use borrow.Author.Rules.{rules}
 use Rattle.short_obeying.proofs.Stirring.{sees_other}
 use Rattle.short_obeying.proofs.obey.Goals as goal
 

@@ -1,6 +1,5 @@
 -- `stirs` meets its contract: code 12, code 10 on the last line, and the sequences of the list; a refusal is none.
 use mathlib.Core.Path.{refl}
-use borrow.Author.Rules.{rules}
 use Rattle.calls.specs.Repaint.{calm?, lifts?}
 use Rattle.model.proofs.Tests.{differ}
 use Rattle.short_obeying.proofs.Stirring.{control_stirs, sequence_stirs}

@@ -2,7 +2,6 @@
 use mathlib.Core.Path.{sym}
 use Prim.Native.Nat.{◌+◌, ◌-◌}
 use native.Mathlib.Omega.{arith}
-use borrow.Author.Rules.{rules}
 use Rattle.store.proofs.Laws.{lent_filled}
 use Rattle.short_printing.proofs.Rows.{blanks_put, bytes_put, none_shown}
 use Rattle.short_printing.proofs.paint_bytes.Goals as goal

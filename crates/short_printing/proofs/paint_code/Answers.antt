@@ -3,7 +3,6 @@ use mathlib.Core.Path.{ap, sym}
 use native.Mathlib.Omega.{arith}
 use lib.ListN.{set}
 use lib.Seq.{set_out}
-use borrow.Author.Rules.{rules}
 use Rattle.short_printing.proofs.paint_code.Goals as goal
 
 pub returns-then-spot-lt-SHOWN : goal.returns-then-spot-lt-SHOWN

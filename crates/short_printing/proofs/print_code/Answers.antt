@@ -4,7 +4,6 @@ use mathlib.Core.Path.{ap}
 use native.Mathlib.Omega.{arith}
 use mathlib.Core.Bool.{Bool, ◌&&◌, not}
 use lib.Dec.{eqb, ltb}
-use borrow.Author.Rules.{rules}
 use Rattle.model.specs.Rules.{printed}
 use Rattle.ground.proofs.Carried.{then_with}
 use Rattle.short_printing.proofs.Seeing.{sees_one}

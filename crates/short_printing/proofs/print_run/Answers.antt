@@ -1,8 +1,8 @@
 -- `print_run`: the bytes from `at` up to i were printed and seen, part by part.
-use Prim.Native.Nat.{◌-◌, ◌≤◌}
+use Prim.Native.Nat.{◌-◌}
 use native.Mathlib.Omega.{arith}
 use borrow.Author.Rules.{rules}
-use Rattle.short_printing.proofs.Seeing.{SeenAlong, seen_all_lem, seen_none, seen_part}
+use Rattle.short_printing.proofs.Seeing.{seen_all_lem, seen_none, seen_part}
 use Rattle.short_printing.proofs.print_run.Goals as goal
 
 pub loop-i-init : goal.loop-i-init

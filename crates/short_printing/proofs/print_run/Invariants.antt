@@ -1,8 +1,6 @@
 -- `print_run`: the bytes from `at` up to i were printed and seen, part by part.
 use Prim.Native.Nat.{◌-◌, ◌≤◌}
-use native.Mathlib.Omega.{arith}
-use borrow.Author.Rules.{rules}
-use Rattle.short_printing.proofs.Seeing.{SeenAlong, seen_all_lem, seen_none, seen_part}
+use Rattle.short_printing.proofs.Seeing.{SeenAlong}
 use Rattle.short_printing.proofs.print_run.Given as goal
 
 abbrev pub invariant-loop-i : goal.invariant-loop-i

@@ -2,7 +2,6 @@
 use mathlib.Core.Path.{◌∙◌, ap, refl, sym}
 use mathlib.Core.Bool.{Bool, cond}
 use mathlib.Core.List.{List}
-use borrow.Author.Rules.{rules}
 use Rattle.model.specs.declared.Place.{Place}
 use Rattle.model.specs.State.{state, with_places}
 use Rattle.model.specs.Picture.{painting, picture}

@@ -3,11 +3,10 @@
 use mathlib.Core.Path.{◌∙◌, refl, sym}
 use Prim.Native.Nat.{◌-◌, ◌<◌}
 use native.Mathlib.Omega.{arith}
-use lib.ListN.{length}
 use borrow.Author.Rules.{rules}
 use Rattle.model.proofs.Keep.{chosen}
 use Rattle.serving.proofs.Turns.{applying, countable, further, good, marks_are, offered}
-use Rattle.short_serving.proofs.Watching.{Watch, watch_away, watch_ends, watch_first, watch_stays}
+use Rattle.short_serving.proofs.Watching.{watch_away, watch_ends, watch_first, watch_stays}
 use Rattle.short_serving.proofs.serve.Goals as goal
 
 pub selected_place-place-requires : goal.selected_place-place-requires

@@ -1,13 +1,8 @@
 -- The loop's invariant (proofs/Watching): it is serving's loop, and what is left of the message gives the same shown screen. Each way through the loop is one
 -- turn of it.
-use mathlib.Core.Path.{◌∙◌, refl, sym}
-use Prim.Native.Nat.{◌-◌, ◌<◌}
-use native.Mathlib.Omega.{arith}
+use Prim.Native.Nat.{◌-◌}
 use lib.ListN.{length}
-use borrow.Author.Rules.{rules}
-use Rattle.model.proofs.Keep.{chosen}
-use Rattle.serving.proofs.Turns.{applying, countable, further, good, marks_are, offered}
-use Rattle.short_serving.proofs.Watching.{Watch, watch_away, watch_ends, watch_first, watch_stays}
+use Rattle.short_serving.proofs.Watching.{Watch}
 use Rattle.short_serving.proofs.serve.Given as goal
 
 abbrev pub invariant-loop-at : goal.invariant-loop-at

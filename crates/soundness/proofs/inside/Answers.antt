@@ -1,5 +1,4 @@
 -- The comparisons are those of the ranges; lines − (H − 1) is lines + 1 − H.
-use borrow.Author.Rules.{rules}
 use Rattle.soundness.proofs.Chains.{window}
 use Rattle.soundness.proofs.inside.Goals as goal
 

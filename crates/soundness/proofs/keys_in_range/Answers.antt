@@ -1,5 +1,4 @@
 -- The comparisons are those of the ranges; the arrays are as long as their types say.
-use borrow.Author.Rules.{rules}
 use Rattle.unfinished.proofs.Arrays.{unmapped}
 use Rattle.soundness.proofs.Chains.{stored}
 use Rattle.soundness.proofs.keys_in_range.Goals as goal

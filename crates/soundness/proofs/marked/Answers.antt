@@ -1,6 +1,5 @@
 -- `marked` meets its contract: by the marks of each screen.
 use mathlib.Core.Bool.{◌&&◌}
-use borrow.Author.Rules.{rules}
 use Rattle.model.specs.Screens.{lines_of}
 use Rattle.model.specs.Sound.{marks?}
 use Rattle.soundness.proofs.marked.Goals as goal

@@ -3,7 +3,6 @@ use mathlib.Core.Path.{◌∙◌, ap}
 use Prim.Native.Nat.{◌/◌, ◌<◌, ◌^◌, ℕ}
 use native.Mathlib.Omega.{arith}
 use lib.Dec.{eqb}
-use borrow.Author.Rules.{rules}
 use Rattle.model.specs.Marks.{marked?}
 use Rattle.soundness.proofs.LineMarks.{none-beyond, shifted_out}
 use Rattle.soundness.proofs.marked_in.Goals as goal

@@ -2,7 +2,6 @@
 use mathlib.Core.Path.{◌∙◌, refl}
 use native.Mathlib.Omega.{arith}
 use mathlib.Core.Bool.{◌&&◌}
-use borrow.Author.Rules.{rules}
 use Rattle.model.proofs.Keep.{height_low}
 use Rattle.soundness.proofs.Chains.{first_of_lem, step_of, tall}
 use Rattle.soundness.proofs.placed.Goals as goal

@@ -1,6 +1,5 @@
 -- By the test of the mode.
 use mathlib.Core.Path.{◌∙◌}
-use borrow.Author.Rules.{rules}
 use Rattle.soundness.proofs.Chains.{second_alone, second_of}
 use Rattle.soundness.proofs.second.Goals as goal
 

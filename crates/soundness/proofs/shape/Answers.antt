@@ -1,5 +1,4 @@
 -- By the test of the mode; the comparisons are those of the table's ranges.
-use borrow.Author.Rules.{rules}
 use borrow.Author.Tests.{eq-eqb, ne_eqb}
 use Prim.Native.Nat.{◌-◌}
 use Rattle.model.specs.Sound.{shape_ranges}

@@ -1,7 +1,6 @@
 -- `spelling::from_198` meets its contract: arm by arm as `spell`; in the last, the second byte is below 198, or 211 or more.
 use mathlib.Core.Path.{refl}
 use mathlib.Core.List.{[], ◌∷◌}
-use borrow.Author.Rules.{rules}
 use Rattle.model.specs.Sequences.{code_of}
 use Rattle.model.proofs.Cases.{none_passes}
 use Rattle.spelling.specs.Spelling.{bytes_of, params_of}

@@ -2,7 +2,6 @@
 use mathlib.Core.Path.{◌∙◌, refl, sym}
 use mathlib.Core.List.{[], ◌∷◌}
 use lib.Dec.{leb}
-use borrow.Author.Rules.{rules}
 use Rattle.model.proofs.Cases.{none_passes}
 use Rattle.model.proofs.Tests.{differ}
 use Rattle.spelling.specs.Spelling.{bytes_of, params_of}

@@ -4,11 +4,9 @@ use mathlib.Core.Path.{refl}
 use mathlib.Core.Bool.{not}
 use mathlib.Core.List.{[], ◌∷◌}
 use lib.Dec.{leb}
-use borrow.Author.Rules.{rules}
 use borrow.Author.Tests.{not-false}
 use Rattle.model.proofs.Cases.{none_passes}
 use Rattle.spelling.specs.Spelling.{bytes_of, params_of}
-use borrow.Enum.Refused.{opened}
 use Rattle.spelling.proofs.spell.Goals as goal
 
 pub returns-in-PrintCode : goal.returns-in-PrintCode

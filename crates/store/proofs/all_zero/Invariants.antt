@@ -1,11 +1,7 @@
 -- `all_zero`: no byte that was seen is greater than `any`, so where it is 0, all are; and of zeros it stays 0.
-use mathlib.Core.Path.{◌≡◌, refl}
+use mathlib.Core.Path.{◌≡◌}
 use Prim.Native.Nat.{◌-◌, ◌<◌, ◌≤◌, ℕ}
-use native.Mathlib.Omega.{arith}
 use lib.ListN.{get_or, length, replicate}
-use borrow.Author.Rules.{rules}
-use borrow.Author.Tests.{eq-eqb, eqb-true}
-use Rattle.store.proofs.Held.{seen, zero_at, zeros}
 use Rattle.store.proofs.all_zero.Given as goal
 
 abbrev pub invariant-loop-i : goal.invariant-loop-i

@@ -1,7 +1,6 @@
 -- `blank`: the part comes home filled with 32.
 use Prim.Native.Nat.{◌+◌, ◌-◌}
 use native.Mathlib.Omega.{arith}
-use borrow.Author.Rules.{rules}
 use Rattle.model.specs.Bytes.{blanked}
 use Rattle.store.proofs.Laws.{lent}
 use Rattle.store.proofs.blank.Goals as goal

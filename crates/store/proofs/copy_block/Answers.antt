@@ -1,7 +1,6 @@
 -- `copy_block`: the bytes are taken up, then laid down.
 use native.Mathlib.Omega.{arith}
 use lib.ListN.{replicate}
-use borrow.Author.Rules.{rules}
 use Rattle.store.proofs.Held.{held}
 use Rattle.store.proofs.copy_block.Goals as goal
 

@@ -1,11 +1,10 @@
 -- `copy_bytes`: after i turns the first i bytes of the part of `src` are put, and the others stand as they were.
 use mathlib.Core.Path.{◌≡◌, sym}
-use Prim.Native.Nat.{◌-◌, ◌≤◌}
+use Prim.Native.Nat.{◌-◌}
 use native.Mathlib.Omega.{arith}
-use lib.ListN.{drop, get_or, length, length-drop, length-set, length-take, take}
+use lib.ListN.{drop, get_or, length-drop, length-set, length-take, take}
 use lib.Seq.{get_or-drop}
 use borrow.Author.Rules.{rules}
-use Rattle.model.specs.Bytes.{put}
 use Rattle.store.proofs.Laws.{put-more, put-none, take_more}
 use Rattle.store.proofs.copy_bytes.Goals as goal
 

@@ -1,8 +1,8 @@
 -- `copy_in`: after some turns the first i bytes of the part of `src` are put; the last block reaches the end.
 use mathlib.Core.Path.{◌∙◌, ◌≡◌, ap, refl, sym}
-use Prim.Native.Nat.{◌+◌, ◌-◌, ◌≤◌, ℕ}
+use Prim.Native.Nat.{◌+◌, ◌-◌, ℕ}
 use native.Mathlib.Omega.{arith}
-use lib.ListN.{drop, length, take}
+use lib.ListN.{drop, take}
 use borrow.Author.Rules.{rules}
 use Rattle.model.specs.Bytes.{put}
 use Rattle.store.proofs.Laws.{put-none}

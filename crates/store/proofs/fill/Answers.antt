@@ -1,10 +1,9 @@
 -- `fill`: after i turns the first i bytes are `value`, and the others stand as they were.
 use mathlib.Core.Path.{◌∙◌, ◌≡◌, refl, sym}
-use Prim.Native.Nat.{◌-◌, ◌≤◌}
+use Prim.Native.Nat.{◌-◌}
 use native.Mathlib.Omega.{arith}
 use lib.ListN.{length, length-replicate, length-set, replicate}
 use borrow.Author.Rules.{rules}
-use Rattle.model.specs.Bytes.{put}
 use Rattle.store.proofs.Laws.{put_all, put-more, put-none, replicate_more}
 use Rattle.store.proofs.fill.Goals as goal
 

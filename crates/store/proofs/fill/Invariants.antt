@@ -1,11 +1,8 @@
 -- `fill`: after i turns the first i bytes are `value`, and the others stand as they were.
-use mathlib.Core.Path.{◌∙◌, ◌≡◌, refl, sym}
+use mathlib.Core.Path.{◌≡◌}
 use Prim.Native.Nat.{◌-◌, ◌≤◌}
-use native.Mathlib.Omega.{arith}
-use lib.ListN.{length, length-replicate, length-set, replicate}
-use borrow.Author.Rules.{rules}
+use lib.ListN.{length, replicate}
 use Rattle.model.specs.Bytes.{put}
-use Rattle.store.proofs.Laws.{put_all, put-more, put-none, replicate_more}
 use Rattle.store.proofs.fill.Given as goal
 
 abbrev pub invariant-loop-i : goal.invariant-loop-i

@@ -1,7 +1,6 @@
 -- `move_within`: the bytes are taken up, then laid down.
 use native.Mathlib.Omega.{arith}
 use lib.ListN.{replicate}
-use borrow.Author.Rules.{rules}
 use Rattle.store.proofs.Held.{held}
 use Rattle.store.proofs.move_within.Goals as goal
 

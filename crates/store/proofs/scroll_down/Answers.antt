@@ -1,7 +1,6 @@
 -- `scroll_down`: the part comes home moved by a line.
 use Prim.Native.Nat.{◌+◌, ◌-◌}
 use native.Mathlib.Omega.{arith}
-use borrow.Author.Rules.{rules}
 use Rattle.model.specs.Bytes.{scrolled_down}
 use Rattle.store.proofs.Laws.{lent}
 use Rattle.store.proofs.scroll_down.Goals as goal

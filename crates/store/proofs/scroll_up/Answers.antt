@@ -1,7 +1,6 @@
 -- `scroll_up`: the part comes home moved by a line.
 use Prim.Native.Nat.{◌+◌, ◌-◌}
 use native.Mathlib.Omega.{arith}
-use borrow.Author.Rules.{rules}
 use Rattle.model.specs.Bytes.{scrolled_up}
 use Rattle.store.proofs.Laws.{lent}
 use Rattle.store.proofs.scroll_up.Goals as goal

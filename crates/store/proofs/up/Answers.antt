@@ -3,7 +3,6 @@ use mathlib.Core.Path.{◌∙◌, refl}
 use Prim.Native.Nat.{◌-◌}
 use native.Mathlib.Omega.{arith}
 use lib.ListN.{length}
-use borrow.Author.Rules.{rules}
 use Rattle.store.proofs.Scrolls.{up_made}
 use Rattle.store.proofs.up.Goals as goal
 

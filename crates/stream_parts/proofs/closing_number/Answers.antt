@@ -1,8 +1,6 @@
 -- By the two tests, in their order.
 use mathlib.Core.Path.{◌∙◌, refl, sym}
 use mathlib.Core.Bool.{false, true}
-use borrow.Author.Rules.{rules}
-use borrow.Author.Tests.{not-false, not-true}
 use Rattle.calls.specs.Calls.{sized, terminal}
 use Rattle.stream_parts.proofs.Refusals.{closing_numbered}
 use Rattle.stream_parts.proofs.closing_number.Goals as goal

@@ -1,5 +1,4 @@
 -- The offset moves only where a refusal is counted.
-use borrow.Author.Rules.{rules}
 use borrow.Author.Tests.{eq-eqb, ne_eqb}
 use Rattle.stream_parts.proofs.counted_from.Goals as goal
 

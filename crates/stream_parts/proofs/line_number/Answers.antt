@@ -1,8 +1,7 @@
 -- By the five tests, in their order.
 use mathlib.Core.Path.{◌∙◌, refl, sym}
 use mathlib.Core.Bool.{false, true}
-use borrow.Author.Rules.{rules}
-use borrow.Author.Tests.{le-leb, lt-leb, not-false, not-true}
+use borrow.Author.Tests.{le-leb, lt-leb}
 use Rattle.calls.specs.Calls.{countable, sized, sound_in, terminal}
 use Rattle.stream_parts.proofs.Refusals.{line_numbered}
 use Rattle.stream_parts.proofs.line_number.Goals as goal

@@ -1,5 +1,4 @@
 -- By which of the two has refusals.
-use borrow.Author.Rules.{rules}
 use borrow.Author.Tests.{eq-eqb, ne_eqb}
 use Rattle.stream_parts.proofs.together.Goals as goal
 

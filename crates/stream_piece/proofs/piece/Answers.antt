@@ -2,7 +2,6 @@
 use mathlib.Core.Path.{sym}
 use native.Mathlib.Omega.{arith}
 use lib.Seq.{length-take-le}
-use borrow.Author.Rules.{rules}
 use borrow.Author.Tests.{not-false}
 use Rattle.stream_parts.proofs.PlainPiece.{Plain, plain_end, plain_near, plain_refused, plain_rest, plain_served, plain-whole}
 use Rattle.stream_piece.proofs.piece.Goals as goal

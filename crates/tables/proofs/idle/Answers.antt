@@ -1,6 +1,5 @@
 -- `tables::idle` meets its contract: each arm computes it of the sequence that it names, and the last is for the others.
 use mathlib.Core.Path.{sym}
-use borrow.Author.Rules.{rules}
 use Rattle.model.specs.Checks.{member}
 use Rattle.model.specs.Sequences.{idle?}
 use Rattle.tables.proofs.IdleLaws.{elsewhere, never, there}

@@ -5,7 +5,6 @@ use mathlib.Core.List.{[], ◌∷◌}
 use native.Mathlib.Omega.{arith}
 use Rattle.model.specs.Sequences.{find, mode_row_of}
 use Rattle.tables.proofs.LengthLaws.{by_key, by_mode, by_other, by_run}
-use borrow.Enum.Refused.{opened}
 use Rattle.tables.proofs.length_of.Goals as goal
 
 pub returns-in-210 : goal.returns-in-210

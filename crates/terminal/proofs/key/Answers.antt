@@ -1,8 +1,7 @@
 -- Number 0: the text in its place. Any other: nothing altered. What the number says of key and text gives the bounds.
 use mathlib.Core.Path.{◌∙◌, ◌≡◌, sym}
 use native.Mathlib.Omega.{arith}
-use borrow.Author.Rules.{rules}
-use Rattle.terminal.proofs.Keys.{Placed, among, refused, stored}
+use Rattle.terminal.proofs.Keys.{among, refused, stored}
 use Rattle.terminal.proofs.key.Goals as goal
 
 pub returns-then-refused-ne0 : goal.returns-then-refused-ne0

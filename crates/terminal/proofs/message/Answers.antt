@@ -1,7 +1,6 @@
 -- Number 0: served and painted. Any other: nothing altered.
 use mathlib.Core.Path.{◌∙◌, sym}
 use Rattle.terminal.proofs.Answers.{refused, servable, served}
-use borrow.Author.Rules.{rules}
 use Rattle.terminal.proofs.message.Goals as goal
 
 pub serve-requires : goal.serve-requires

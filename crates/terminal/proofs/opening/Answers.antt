@@ -1,7 +1,6 @@
 -- The opening meets its promise: by its number the stores are filled, or left as they came.
 use mathlib.Core.Path.{◌∙◌, refl, sym}
 use native.Mathlib.Omega.{arith}
-use borrow.Author.Rules.{rules}
 use Rattle.terminal.proofs.Promises.{byte, filled, kept}
 use Rattle.terminal.proofs.opening.Goals as goal
 

@@ -3,7 +3,6 @@ use mathlib.Core.Path.{sym}
 use lib.Seq.{length-take-le}
 use borrow.Author.Tests.{le-leb, lt-leb}
 use Rattle.calls.specs.Opening.{first_part}
-use borrow.Author.Rules.{rules}
 use Rattle.terminal.proofs.printed.Goals as goal
 
 pub slice_bounds-result-end : goal.slice_bounds-result-end

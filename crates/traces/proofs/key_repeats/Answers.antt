@@ -7,7 +7,6 @@ use Rattle.traces.specs.Call.{checks, sent_in}
 use Rattle.traces.specs.Claims.{Bytes}
 use Rattle.traces.proofs.Claimed.{each_byte}
 use Rattle.traces.proofs.Promises.{at_most, interval_least, refused, room_enough, room_short, served, too_small_lem, whole}
-use borrow.Author.Rules.{rules}
 use Rattle.traces.proofs.key_repeats.Goals as goal
 
 pub returns-then-number-ne0 : goal.returns-then-number-ne0

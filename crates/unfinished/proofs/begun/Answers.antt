@@ -1,5 +1,4 @@
 -- By how many they are, and their first bytes.
-use borrow.Author.Rules.{rules}
 use Rattle.unfinished.proofs.TestLaws.{begun_alone, begun_more, begun_none, begun_other}
 use Rattle.unfinished.proofs.begun.Goals as goal
 

@@ -3,7 +3,6 @@ use mathlib.Core.Path.{◌∙◌, ◌≡◌}
 use mathlib.Core.Bool.{◌&&◌}
 use lib.Dec.{eqb}
 use lib.ListN.{length}
-use borrow.Author.Rules.{rules}
 use Rattle.unfinished.proofs.Arrays.{unmapped}
 use Rattle.unfinished.proofs.QuietLaws.{blank-by}
 use Rattle.unfinished.proofs.blank.Goals as goal

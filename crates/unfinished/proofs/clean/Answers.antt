@@ -1,10 +1,10 @@
 -- `all` is the test of the bytes that were looked at.
-use mathlib.Core.Path.{◌∙◌, ◌≡◌, ap, refl, sym}
-use Prim.Native.Nat.{◌+◌, ◌-◌, ◌≤◌, ℕ, suc}
+use mathlib.Core.Path.{◌∙◌, ap, sym}
+use Prim.Native.Nat.{◌-◌, ℕ}
 use native.Mathlib.Numerals.{add-one}
 use native.Mathlib.Omega.{arith}
 use mathlib.Core.Bool.{Bool, ◌&&◌, ◌||◌}
-use lib.ListN.{drop, get_or, length, take}
+use lib.ListN.{drop, get_or, take}
 use lib.Seq.{drop-nil, take_all}
 use lib.Dec.{eqb, ltb}
 use borrow.Author.Rules.{rules}

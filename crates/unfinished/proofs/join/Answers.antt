@@ -1,6 +1,5 @@
 -- Two copies into zeros, one behind the other.
 use Prim.Native.Nat.{ℕ}
-use native.Mathlib.Omega.{arith}
 use lib.ListN.{length-replicate, replicate}
 use borrow.Author.Rules.{rules}
 use Rattle.unfinished.proofs.JoinLaws.{joins}

@@ -1,10 +1,6 @@
 -- No byte from the twelfth last on that was looked at is an ESC, as long as `none` holds.
-use mathlib.Core.Path.{◌≡◌}
-use Prim.Native.Nat.{◌+◌, ◌-◌, ◌<◌, ◌≤◌, ℕ}
+use Prim.Native.Nat.{◌-◌}
 use native.Mathlib.Omega.{arith}
-use mathlib.Core.Bool.{true}
-use lib.ListN.{get_or, length}
-use borrow.Author.Rules.{rules}
 use Rattle.unfinished.proofs.TestLaws.{seen}
 use Rattle.unfinished.proofs.no_late_escape.Goals as goal
 

@@ -1,6 +1,5 @@
 -- A copy into zeros.
 use mathlib.Core.Path.{◌∙◌}
-use borrow.Author.Rules.{rules}
 use Rattle.unfinished.proofs.JoinLaws.{pads}
 use Rattle.unfinished.proofs.padded.Goals as goal
 

@@ -2,7 +2,6 @@
 use mathlib.Core.Path.{◌∙◌, ◌≡◌}
 use mathlib.Core.Bool.{◌&&◌}
 use lib.ListN.{length}
-use borrow.Author.Rules.{rules}
 use Rattle.unfinished.proofs.Arrays.{unmapped}
 use Rattle.unfinished.proofs.TestLaws.{line_by}
 use Rattle.unfinished.proofs.sound.Goals as goal

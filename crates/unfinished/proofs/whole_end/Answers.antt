@@ -1,11 +1,8 @@
 -- What is behind the offset ends where all of it does; each turn goes over one whole item.
-use mathlib.Core.Path.{◌∙◌, ◌≡◌, ap, sym}
-use Prim.Native.Nat.{◌+◌, ◌-◌, ◌≤◌, ℕ}
+use mathlib.Core.Path.{◌∙◌, sym}
+use Prim.Native.Nat.{◌-◌}
 use native.Mathlib.Nat.{zero-add}
 use native.Mathlib.Omega.{arith}
-use lib.ListN.{drop, length}
-use borrow.Author.Rules.{rules}
-use Rattle.unfinished.specs.Whole.{whole_end}
 use Rattle.unfinished.proofs.EndLaws.{end_all, end_late, end_next, end_stop}
 use Rattle.unfinished.proofs.whole_end.Goals as goal
 

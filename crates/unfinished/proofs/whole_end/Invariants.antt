@@ -1,12 +1,8 @@
 -- What is behind the offset ends where all of it does; each turn goes over one whole item.
-use mathlib.Core.Path.{◌∙◌, ◌≡◌, ap, sym}
-use Prim.Native.Nat.{◌+◌, ◌-◌, ◌≤◌, ℕ}
-use native.Mathlib.Nat.{zero-add}
-use native.Mathlib.Omega.{arith}
+use mathlib.Core.Path.{◌≡◌}
+use Prim.Native.Nat.{◌+◌, ◌-◌, ◌≤◌}
 use lib.ListN.{drop, length}
-use borrow.Author.Rules.{rules}
 use Rattle.unfinished.specs.Whole.{whole_end}
-use Rattle.unfinished.proofs.EndLaws.{end_all, end_late, end_next, end_stop}
 use Rattle.unfinished.proofs.whole_end.Given as goal
 
 abbrev pub invariant-loop-at : goal.invariant-loop-at

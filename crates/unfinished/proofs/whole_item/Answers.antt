@@ -1,8 +1,7 @@
 -- By the bytes that it looks at, in their order: one law a return.
-use mathlib.Core.Path.{◌∙◌, ◌≡◌, ap, sym}
-use Prim.Native.Nat.{ℕ, ◌+◌}
+use mathlib.Core.Path.{◌∙◌, ap}
+use Prim.Native.Nat.{◌+◌}
 use lib.ListN.{get_or}
-use borrow.Author.Rules.{rules}
 use Rattle.tables.specs.Lengths.{length_of}
 use Rattle.unfinished.proofs.ItemLaws.{alone, cut, listed, plain, unlisted}
 use Rattle.unfinished.proofs.whole_item.Goals as goal

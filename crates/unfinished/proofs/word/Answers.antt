@@ -1,6 +1,5 @@
 -- Four bytes fit a number.
 use mathlib.Core.Path.{refl}
-use borrow.Author.Rules.{rules}
 use Rattle.unfinished.proofs.word.Goals as goal
 
 pub returns : goal.returns

@@ -2,7 +2,6 @@
 -- what the function that the arm calls ensures. The last arm leaves what changes nothing, and what does more than set something.
 use mathlib.Core.Path.{refl}
 use native.Mathlib.Omega.{arith}
-use borrow.Author.Rules.{rules}
 use Rattle.model.specs.Sound.{array_ranges}
 use Rattle.model.specs.Checks.{member}
 use Rattle.model.specs.OnScreen.{on_screen?}

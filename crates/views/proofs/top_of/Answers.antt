@@ -1,6 +1,5 @@
 -- `top_of`: the copy's place with that number is the settings'.
 use mathlib.Core.Path.{refl}
-use borrow.Author.Rules.{rules}
 use Rattle.model.specs.Screens.{place_of}
 use Rattle.views.proofs.top_of.Goals as goal
 

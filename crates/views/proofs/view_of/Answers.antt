@@ -1,7 +1,6 @@
 -- `view_of`: the view of each mode.
 use mathlib.Core.Path.{refl}
 use native.Mathlib.Omega.{arith}
-use borrow.Author.Rules.{rules}
 use Rattle.model.proofs.Keep.{both_there, screens_low}
 use Rattle.views.proofs.Views.{shows_halves, shows_sides, shows-whole}
 use Rattle.views.proofs.view_of.Goals as goal

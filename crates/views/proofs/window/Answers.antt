@@ -1,6 +1,5 @@
 -- `window`: what the settings say of the screen with that number.
 use native.Mathlib.Omega.{arith}
-use borrow.Author.Rules.{rules}
 use Rattle.model.proofs.Keep.{screens_most}
 use Rattle.views.proofs.Windows.{window_1, window_2}
 use Rattle.views.proofs.window.Goals as goal

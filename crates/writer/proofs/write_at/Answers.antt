@@ -1,5 +1,4 @@
 -- `writer::write_at` meets its contract: the reader takes all bytes of a named sequence. The rows are eight by the parameter's type.
-use borrow.Author.Rules.{rules}
 use Rattle.writer.proofs.Laws.{promised_as, wanted-named}
 use Rattle.writer.proofs.write_at.Goals as goal
 

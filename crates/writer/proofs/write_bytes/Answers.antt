@@ -1,6 +1,5 @@
 -- `writer::write_bytes` meets its contract: too many parameters are told at once; else what is gathered is what is wanted.
 use native.Mathlib.Omega.{arith}
-use borrow.Author.Rules.{rules}
 use Rattle.writer.proofs.Laws.{promised_as, too_many, wanted-given}
 use Rattle.writer.proofs.write_bytes.Goals as goal
 

@@ -1,6 +1,5 @@
 -- `selected_place` meets its contract: the copy's place with that number is the settings'.
 use mathlib.Core.Path.{refl}
-use borrow.Author.Rules.{rules}
 use Rattle.model.specs.Screens.{place_of}
 use Rattle.applying.proofs.places.selected_place.Goals as goal
 

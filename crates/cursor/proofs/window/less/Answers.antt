@@ -1,6 +1,5 @@
 -- `window::less` meets its contract: what it holds in range is the top less the step, or 0.
 use native.Mathlib.Omega.{arith}
-use borrow.Author.Rules.{rules}
 use Rattle.cursor.proofs.Windows.{earlier_top}
 use Rattle.cursor.proofs.window.less.Goals as goal
 

@@ -1,5 +1,4 @@
 -- `window::misses` meets its contract: it is the rule's test, on the frame's numbers.
-use borrow.Author.Rules.{rules}
 use Rattle.cursor.proofs.Windows.{lost_is}
 use Rattle.cursor.proofs.window.misses.Goals as goal
 

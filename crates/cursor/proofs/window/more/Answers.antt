@@ -1,6 +1,5 @@
 -- `window::more` meets its contract: what it holds in range is the top and the step.
 use native.Mathlib.Omega.{arith}
-use borrow.Author.Rules.{rules}
 use Rattle.cursor.proofs.Windows.{later_top}
 use Rattle.cursor.proofs.window.more.Goals as goal
 

@@ -1,14 +1,12 @@
 -- `count`: what was counted and what is left to list are together the whole list.
-use mathlib.Core.Path.{◌≡◌, ap, ◌∙◌}
+use mathlib.Core.Path.{ap, ◌∙◌}
 use mathlib.Core.Logic.{⊎_elim}
-use Prim.Native.Nat.{◌+◌, ◌-◌, ◌≤◌}
+use Prim.Native.Nat.{◌-◌}
 use native.Mathlib.Nat.{zero-add}
 use native.Mathlib.Omega.{arith}
 use lib.ListN.{length}
-use borrow.Author.Rules.{rules}
 use borrow.Author.Tests.{eq-eqb, ne_eqb}
-use Rattle.differences.specs.Differences.{differences}
-use Rattle.differences.proofs.Laws.{list_from, list_start, list_same, list_other, list_end}
+use Rattle.differences.proofs.Laws.{list_start, list_same, list_other, list_end}
 use Rattle.differences.proofs.search.count.Goals as goal
 
 pub loop-p-init : goal.loop-p-init

@@ -1,10 +1,9 @@
 -- `seek`: what was looked at does not differ, so the search from here finds what the search from the start does.
-use mathlib.Core.Path.{◌≡◌, refl, sym, ◌∙◌}
-use Prim.Native.Nat.{◌-◌, ◌≤◌}
+use mathlib.Core.Path.{refl, sym, ◌∙◌}
+use Prim.Native.Nat.{◌-◌}
 use native.Mathlib.Omega.{arith}
-use borrow.Author.Rules.{rules}
 use borrow.Author.Tests.{eq-eqb, ne_eqb}
-use Rattle.differences.proofs.Laws.{place_from, place_same, place_here, place_end}
+use Rattle.differences.proofs.Laws.{place_same, place_here, place_end}
 use Rattle.differences.proofs.search.seek.Goals as goal
 
 pub loop-p-init : goal.loop-p-init

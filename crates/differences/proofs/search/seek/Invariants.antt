@@ -1,10 +1,7 @@
 -- `seek`: what was looked at does not differ, so the search from here finds what the search from the start does.
-use mathlib.Core.Path.{◌≡◌, refl, sym, ◌∙◌}
+use mathlib.Core.Path.{◌≡◌}
 use Prim.Native.Nat.{◌-◌, ◌≤◌}
-use native.Mathlib.Omega.{arith}
-use borrow.Author.Rules.{rules}
-use borrow.Author.Tests.{eq-eqb, ne_eqb}
-use Rattle.differences.proofs.Laws.{place_from, place_same, place_here, place_end}
+use Rattle.differences.proofs.Laws.{place_from}
 use Rattle.differences.proofs.search.seek.Given as goal
 
 abbrev pub invariant-loop-p : goal.invariant-loop-p

@@ -1,5 +1,4 @@
 -- `change`: its three ways, by what `|` and `^` make of a byte and a weight.
-use borrow.Author.Rules.{rules}
 use Rattle.dots.proofs.Changing.{changed_off, changed_on, changed_over, weight_held}
 use Rattle.dots.proofs.dot.change.Goals as goal
 

@@ -1,5 +1,4 @@
 -- `change_dot`: the byte of the dot is set to what `change` makes of it.
-use borrow.Author.Rules.{rules}
 use Rattle.dots.proofs.Dots.{dot_made}
 use Rattle.dots.proofs.dot.change_dot.Goals as goal
 

@@ -2,7 +2,6 @@
 use mathlib.Core.Path.{ap}
 use native.Mathlib.Omega.{arith}
 use lib.ListN.{get_or}
-use borrow.Author.Rules.{rules}
 use Rattle.model.specs.Dot.{bit_of, byte_of, dot_at}
 use Rattle.dots.proofs.Weights.{weight_pos}
 use Rattle.dots.proofs.dot.dot_at.Goals as goal

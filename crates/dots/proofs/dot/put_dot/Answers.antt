@@ -1,7 +1,6 @@
 -- `put_dot`: 199's 1 is the function 2, its 0 the function 1.
 use mathlib.Core.Path.{◌∙◌, refl}
 use native.Mathlib.Omega.{arith}
-use borrow.Author.Rules.{rules}
 use Rattle.dots.proofs.Dots.{put_off, put_on}
 use Rattle.dots.proofs.dot.put_dot.Goals as goal
 

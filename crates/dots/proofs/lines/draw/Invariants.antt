@@ -1,14 +1,10 @@
 -- `draw`: with dot k reached, dots 0 to k are drawn. The loop starts behind dot 0, so its invariant speaks of every store that dot 0 made into this one.
-use mathlib.Core.Path.{◌∙◌, ◌≡◌}
+use mathlib.Core.Path.{◌≡◌}
 use Prim.Native.Nat.{◌+◌, ◌-◌, ◌≤◌, ℕ}
-use native.Mathlib.Omega.{arith}
 use mathlib.Core.List.{List}
 use lib.ListN.{length}
-use borrow.Author.Rules.{rules}
 use Rattle.model.specs.Strokes.{drawn}
 use Rattle.dots.specs.Walk.{Carried}
-use Rattle.dots.proofs.Drawing.{drawn_all, drawn_more, drawn_none}
-use Rattle.dots.proofs.Walking.{carried_byte, carried_dot, carried_start}
 use Rattle.dots.proofs.lines.draw.Given as goal
 
 abbrev pub invariant-loop-at : goal.invariant-loop-at

@@ -1,6 +1,5 @@
 -- `line`: the longer distance is the horizontal one, or it is not.
 use native.Mathlib.Omega.{arith}
-use borrow.Author.Rules.{rules}
 use Rattle.dots.proofs.Places.{measured_flat, measured_steep}
 use Rattle.dots.proofs.lines.line.Goals as goal
 

@@ -1,7 +1,6 @@
 -- `next`: both axes where the remainder comes to 2N, else the longer one alone.
 use mathlib.Core.Path.{refl}
 use native.Mathlib.Omega.{arith}
-use borrow.Author.Rules.{rules}
 use Rattle.dots.proofs.Walking.{further, further_flat, lower, lower_steep, next_both, next_flat, next_steep, room_column, room_row}
 use Rattle.dots.proofs.lines.next.Goals as goal
 

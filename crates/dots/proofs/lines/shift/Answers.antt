@@ -1,5 +1,4 @@
 -- `shift`: by the way.
-use borrow.Author.Rules.{rules}
 use borrow.Author.Tests.{le-leb, lt-leb}
 use Rattle.dots.proofs.lines.shift.Goals as goal
 

@@ -1,5 +1,4 @@
 -- `step`: by the mask's bit.
-use borrow.Author.Rules.{rules}
 use Rattle.dots.proofs.Drawing.{stepped_off, stepped_on}
 use Rattle.dots.proofs.lines.step.Goals as goal
 

@@ -1,6 +1,5 @@
 -- `here` meets its contract: the copy's place with that number is the settings'.
 use mathlib.Core.Path.{refl}
-use borrow.Author.Rules.{rules}
 use Rattle.model.specs.Screens.{place_of}
 use Rattle.glass.proofs.cursor_place.here.Goals as goal
 

@@ -1,10 +1,8 @@
 -- `place` meets its contract: the crate `cursor`'s function says where the cursor's cell is shown, of any cells and layer.
-use mathlib.Core.Path.{◌∙◌, ◌≡◌, sym}
+use mathlib.Core.Path.{◌∙◌, sym}
 use mathlib.Core.Bool.{true}
 use mathlib.Core.List.{[]}
-use borrow.Author.Rules.{rules}
-use borrow.Author.Tests.{eq-eqb, ne_eqb, not-false, not-true}
-use Rattle.model.specs.Sound.{sound?}
+use borrow.Author.Tests.{eq-eqb, ne_eqb}
 use Rattle.model.specs.State.{state}
 use Rattle.model.proofs.SoundLaws.{sound_true}
 use Rattle.glass.specs.Cursor.{cursor_at}

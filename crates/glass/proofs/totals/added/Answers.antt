@@ -1,5 +1,4 @@
 -- `added` meets its contract: three sums, and by whether a call before has a refusal.
-use borrow.Author.Rules.{rules}
 use borrow.Author.Tests.{eq-eqb, ne_eqb}
 use Rattle.glass.proofs.totals.added.Goals as goal
 

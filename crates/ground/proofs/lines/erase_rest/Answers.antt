@@ -1,6 +1,5 @@
 -- `lines::erase_rest` meets its contract: it ends with the screen's last line.
 use native.Mathlib.Omega.{arith}
-use borrow.Author.Rules.{rules}
 use Rattle.ground.proofs.Regions.{erased_rest}
 use Rattle.ground.proofs.lines.erase_rest.Goals as goal
 

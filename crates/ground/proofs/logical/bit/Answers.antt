@@ -4,7 +4,6 @@ use mathlib.Core.Path.{◌∙◌}
 use lib.Pow.{shl_exact}
 use native.Mathlib.Nat.{one-mul}
 use Prim.Native.Nat.{◌^◌}
-use borrow.Author.Rules.{rules}
 use Rattle.ground.proofs.logical.bit.Goals as goal
 
 pub returns : goal.returns

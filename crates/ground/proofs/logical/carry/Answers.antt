@@ -1,7 +1,6 @@
 -- `carry` meets its contract: the marks outside the region are joined with those in it, moved by one.
 use mathlib.Core.Path.{refl}
 use native.Mathlib.Omega.{arith}
-use borrow.Author.Rules.{rules}
 use Rattle.ground.proofs.LogicalLaws.{down_made, up_made}
 use Rattle.ground.proofs.logical.carry.Goals as goal
 

@@ -1,10 +1,9 @@
 -- `end_of`: every line from the first up to `end` runs on, so that both have the same end.
-use mathlib.Core.Path.{◌∙◌, ◌≡◌, refl, sym}
-use Prim.Native.Nat.{◌-◌, ◌≤◌}
+use mathlib.Core.Path.{◌∙◌, refl, sym}
+use Prim.Native.Nat.{◌-◌}
 use native.Mathlib.Omega.{arith}
 use lib.ListN.{get_or}
-use borrow.Author.Rules.{rules}
-use Rattle.model.specs.Marks.{end_of, mark_in}
+use Rattle.model.specs.Marks.{mark_in}
 use Rattle.ground.proofs.LogicalLaws.{ends, passes}
 use Rattle.ground.proofs.logical.end_of.Goals as goal
 

@@ -1,11 +1,8 @@
 -- `end_of`: every line from the first up to `end` runs on, so that both have the same end.
-use mathlib.Core.Path.{◌∙◌, ◌≡◌, refl, sym}
+use mathlib.Core.Path.{◌≡◌}
 use Prim.Native.Nat.{◌-◌, ◌≤◌}
-use native.Mathlib.Omega.{arith}
 use lib.ListN.{get_or}
-use borrow.Author.Rules.{rules}
 use Rattle.model.specs.Marks.{end_of, mark_in}
-use Rattle.ground.proofs.LogicalLaws.{ends, passes}
 use Rattle.ground.proofs.logical.end_of.Given as goal
 
 abbrev pub invariant-loop-frame : goal.invariant-loop-frame

@@ -4,7 +4,6 @@ use Prim.Native.Nat.{◌-◌, ℕ}
 use native.Mathlib.Omega.{arith}
 use lib.Bits.{and_mask, bit_and}
 use lib.Pow.{pow_pos}
-use borrow.Author.Rules.{rules}
 use Rattle.ground.proofs.logical.lowest.Goals as goal
 
 pub overflow_sub-result : goal.overflow_sub-result

@@ -3,7 +3,6 @@ use mathlib.Core.Path.{refl}
 use Prim.Native.Nat.{◌<◌, ◌^◌}
 use native.Mathlib.Omega.{arith}
 use lib.ListN.{get_or}
-use borrow.Author.Rules.{rules}
 use Rattle.ground.proofs.LogicalLaws.{run_on_made}
 use Rattle.ground.proofs.logical.run_on.Goals as goal
 

@@ -1,7 +1,6 @@
 -- `unmark` meets its contract: what lies above the lines and what lies below them is joined.
 use mathlib.Core.Path.{refl}
 use native.Mathlib.Omega.{arith}
-use borrow.Author.Rules.{rules}
 use Rattle.ground.proofs.LogicalLaws.{unmark_made}
 use Rattle.ground.proofs.logical.unmark.Goals as goal
 

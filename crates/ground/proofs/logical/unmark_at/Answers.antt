@@ -2,7 +2,6 @@
 use Prim.Native.Nat.{◌<◌, ◌^◌}
 use native.Mathlib.Omega.{arith}
 use lib.ListN.{get_or}
-use borrow.Author.Rules.{rules}
 use Rattle.ground.proofs.LogicalLaws.{no_line}
 use Rattle.ground.proofs.logical.unmark_at.Goals as goal
 

@@ -2,7 +2,6 @@
 use mathlib.Core.Path.{◌∙◌, ap}
 use Prim.Native.Nat.{ℕ}
 use lib.ListN.{replicate}
-use borrow.Author.Rules.{rules}
 use Rattle.ground.proofs.marks.empty.Goals as goal
 
 pub returns-then-frame : goal.returns-then-frame

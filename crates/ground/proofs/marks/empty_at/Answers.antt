@@ -3,7 +3,6 @@ use mathlib.Core.Path.{sym}
 use native.Mathlib.Omega.{arith}
 use lib.ListN.{length-set}
 use borrow.Author.Tests.{le-ltb, lt-ltb}
-use borrow.Author.Rules.{rules}
 use Rattle.model.specs.Rules.{empty_at}
 use Rattle.ground.proofs.Rows.{empty_at_bare}
 use Rattle.ground.proofs.marks.empty_at.Goals as goal

@@ -1,6 +1,5 @@
 -- `marks::empty_from` meets its contract: a bare layer stays; else the marks of the places that there are, then their codes.
 use mathlib.Core.Path.{◌∙◌, sym}
-use borrow.Author.Rules.{rules}
 use Rattle.ground.proofs.Rows.{empty_from_bare, empty_from-none, empty_from-put}
 use Rattle.ground.proofs.marks.empty_from.Goals as goal
 

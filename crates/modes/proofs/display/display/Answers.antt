@@ -2,7 +2,6 @@
 use mathlib.Core.Path.{◌∙◌, ap, refl}
 use Prim.Native.Nat.{ℕ}
 use lib.ListN.{replicate}
-use borrow.Author.Rules.{rules}
 use Rattle.model.specs.Rules.{emptied, with_layer, with_settings}
 use Rattle.modes.proofs.Displays.{displayed, fits, line_changes, line_stays}
 use Rattle.modes.proofs.Parts.{stands}

@@ -1,16 +1,14 @@
 -- `bytes_number`: each test of the whole pack is what was found so far and the same test of what is left (proofs/Walking); then by the four tests, in their order.
-use mathlib.Core.Path.{◌∙◌, ◌≡◌, refl, sym}
-use Prim.Native.Nat.{◌+◌, ◌-◌, ◌≤◌}
+use mathlib.Core.Path.{◌∙◌, refl, sym}
+use Prim.Native.Nat.{◌-◌}
 use native.Mathlib.Omega.{arith}
-use mathlib.Core.Bool.{◌&&◌, cond, true}
-use lib.ListN.{drop, length}
-use borrow.Author.Rules.{rules}
-use borrow.Author.Tests.{le-leb, lt-leb, not-false, not-true}
-use Rattle.model.specs.Records.{Record, all?, records_of}
+use mathlib.Core.Bool.{true}
+use lib.ListN.{length}
+use borrow.Author.Tests.{le-leb, lt-leb}
+use Rattle.model.specs.Records.{Record}
 use Rattle.calls.specs.Packs.{known?}
-use Rattle.calls.specs.Calls.{first_of, known_in, packable, sendable, sendable_in}
-use Rattle.packs.specs.Bytes.{of_bytes}
-use Rattle.packs.proofs.Walking.{Whole, behind, fits, known_on, over, sendable_on}
+use Rattle.calls.specs.Calls.{known_in, packable, sendable, sendable_in}
+use Rattle.packs.proofs.Walking.{behind, fits, known_on, over, sendable_on}
 use Rattle.packs.proofs.Numbers.{bytes_numbered}
 use Rattle.packs.proofs.checking.bytes_number.Goals as goal
 

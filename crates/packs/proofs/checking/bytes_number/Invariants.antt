@@ -1,17 +1,12 @@
 -- `bytes_number`: each test of the whole pack is what was found so far and the same test of what is left (proofs/Walking); then by the four tests, in their order.
-use mathlib.Core.Path.{◌∙◌, ◌≡◌, refl, sym}
-use Prim.Native.Nat.{◌+◌, ◌-◌, ◌≤◌}
-use native.Mathlib.Omega.{arith}
-use mathlib.Core.Bool.{◌&&◌, cond, true}
+use mathlib.Core.Path.{◌≡◌}
+use Prim.Native.Nat.{◌-◌}
+use mathlib.Core.Bool.{◌&&◌}
 use lib.ListN.{drop, length}
-use borrow.Author.Rules.{rules}
-use borrow.Author.Tests.{le-leb, lt-leb, not-false, not-true}
 use Rattle.model.specs.Records.{Record, all?, records_of}
 use Rattle.calls.specs.Packs.{known?}
-use Rattle.calls.specs.Calls.{first_of, known_in, packable, sendable, sendable_in}
-use Rattle.packs.specs.Bytes.{of_bytes}
-use Rattle.packs.proofs.Walking.{Whole, behind, fits, known_on, over, sendable_on}
-use Rattle.packs.proofs.Numbers.{bytes_numbered}
+use Rattle.calls.specs.Calls.{known_in, sendable, sendable_in}
+use Rattle.packs.proofs.Walking.{Whole}
 use Rattle.packs.proofs.checking.bytes_number.Given as goal
 
 abbrev pub invariant-loop-at : goal.invariant-loop-at

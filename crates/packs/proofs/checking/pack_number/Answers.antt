@@ -1,7 +1,6 @@
 -- `pack_number`: by the four tests, in their order.
 use mathlib.Core.Path.{◌∙◌, refl, sym}
-use borrow.Author.Rules.{rules}
-use borrow.Author.Tests.{eq-eqb, ne_eqb, not-false, not-true}
+use borrow.Author.Tests.{eq-eqb, ne_eqb}
 use Rattle.calls.specs.Calls.{none_waits, sized, sound_in, terminal}
 use Rattle.packs.proofs.Numbers.{pack_numbered}
 use Rattle.packs.proofs.checking.pack_number.Goals as goal

@@ -2,11 +2,9 @@
 use mathlib.Core.Path.{ap, refl, subst, sym}
 use Prim.Native.Nat.{◌+◌, ◌-◌, ◌≤◌}
 use native.Mathlib.Omega.{arith}
-use lib.ListN.{length}
-use borrow.Author.Rules.{rules}
 use Rattle.counting.specs.declared.Counts.{Counts}
 use Rattle.calls.proofs.Printing.{buffer_length}
-use Rattle.packs.proofs.Turns.{Loop, addable, again, begin, end, going_length, numbers, record_fits, servable}
+use Rattle.packs.proofs.Turns.{addable, again, begin, end, going_length, numbers, record_fits, servable}
 use Rattle.packs.proofs.sending.send_each.Goals as goal
 
 pub loop-at-init : goal.loop-at-init

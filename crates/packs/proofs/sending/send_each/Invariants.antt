@@ -1,12 +1,7 @@
 -- The loop's invariant (proofs/Turns): what was sent and what is left are together the whole call. A turn is one message more.
-use mathlib.Core.Path.{ap, refl, subst, sym}
-use Prim.Native.Nat.{◌+◌, ◌-◌, ◌≤◌}
-use native.Mathlib.Omega.{arith}
+use Prim.Native.Nat.{◌-◌}
 use lib.ListN.{length}
-use borrow.Author.Rules.{rules}
-use Rattle.counting.specs.declared.Counts.{Counts}
-use Rattle.calls.proofs.Printing.{buffer_length}
-use Rattle.packs.proofs.Turns.{Loop, addable, again, begin, end, going_length, numbers, record_fits, servable}
+use Rattle.packs.proofs.Turns.{Loop}
 use Rattle.packs.proofs.sending.send_each.Given as goal
 
 abbrev pub invariant-loop-at : goal.invariant-loop-at

@@ -1,16 +1,9 @@
 -- `lay`: after i turns the layer lies over i places, and the others, which are still to be read, stand as they were.
-use mathlib.Core.Path.{◌∙◌, ◌≡◌, ap, refl}
-use Prim.Native.Nat.{◌+◌, ◌-◌, ◌≤◌, ℕ}
-use native.Mathlib.Omega.{arith}
-use mathlib.Core.List.{List}
-use lib.ListN.{get_or, length, length-set}
-use borrow.Author.Rules.{rules}
-use Rattle.model.specs.Bytes.{list_from}
-use Rattle.model.proofs.ByteLaws.{length_list_from}
-use Rattle.store.proofs.Laws.{put_ahead}
-use Rattle.paint.specs.Shown.{laid, covered_by}
+use mathlib.Core.Path.{◌≡◌}
+use Prim.Native.Nat.{◌-◌, ◌≤◌, ℕ}
+use lib.ListN.{get_or, length}
+use Rattle.paint.specs.Shown.{laid}
 use Rattle.views.specs.Painted.{painted}
-use Rattle.views.proofs.Painted.{painted-more, painted-none}
 use Rattle.paint.proofs.layer.lay.Given as goal
 
 abbrev pub invariant-loop-place : goal.invariant-loop-place

@@ -1,16 +1,9 @@
 -- `lay_last`: as `lay`, from the first place of row 8 on.
-use mathlib.Core.Path.{◌∙◌, ◌≡◌, ap}
-use Prim.Native.Nat.{◌+◌, ◌-◌, ◌≤◌, ℕ}
-use native.Mathlib.Omega.{arith}
-use mathlib.Core.List.{List}
-use lib.ListN.{get_or, length, length-set}
-use borrow.Author.Rules.{rules}
-use Rattle.model.specs.Bytes.{list_from}
-use Rattle.model.proofs.ByteLaws.{length_list_from}
-use Rattle.store.proofs.Laws.{put_ahead}
-use Rattle.paint.specs.Shown.{laid, covered_by}
+use mathlib.Core.Path.{◌≡◌}
+use Prim.Native.Nat.{◌-◌, ◌≤◌, ℕ}
+use lib.ListN.{get_or, length}
+use Rattle.paint.specs.Shown.{laid}
 use Rattle.views.specs.Painted.{painted}
-use Rattle.views.proofs.Painted.{painted-more, painted-none}
 use Rattle.paint.proofs.layer.lay_last.Given as goal
 
 abbrev pub invariant-loop-place : goal.invariant-loop-place

@@ -2,7 +2,6 @@
 use mathlib.Core.Path.{refl}
 use native.Mathlib.Omega.{arith}
 use lib.ListN.{length-set}
-use borrow.Author.Rules.{rules}
 use Rattle.model.specs.Rules.{cover}
 use Rattle.settings.proofs.layer.cover.Goals as goal
 

@@ -1,5 +1,4 @@
 -- `settings::patterns::keep` meets its contract: what `copy_in` puts into the patterns is what is stored.
-use borrow.Author.Rules.{rules}
 use Rattle.settings.proofs.patterns.keep.Goals as goal
 
 pub returns : goal.returns

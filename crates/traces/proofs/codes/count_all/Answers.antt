@@ -1,12 +1,7 @@
 -- `count_all`: what was counted, with the codes that are left, is all; and no stroke sends more than 4,294,967,296.
-use mathlib.Core.Path.{◌≡◌}
-use Prim.Native.Nat.{◌+◌, ◌*◌, ◌-◌, ◌≤◌}
+use Prim.Native.Nat.{◌-◌}
 use native.Mathlib.Omega.{arith}
-use lib.ListN.{length}
-use Rattle.traces.specs.Codes.{sent}
-use Rattle.traces.specs.Stepping.{Whole, strokes_from}
 use Rattle.traces.proofs.Counting.{counted_all_lem}
-use borrow.Author.Rules.{rules}
 use Rattle.traces.proofs.codes.count_all.Goals as goal
 
 pub returns : goal.returns

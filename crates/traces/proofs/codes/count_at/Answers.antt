@@ -1,6 +1,5 @@
 -- `count_at`: the press and its repeats, or nothing for a release.
 use Rattle.traces.proofs.Counting.{counted_press, counted_release}
-use borrow.Author.Rules.{rules}
 use Rattle.traces.proofs.codes.count_at.Goals as goal
 
 pub returns-then-stroke : goal.returns-then-stroke

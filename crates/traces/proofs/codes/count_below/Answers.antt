@@ -1,7 +1,6 @@
 -- `count_below`: no more than there are ticks below the end.
 use native.Mathlib.Omega.{arith}
 use Rattle.traces.proofs.Counting.{few_below, none_below, some_below}
-use borrow.Author.Rules.{rules}
 use Rattle.traces.proofs.codes.count_below.Goals as goal
 
 pub overflow_add-result : goal.overflow_add-result

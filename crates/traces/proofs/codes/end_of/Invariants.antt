@@ -1,12 +1,9 @@
 -- `end_of`: from the tick last passed on, what is left ends the press where the strokes behind it do.
-use mathlib.Core.Path.{◌∙◌, ◌≡◌, refl, sym}
+use mathlib.Core.Path.{◌≡◌}
 use Prim.Native.Nat.{◌-◌}
-use native.Mathlib.Omega.{arith}
 use lib.ListN.{length}
 use Rattle.traces.specs.Codes.{end_of}
 use Rattle.traces.specs.Stepping.{Whole, strokes_from}
-use Rattle.traces.proofs.Counting.{end_here, end_last, end_on}
-use borrow.Author.Rules.{rules}
 use Rattle.traces.proofs.codes.end_of.Given as goal
 
 abbrev pub invariant-loop-at : goal.invariant-loop-at

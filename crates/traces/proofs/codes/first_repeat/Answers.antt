@@ -1,7 +1,6 @@
 -- `first_repeat` is the definition; 64 bits hold it.
 use native.Mathlib.Omega.{arith}
 use Rattle.traces.specs.Codes.{first_repeat}
-use borrow.Author.Rules.{rules}
 use Rattle.traces.proofs.codes.first_repeat.Goals as goal
 
 pub returns : goal.returns

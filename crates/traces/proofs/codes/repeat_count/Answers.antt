@@ -2,7 +2,6 @@
 use mathlib.Core.Path.{◌∙◌, sym}
 use native.Mathlib.Omega.{arith}
 use Rattle.traces.proofs.Counting.{repeat_off, repeat_on}
-use borrow.Author.Rules.{rules}
 use Rattle.traces.proofs.codes.repeat_count.Goals as goal
 
 pub returns-then-keys-eq1 : goal.returns-then-keys-eq1

@@ -1,11 +1,8 @@
 -- `all_strokes`: what is left is all strokes exactly if the trace is.
-use mathlib.Core.Path.{◌∙◌, ◌≡◌, refl, sym}
-use Prim.Native.Nat.{◌-◌, ◌≤◌}
+use mathlib.Core.Path.{◌∙◌, refl, sym}
+use Prim.Native.Nat.{◌-◌}
 use native.Mathlib.Omega.{arith}
 use mathlib.Core.Bool.{true}
-use lib.ListN.{drop, length}
-use Rattle.model.specs.Records.{all?, records_of, uncut?}
-use Rattle.traces.specs.Strokes.{stroke?}
 use Rattle.traces.proofs.Stepping.{all_end}
 use borrow.Author.Rules.{rules}
 use Rattle.traces.proofs.strokes.all_strokes.Goals as goal

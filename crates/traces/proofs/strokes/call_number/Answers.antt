@@ -5,7 +5,6 @@ use lib.ListN.{length}
 use borrow.Author.Tests.{le-leb, lt-leb}
 use Rattle.calls.specs.Calls.{first_of}
 use Rattle.traces.proofs.Promises.{checked}
-use borrow.Author.Rules.{rules}
 use Rattle.traces.proofs.strokes.call_number.Goals as goal
 
 pub all_strokes-requires : goal.all_strokes-requires

@@ -1,7 +1,6 @@
 -- `read_stroke`: the kind, the tick's four bytes and the key.
 use mathlib.Core.Path.{refl}
 use Rattle.traces.proofs.Stepping.{stroke_is}
-use borrow.Author.Rules.{rules}
 use Rattle.traces.proofs.strokes.read_stroke.Goals as goal
 
 pub returns : goal.returns

@@ -1,12 +1,9 @@
 -- `rising`: from the last tick on, what is left never falls exactly if the trace never does.
-use mathlib.Core.Path.{◌∙◌, ◌≡◌, refl, sym}
+use mathlib.Core.Path.{◌≡◌}
 use Prim.Native.Nat.{◌-◌}
-use native.Mathlib.Omega.{arith}
 use lib.ListN.{length}
 use Rattle.traces.specs.Strokes.{rising?, strokes_in}
 use Rattle.traces.specs.Stepping.{Whole, strokes_from}
-use Rattle.traces.proofs.Stepping.{rising_end, rising_not, rising_on}
-use borrow.Author.Rules.{rules}
 use Rattle.traces.proofs.strokes.rising.Given as goal
 
 abbrev pub invariant-loop-at : goal.invariant-loop-at

@@ -3,7 +3,6 @@ use native.Mathlib.Omega.{arith}
 use lib.ListN.{length-set}
 use Rattle.traces.specs.Codes.{code_bytes, codes_bytes, tick_bytes}
 use Rattle.traces.proofs.Laying.{five_put}
-use borrow.Author.Rules.{rules}
 use Rattle.traces.proofs.writing.lay.Goals as goal
 
 pub bounds-output-place-2 : goal.bounds-output-place-2

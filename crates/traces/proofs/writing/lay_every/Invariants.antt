@@ -1,14 +1,10 @@
 -- `lay_every`: what stands, with the codes that are left put behind it, is the whole; four bytes hold each tick that is left.
-use mathlib.Core.Path.{◌∙◌, ◌≡◌, refl, sym}
+use mathlib.Core.Path.{◌≡◌}
 use Prim.Native.Nat.{◌+◌, ◌*◌}
-use native.Mathlib.Omega.{arith}
 use lib.ListN.{length}
 use Rattle.model.specs.Bytes.{put}
 use Rattle.traces.specs.Codes.{codes_bytes, every_from}
 use Rattle.traces.specs.Stepping.{EachHeld}
-use Rattle.traces.proofs.Laying.{every_none, every_step}
-use Rattle.traces.proofs.Claimed.{held_on}
-use borrow.Author.Rules.{rules}
 use Rattle.traces.proofs.writing.lay_every.Given as goal
 
 abbrev pub invariant-loop-left : goal.invariant-loop-left

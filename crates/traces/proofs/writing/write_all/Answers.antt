@@ -1,11 +1,7 @@
 -- `write_all`: what stands, with the codes of the strokes that are left put behind it, is the whole.
-use mathlib.Core.Path.{◌∙◌, ◌≡◌, refl, sym}
-use Prim.Native.Nat.{◌+◌, ◌*◌, ◌-◌, ◌≤◌}
+use mathlib.Core.Path.{◌∙◌, refl, sym}
+use Prim.Native.Nat.{◌-◌}
 use native.Mathlib.Omega.{arith}
-use lib.ListN.{length}
-use Rattle.model.specs.Bytes.{put}
-use Rattle.traces.specs.Codes.{codes_bytes, sent}
-use Rattle.traces.specs.Stepping.{Whole, strokes_from}
 use Rattle.traces.proofs.Laying.{all_written}
 use borrow.Author.Rules.{rules}
 use Rattle.traces.proofs.writing.write_all.Goals as goal

@@ -2,7 +2,6 @@
 use native.Mathlib.Omega.{arith}
 use Rattle.traces.proofs.Counting.{press_length}
 use Rattle.traces.proofs.Laying.{press_written, release_written}
-use borrow.Author.Rules.{rules}
 use Rattle.traces.proofs.writing.write_at.Goals as goal
 
 pub write_press-requires : goal.write_press-requires

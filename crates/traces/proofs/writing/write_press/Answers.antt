@@ -3,7 +3,6 @@ use native.Mathlib.Omega.{arith}
 use Rattle.traces.proofs.Counting.{by_length}
 use Rattle.traces.proofs.Laying.{press_laid}
 use Rattle.traces.proofs.Claimed.{repeats_held}
-use borrow.Author.Rules.{rules}
 use Rattle.traces.proofs.writing.write_press.Goals as goal
 
 pub lay-requires : goal.lay-requires

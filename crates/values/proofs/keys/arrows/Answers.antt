@@ -1,5 +1,4 @@
 -- `values::keys::arrows` meets its contract: what `copy_in` puts into the twelve codes is what `keep` keeps.
-use borrow.Author.Rules.{rules}
 use Rattle.values.proofs.keys.arrows.Goals as goal
 
 pub returns : goal.returns

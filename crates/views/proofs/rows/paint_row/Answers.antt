@@ -1,6 +1,5 @@
 -- `paint_row`: the left pane, the gap's code and the right pane, one behind the other, are what the view shows.
 use native.Mathlib.Omega.{arith}
-use borrow.Author.Rules.{rules}
 use Rattle.views.proofs.Runs.{row_inside, row_made}
 use Rattle.views.proofs.rows.paint_row.Goals as goal
 

@@ -1,8 +1,7 @@
 -- `paint_rows`: after `row` turns the rows before it are painted; the view that is painted is the one that is asked for.
 use mathlib.Core.Path.{◌∙◌, ◌≡◌, subst, sym}
-use Prim.Native.Nat.{◌*◌, ◌+◌, ◌-◌, ◌≤◌, ℕ}
+use Prim.Native.Nat.{◌*◌, ◌+◌, ◌-◌, ℕ}
 use native.Mathlib.Omega.{arith}
-use lib.ListN.{length}
 use borrow.Author.Rules.{rules}
 use Rattle.views.specs.declared.View.{View}
 use Rattle.views.specs.Panes.{Framed, seen}

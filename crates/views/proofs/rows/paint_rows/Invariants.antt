@@ -1,13 +1,9 @@
 -- `paint_rows`: after `row` turns the rows before it are painted; the view that is painted is the one that is asked for.
-use mathlib.Core.Path.{◌∙◌, ◌≡◌, subst, sym}
-use Prim.Native.Nat.{◌*◌, ◌+◌, ◌-◌, ◌≤◌, ℕ}
-use native.Mathlib.Omega.{arith}
+use mathlib.Core.Path.{◌≡◌}
+use Prim.Native.Nat.{◌*◌, ◌-◌, ◌≤◌}
 use lib.ListN.{length}
-use borrow.Author.Rules.{rules}
-use Rattle.views.specs.declared.View.{View}
-use Rattle.views.specs.Panes.{Framed, seen}
+use Rattle.views.specs.Panes.{seen}
 use Rattle.views.specs.Painted.{painted}
-use Rattle.views.proofs.Painted.{painted_next, painted-none}
 use Rattle.views.proofs.rows.paint_rows.Given as goal
 
 abbrev pub invariant-loop-row : goal.invariant-loop-row

@@ -1,5 +1,4 @@
 -- `writer::gathering::gather` meets its contract: a 209 alone, or the parameters copied behind the first two bytes.
-use borrow.Author.Rules.{rules}
 use Rattle.writer.proofs.Laws.{given_alone, given-more}
 use Rattle.writer.proofs.gathering.gather.Goals as goal
 

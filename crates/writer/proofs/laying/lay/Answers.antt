@@ -2,7 +2,6 @@
 use mathlib.Core.Path.{ap, sym}
 use Prim.Native.Nat.{ℕ, ◌+◌}
 use native.Mathlib.Omega.{arith}
-use borrow.Author.Rules.{rules}
 use Rattle.spelling.specs.Spelled.{front}
 use Rattle.writer.proofs.Laws.{front_length, laid_all_lem, laid_none}
 use Rattle.writer.proofs.laying.lay.Goals as goal

@@ -1,8 +1,6 @@
 -- `writer::laying::write_spelled` meets its contract: a law for each way, in the order of the numbers.
 use mathlib.Core.Path.{◌∙◌, sym}
 use native.Mathlib.Omega.{arith}
-use borrow.Author.Tests.{not-true, not-false}
-use borrow.Author.Rules.{rules}
 use Rattle.writer.proofs.Laws.{laid, quiet_word, refused_read, unsound}
 use Rattle.writer.proofs.laying.write_spelled.Goals as goal
 

@@ -1,6 +1,5 @@
 -- `writer::verdicts::limits_of` meets its contract: by the selected screen.
 use mathlib.Core.Path.{refl}
-use borrow.Author.Rules.{rules}
 use Rattle.writer.proofs.Laws.{limits_first, limits_second}
 use Rattle.writer.proofs.verdicts.limits_of.Goals as goal
 

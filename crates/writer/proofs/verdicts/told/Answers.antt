@@ -1,6 +1,5 @@
 -- `writer::verdicts::told` meets its contract: a refusal has its number and its parameter, another item none.
 use mathlib.Core.Path.{refl}
-use borrow.Author.Rules.{rules}
 use Rattle.writer.specs.Writing.{number_in, parameter_in}
 use Rattle.writer.proofs.Laws.{told_none}
 use borrow.Enum.Refused.{opened}
