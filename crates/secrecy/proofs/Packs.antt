@@ -20,21 +20,9 @@ use Rattle.secrecy.specs.Secrecy.{printed_in_pack, revealed}
 use Rattle.model.proofs.Tests.{cond_at}
 use Rattle.model.proofs.Events.{events_append}
 use Rattle.records.proofs.Laws.{body_length, records_next, two_at, uncut_fits, uncut_next}
+use Rattle.secrecy.proofs.PackValues.{value_in}
 use Rattle.secrecy.proofs.Reading.{Twins, printed_value, value_at, whole-step}
 use Rattle.secrecy.proofs.Items.{Along, along, along_append, along_counts, along_end, revealed_append}
-
--- byte i of a pack is a character's value, by the bytes of its bodies alone
-unfoldable pub value_in : List (List ℕ) → ℕ → Bool
-value_in [] i = false
-value_in (m ∷ ms) i = cond (ltb i (4 + length m)) (leb 4 i && value_at (uncut m) 0 (i - 4)) (value_in ms (i - (4 + length m)))
-
-pub printed_in_pack_lem : (ms : List (List ℕ)) (st : State) (room i : ℕ) → printed_in_pack ms st room i ≡ value_in ms i
-unfolding printed_in_pack value_in
-printed_in_pack_lem [] st room i = refl
-printed_in_pack_lem (m ∷ ms) st room i =
-    let rs : List Read = items_in m st room in
-    λ j. cond (ltb i (4 + length m)) (leb 4 i && printed_value (uncut m) 0 st room (i - 4) j)
-    (printed_in_pack_lem ms (apply_all (events_of rs) st) (room - (counted_all rs (blank_answer 0 (length m))).printed) (i - (4 + length m)) j)
 
 -- in a head, in a body, behind it
 module _ (m : List ℕ) (ms : List (List ℕ)) (i : ℕ) where

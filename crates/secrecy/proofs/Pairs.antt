@@ -23,7 +23,8 @@ use Rattle.calls.proofs.CallLaws.{granted_sound, plain_record}
 use Rattle.model.proofs.LineLaws.{held_counted}
 use Rattle.secrecy.proofs.Reading.{InStep, Twins, in_step, printed_value, twins_self, value_at, whole-step}
 use Rattle.secrecy.proofs.Items.{Along, along}
-use Rattle.secrecy.proofs.Packs.{TwinBodies, along_each, printed_in_pack_lem, record_each, twin_bodies, twins_long, twins_some, value_in}
+use Rattle.secrecy.proofs.PackValues.{printed_in_pack_lem, value_in}
+use Rattle.secrecy.proofs.Packs.{TwinBodies, along_each, record_each, twin_bodies, twins_long, twins_some}
 
 -- what two terminals share
 pub hidden_of : {t₁ t₂ : Terminal} → AlikeStart t₁ t₂ → Hidden t₁.state t₂.state

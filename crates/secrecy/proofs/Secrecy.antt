@@ -28,6 +28,7 @@ use Rattle.calls.proofs.CallLaws.{granted_answer, granted_leaves, granted-pack, 
 use Rattle.calls.proofs.LineAfter.{leaves, leaves_texted}
 use Rattle.calls.proofs.Printing.{part_is}
 use Rattle.secrecy.proofs.Items.{along_copies, along_counts, along_end, along_places, along_wide, revealed_append}
+use Rattle.secrecy.proofs.Refusals.{same_reasons}
 use Rattle.secrecy.proofs.Pairs.{Paired, hidden_of, paired}
 
 -- a refused call reads nothing as printed
@@ -39,25 +40,6 @@ none_read t closing r i e = refl
 none_read t (key_text k x) r i e = refl
 none_read t (pack p) r i e = ap (λ (b : Bool). cond b (printed_in_pack (bodies_of p) t.state r i) false) e
 none_read t (short m) r i e = ap (λ (b : Bool). printed_at (cond b (reads_by t (request (short m) r)) []) i) e
-
--- by which number calls with the same bytes are refused: sizes, settings and lengths alone
-same_reasons : {t₁ t₂ : Terminal} {a₁ a₂ : Asked} → AlikeStart t₁ t₂ → SameKind a₁ a₂ → handed a₁ ≡ handed a₂ → reasons t₁ a₁ ≡ reasons t₂ a₂
-unfolding reasons sized sound_in none_waits countable keyable
-same_reasons {t₁} {t₂} h k e = go k e
-  where
-    z : sized t₁ ≡ sized t₂
-    z = λ i. eqb (h.cells i) 3840 && (eqb (h.layer i) 1280 && (eqb (length (h.dots i)) 3840 && eqb (length (h.shown i)) 640))
-
-    s : sound_in t₁ ≡ sound_in t₂
-    s = (blind t₁.state t₂.state (hidden_of h)).sound
-
-    go : {a₁ a₂ : Asked} → SameKind a₁ a₂ → handed a₁ ≡ handed a₂ → reasons t₁ a₁ ≡ reasons t₂ a₂
-    go messages e = λ i. reason 1 (z i) ∷ reason 2 (sendable (e i)) ∷ reason 3 (s i) ∷ reason 16 (none_waits (h.settings i)) ∷ []
-    go pieces e = λ i. reason 1 (z i) ∷ reason 2 (sendable (e i)) ∷ reason 3 (s i) ∷ reason 15 (countable (h.settings i) (e i)) ∷ []
-    go closings e = λ i. reason 1 (z i) ∷ reason 3 (s i) ∷ []
-    go (key_texts {k} l) e = λ i. reason 3 (s i) ∷ reason 17 (leb 1 k && (leb k 10 && eqb (l i) 8)) ∷ []
-    go packs e = λ i. reason 1 (z i) ∷ reason 19 (packable (e i)) ∷ reason 20 (uncut? (e i)) ∷ reason 21 (known_in (e i)) ∷ reason 2 (sendable_in (e i)) ∷ reason 3 (s i) ∷ reason 16 (none_waits (h.settings i)) ∷ []
-    go shorts e = λ i. reason 1 (z i) ∷ reason 2 (sendable (e i)) ∷ reason 3 (s i) ∷ reason 16 (none_waits (h.settings i)) ∷ []
 
 -- an accepted call leaves its stores as long as they were
 module _ (t : Terminal) (r : ℕ) where
