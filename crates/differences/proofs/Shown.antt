@@ -4,7 +4,7 @@ use mathlib.Core.Path.{◌∙◌, ◌≡◌, ap, refl, sym}
 use Prim.Native.Nat.{ℕ, suc, zero, ◌%◌, ◌+◌, ◌/◌}
 use native.Mathlib.Nat.{add-zero}
 use native.Mathlib.Numerals.{add-one}
-use mathlib.Core.Bool.{Bool, cond, true}
+use mathlib.Core.Bool.{cond, true}
 use mathlib.Core.List.{List, [], ◌∷◌}
 use lib.ListN.{drop, get_or, replicate}
 use lib.Seq.{drop-drop, get_or-drop}

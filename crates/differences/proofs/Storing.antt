@@ -23,6 +23,10 @@ pub length_stores : (k : ℕ) (ds ys : List Difference) → length (stores k ds 
 length_stores zero ds ys = refl
 length_stores (suc k) ds ys = length-set (stores k ds ys) k (get_or ds k nowhere) ∙ length_stores k ds ys
 
+-- one store more
+pub stores_next : (k : ℕ) (ds ys zs : List Difference) (d : Difference) → zs ≡ stores k ds ys → get_or ds k nowhere ≡ d → set zs k d ≡ stores (suc k) ds ys
+stores_next k ds ys zs d e h = ap (λ (l : List Difference). set l k d) e ∙ ap (λ (x : Difference). set (stores k ds ys) k x) (sym h)
+
 store : (ds ys : List Difference) (i : ℕ) → i < length ds → i < length ys → set (take i ds ++ drop i ys) i (get_or ds i nowhere) ≡ take (suc i) ds ++ drop (suc i) ys
 store [] ys i h k = absurd (not-suc-le-zero h)
 store (d ∷ ds) [] i h k = absurd (not-suc-le-zero k)
