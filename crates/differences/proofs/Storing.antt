@@ -12,7 +12,7 @@ use Rattle.model.proofs.Tests.{and_left, and_right}
 use Rattle.differences.specs.declared.Difference.{Difference}
 use Rattle.differences.specs.declared.Compared.{Compared}
 use Rattle.differences.specs.Differences.{differences}
-use Rattle.differences.specs.Answers.{ComparePromised, sized, refused_by, compared, listAfter, nowhere}
+use Rattle.differences.specs.Answers.{ComparePromised, sized, refused_by, compared, list_after, nowhere}
 
 -- ys after the first k stores of ds
 abbrev pub stores : ℕ → List Difference → List Difference → List Difference
@@ -85,6 +85,6 @@ leaves true true ds ys h = refl
 leaves true false ds ys h = stored (length ds) ds ys (le_refl _) (h refl) ∙ ap (λ (l : List Difference). l ++ drop (length ds) ys) (take_all ds)
 leaves false short ds ys h = refl
 
-pub all_stored : (a b : List ℕ) (ys : List Difference) → stores (compared a b (length ys)).count (differences a b) ys ≡ listAfter a b ys
-unfolding compared listAfter
+pub all_stored : (a b : List ℕ) (ys : List Difference) → stores (compared a b (length ys)).count (differences a b) ys ≡ list_after a b ys
+unfolding compared list_after
 all_stored a b ys = leaves (sized a b) (ltb (length ys) (length (differences a b))) (differences a b) ys (λ e. ltb-false _ _ e)
