@@ -13,7 +13,7 @@ use Rattle.differences.specs.declared.Difference.{Difference}
 use Rattle.differences.specs.declared.First.{First}
 use Rattle.differences.specs.declared.First.TheVariants.{At, Nothing, Refused}
 use Rattle.differences.specs.Differences.{record_at, listed, differences, sought}
-use Rattle.differences.specs.Answers.{FirstPromised, sized, found_at, first_of, firstValues, head_of, nowhere, values_of}
+use Rattle.differences.specs.Answers.{FirstPromised, sized, found_at, first_of, first_values, head_of, nowhere, values_of}
 
 -- what of the 640 places is left to look through from p on: the list, and the place that the search finds
 abbrev pub list_from : ℕ → List ℕ → List ℕ → List Difference
@@ -86,8 +86,8 @@ head_found (suc n) p a b e = go (eqb (get_or a p 0) (get_or b p 0)) (head_found 
     go true later = later
     go false later = rw (lt-ltb p 640 (omega (arith, e)))
 
-values_first : (a b : List ℕ) → values_of (first_of a b) ≡ firstValues a b
-unfolding first_of firstValues differences
+values_first : (a b : List ℕ) → values_of (first_of a b) ≡ first_values a b
+unfolding first_of first_values differences
 values_first a b = go (sized a b)
   where
     go : (t : Bool) → values_of (cond t (found_at a b (sought 640 0 a b)) (Refused 1)) ≡ cond t (head_of (listed 640 0 a b)) (record { number = 1; found = 0; difference = nowhere })
@@ -95,4 +95,4 @@ values_first a b = go (sized a b)
     go false = refl
 
 pub first_promised : (a b : List ℕ) {r : First} → r ≡ first_of a b → (r ≡ first_of a b) × FirstPromised a b (values_of r)
-first_promised a b e = let f = ap values_of e in (e, record { found_is = f; values-are = f ∙ values_first a b })
+first_promised a b e = let f = ap values_of e in (e, record { found_is = f; values_are = f ∙ values_first a b })

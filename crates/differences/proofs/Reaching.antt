@@ -86,3 +86,17 @@ onwards zero i k a b e h = omega (arith, ap (λ (j : ℕ). reached j a b) (e ∙
 onwards (suc d) i k a b e h =
     let step : k ≡ suc (i + d) = omega (arith, e) in
     omega (arith, onwards d i (i + d) a b refl (omega (arith, h, step)), (finds (i + d) a b (omega (arith, h, step))).from, ap (λ (j : ℕ). reached j a b) step)
+
+-- no more records than places
+listed_within : (n p : ℕ) (a b : List ℕ) → length (listed n p a b) ≤ n
+unfolding listed
+listed_within zero p a b = omega arith
+listed_within (suc n) p a b = go (listed_within n (suc p) a b) (eqb (get_or a p 0) (get_or b p 0))
+  where
+    go : length (listed n (suc p) a b) ≤ n → (t : Bool) → length (cond t (listed n (suc p) a b) (record_at a b p ∷ listed n (suc p) a b)) ≤ suc n
+    go behind true = omega (arith, behind)
+    go behind false = omega (arith, behind)
+
+pub listed_at_most : (a b : List ℕ) → length (differences a b) ≤ 640
+unfolding differences
+listed_at_most a b = listed_within 640 0 a b

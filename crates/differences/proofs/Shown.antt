@@ -4,7 +4,7 @@ use mathlib.Core.Path.{◌∙◌, ◌≡◌, ap, refl, sym}
 use Prim.Native.Nat.{ℕ, suc, zero, ◌%◌, ◌+◌, ◌/◌}
 use native.Mathlib.Nat.{add-zero}
 use native.Mathlib.Numerals.{add-one}
-use mathlib.Core.Bool.{Bool, cond, true}
+use mathlib.Core.Bool.{cond, true}
 use mathlib.Core.List.{List, [], ◌∷◌}
 use lib.ListN.{drop, get_or, replicate}
 use lib.Seq.{drop-drop, get_or-drop}
@@ -12,7 +12,7 @@ use lib.Dec.{eqb}
 use Rattle.differences.specs.declared.Difference.{Difference}
 use Rattle.differences.specs.declared.First.TheVariants.{Nothing}
 use Rattle.differences.specs.Differences.{listed, differences, sought}
-use Rattle.differences.specs.Answers.{sized, compared, listAfter, first_of, nowhere, refused_by}
+use Rattle.differences.specs.Answers.{sized, compared, list_after, first_of, nowhere, refused_by}
 use Rattle.differences.specs.Examples.{Examples, blank, counting, place, three}
 
 -- the next place of a screen is the next byte
@@ -65,12 +65,12 @@ module _ (a b : List ℕ) (whole : sized a b ≡ true) where
   unfolding compared
   three_in_three e = rw (whole, e)
 
-  two_stay : Three → listAfter a b (replicate 2 nowhere) ≡ replicate 2 nowhere
-  unfolding listAfter compared
+  two_stay : Three → list_after a b (replicate 2 nowhere) ≡ replicate 2 nowhere
+  unfolding list_after compared
   two_stay e = rw (whole, e)
 
-  two_behind : Three → listAfter a b (replicate 5 (place 7 7 7 7)) ≡ place 1 80 32 65 ∷ place 2 1 32 66 ∷ place 8 80 32 255 ∷ place 7 7 7 7 ∷ place 7 7 7 7 ∷ []
-  unfolding listAfter compared
+  two_behind : Three → list_after a b (replicate 5 (place 7 7 7 7)) ≡ place 1 80 32 65 ∷ place 2 1 32 66 ∷ place 8 80 32 255 ∷ place 7 7 7 7 ∷ place 7 7 7 7 ∷ []
+  unfolding list_after compared
   two_behind e = rw (whole, e)
 
   none_counted : differences a b ≡ [] → compared a b 0 ≡ counting 0

@@ -12,7 +12,7 @@ use Rattle.model.proofs.Tests.{and_left, and_right}
 use Rattle.differences.specs.declared.Difference.{Difference}
 use Rattle.differences.specs.declared.Compared.{Compared}
 use Rattle.differences.specs.Differences.{differences}
-use Rattle.differences.specs.Answers.{ComparePromised, sized, refused_by, compared, listAfter, nowhere}
+use Rattle.differences.specs.Answers.{ComparePromised, sized, refused_by, compared, list_after, nowhere}
 
 -- ys after the first k stores of ds
 abbrev pub stores : ℕ → List Difference → List Difference → List Difference
@@ -22,6 +22,10 @@ stores (suc k) ds ys = set (stores k ds ys) k (get_or ds k nowhere)
 pub length_stores : (k : ℕ) (ds ys : List Difference) → length (stores k ds ys) ≡ length ys
 length_stores zero ds ys = refl
 length_stores (suc k) ds ys = length-set (stores k ds ys) k (get_or ds k nowhere) ∙ length_stores k ds ys
+
+-- one store more
+pub stores_next : (k : ℕ) (ds ys zs : List Difference) (d : Difference) → zs ≡ stores k ds ys → get_or ds k nowhere ≡ d → set zs k d ≡ stores (suc k) ds ys
+stores_next k ds ys zs d e h = ap (λ (l : List Difference). set l k d) e ∙ ap (λ (x : Difference). set (stores k ds ys) k x) (sym h)
 
 store : (ds ys : List Difference) (i : ℕ) → i < length ds → i < length ys → set (take i ds ++ drop i ys) i (get_or ds i nowhere) ≡ take (suc i) ds ++ drop (suc i) ys
 store [] ys i h k = absurd (not-suc-le-zero h)
@@ -81,6 +85,6 @@ leaves true true ds ys h = refl
 leaves true false ds ys h = stored (length ds) ds ys (le_refl _) (h refl) ∙ ap (λ (l : List Difference). l ++ drop (length ds) ys) (take_all ds)
 leaves false short ds ys h = refl
 
-pub all_stored : (a b : List ℕ) (ys : List Difference) → stores (compared a b (length ys)).count (differences a b) ys ≡ listAfter a b ys
-unfolding compared listAfter
+pub all_stored : (a b : List ℕ) (ys : List Difference) → stores (compared a b (length ys)).count (differences a b) ys ≡ list_after a b ys
+unfolding compared list_after
 all_stored a b ys = leaves (sized a b) (ltb (length ys) (length (differences a b))) (differences a b) ys (λ e. ltb-false _ _ e)

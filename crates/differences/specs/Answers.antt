@@ -20,13 +20,13 @@ unfoldable pub compared : List ℕ → List ℕ → ℕ → Compared
 compared a b room = cond (sized a b) (cond (ltb room (length (differences a b))) (refused_by 18) (record { number = 0; count = length (differences a b) })) (refused_by 1)
 
 -- "one record for each place that differs, in the caller's list", "the list beyond stays"; refused, "the list is then untouched"
-unfoldable pub listAfter : List ℕ → List ℕ → List Difference → List Difference
-listAfter a b list = cond (eqb (compared a b (length list)).number 0) (differences a b ++ drop (length (differences a b)) list) list
+unfoldable pub list_after : List ℕ → List ℕ → List Difference → List Difference
+list_after a b list = cond (eqb (compared a b (length list)).number 0) (differences a b ++ drop (length (differences a b)) list) list
 
 -- what the first call promises: the screens, the list before, the answer, the list after
 pub record ComparePromised (a b : List ℕ) (list : List Difference) (answer : Compared) (list' : List Difference) : Type 0 where
   pub answer_is : answer ≡ compared a b (length list)
-  pub list_is : list' ≡ listAfter a b list
+  pub list_is : list' ≡ list_after a b list
 
 -- the place that the search found, if it lies on the screen
 abbrev pub found_at : List ℕ → List ℕ → ℕ → First
@@ -52,10 +52,10 @@ head_of [] = record { number = 0; found = 0; difference = nowhere }
 head_of (d ∷ ds) = record { number = 0; found = 1; difference = d }
 
 -- the second call's number and values without the enum: the list's head, or "1 in both calls"
-unfoldable pub firstValues : List ℕ → List ℕ → FirstValues
-firstValues a b = cond (sized a b) (head_of (differences a b)) (record { number = 1; found = 0; difference = nowhere })
+unfoldable pub first_values : List ℕ → List ℕ → FirstValues
+first_values a b = cond (sized a b) (head_of (differences a b)) (record { number = 1; found = 0; difference = nowhere })
 
 -- what the second call promises of its number and values: they are those of what the search finds, and of the list's head
 pub record FirstPromised (a b : List ℕ) (values : FirstValues) : Type 0 where
   pub found_is : values ≡ values_of (first_of a b)
-  pub values-are : values ≡ firstValues a b
+  pub values_are : values ≡ first_values a b

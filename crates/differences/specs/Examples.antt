@@ -4,7 +4,7 @@ use Rattle.differences.specs.declared.Difference.{Difference}
 use Rattle.differences.specs.declared.Compared.{Compared}
 use Rattle.differences.specs.declared.First.TheVariants.{At, Nothing, Refused}
 use Rattle.differences.specs.Differences.{differences}
-use Rattle.differences.specs.Answers.{compared, first_of, listAfter, nowhere, refused_by}
+use Rattle.differences.specs.Answers.{compared, first_of, list_after, nowhere, refused_by}
 
 abbrev pub blank : List ℕ
 blank = replicate 640 32
@@ -27,8 +27,8 @@ pub record Examples : Type 0 where
   pub equal : compared blank blank 0 ≡ counting 0
   pub none : first_of blank blank ≡ Nothing
   pub too_short : compared blank three 2 ≡ refused_by 18
-  pub untouched : listAfter blank three (replicate 2 nowhere) ≡ replicate 2 nowhere
+  pub untouched : list_after blank three (replicate 2 nowhere) ≡ replicate 2 nowhere
   pub just_enough : compared blank three 3 ≡ counting 3
-  pub beyond_stays : listAfter blank three (replicate 5 (place 7 7 7 7)) ≡ place 1 80 32 65 ∷ place 2 1 32 66 ∷ place 8 80 32 255 ∷ place 7 7 7 7 ∷ place 7 7 7 7 ∷ []
+  pub beyond_stays : list_after blank three (replicate 5 (place 7 7 7 7)) ≡ place 1 80 32 65 ∷ place 2 1 32 66 ∷ place 8 80 32 255 ∷ place 7 7 7 7 ∷ place 7 7 7 7 ∷ []
   pub size_before_room : compared (drop 1 blank) three 0 ≡ refused_by 1
   pub second_size : first_of blank (drop 1 three) ≡ Refused 1

@@ -8,8 +8,6 @@ use mathlib.Core.List.{List, [], ◌∷◌}
 use lib.ListN.{drop, length, take}
 use lib.Seq.{length-take-le, take_all, take-length}
 use lib.Dec.{eqb, ltb}
-use denote.Enum.Declared.{tag_of}
-use types.Run.{OneOf, miss}
 use borrow.Author.Tests.{eq-eqb, le-leb, le-ltb, lt-leb, lt-ltb, ltb-false, ltb-true, ne_eqb}
 use Rattle.model.specs.declared.Settings.{Settings}
 use Rattle.model.specs.declared.Limits.{Limits}
@@ -24,7 +22,6 @@ use Rattle.model.specs.Judging.{judged, limits_of}
 use Rattle.model.specs.Screens.{columns_of, height, lines_of}
 use Rattle.model.specs.Sound.{sound?}
 use Rattle.calls.specs.Calls.{first_of, reason}
-use Rattle.model.specs.contracts.Item.{the_type}
 use Rattle.model.proofs.ByteLaws.{length-put}
 use Rattle.model.proofs.Gathering.{needed_most}
 use Rattle.model.proofs.ParameterLaws.{read_named}
@@ -56,12 +53,12 @@ module _ (s : Settings) (h : ℕ) (f : h ≡ height s) where
   limits_second e = rw (ne_eqb s.selected 0 e, f)
 
 -- an item that is no refusal
-pub told_none : (i : Item) → OneOf (0 ∷ 1 ∷ 2 ∷ []) (tag_of the_type i) → Told i (record { number = 0; parameter = 0 })
+pub told_none : (i : Item) → ((n p : ℕ) → i ≡ Refused n p → ⊥) → Told i (record { number = 0; parameter = 0 })
 unfolding number_in parameter_in
 told_none (Printed c) o = record { number_is = refl; parameter_is = refl }
 told_none (Control c) o = record { number_is = refl; parameter_is = refl }
 told_none (Sequence q) o = record { number_is = refl; parameter_is = refl }
-told_none (Refused n p) o = absurd (miss (0 ∷ 1 ∷ 2 ∷ []) 3 tt o)
+told_none (Refused n p) o = absurd (o n p refl)
 
 -- the encoder's bytes
 pub front_length : (r : Spelled) → Usable r → length (front r) ≡ r.length

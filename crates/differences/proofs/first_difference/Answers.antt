@@ -1,7 +1,7 @@
 -- `first_difference`: no place that was looked at differs, so the search from here finds what the search from the start does; a row's end is
 -- the next row's start.
 use mathlib.Core.Path.{refl, sym, ap, ◌∙◌}
-use Prim.Native.Nat.{◌+◌, ◌-◌, ◌*◌}
+use Prim.Native.Nat.{◌+◌, ◌*◌}
 use native.Mathlib.Omega.{arith}
 use borrow.Author.Tests.{eq-eqb, ne_eqb}
 use Rattle.differences.specs.declared.First.TheVariants.{At, Refused}

@@ -6,4 +6,4 @@ pub returns : goal.returns
 returns c =
     let e = c.values.ensures in
     let promised = c.first_difference-found.ensures.1 in
-    record { found_is = e ∙ promised.found_is; values-are = e ∙ promised.values-are }
+    record { found_is = e ∙ promised.found_is; values_are = e ∙ promised.values_are }

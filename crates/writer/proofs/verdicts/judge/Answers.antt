@@ -19,7 +19,7 @@ unfolding front
 read_item-reading-requires c =
     let u = c.requires in
     let e = front_length _ u in
-    (omega (arith, e, u.some), omega (arith, e, u.most))
+    record { at_in_bounds = omega (arith, e, u.some); message_len_bound = omega (arith, e, u.most) }
 
 pub returns-then-reading-length : goal.returns-then-reading-length
 unfolding front

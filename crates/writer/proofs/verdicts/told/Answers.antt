@@ -2,7 +2,6 @@
 use mathlib.Core.Path.{refl}
 use Rattle.writer.specs.Writing.{number_in, parameter_in}
 use Rattle.writer.proofs.Laws.{told_none}
-use borrow.Enum.Refused.{opened}
 use Rattle.writer.proofs.verdicts.told.Goals as goal
 
 pub returns-in-Refused : goal.returns-in-Refused
@@ -13,4 +12,4 @@ returns-in-Refused c =
 pub returns-in_default : goal.returns-in_default
 unfolding number_in parameter_in
 returns-in_default c =
-    told_none _ (opened c.in_default.in_default-own.keys2)
+    told_none _ c.in_default.not-Refused
