@@ -1,28 +1,27 @@
 -- What each arm of `obey_item` promises of the item that it has: a printed byte begins a run, ESC 37 prints one character, and any other prints none.
 use mathlib.Core.Path.{◌∙◌, ◌≡◌, ap, refl, subst, sym}
 use Prim.Native.Nat.{◌+◌, ℕ}
-use mathlib.Core.Bool.{Bool, ◌||◌, cond, false, not, true}
+use mathlib.Core.Bool.{Bool, ◌||◌, cond, false, not}
 use mathlib.Core.List.{List, [], ◌∷◌}
 use lib.ListN.{length}
 use lib.Dec.{eqb}
-use denote.Enum.Declared.{tag_of}
-use types.Run.{OneOf, miss}
 use Rattle.model.specs.declared.Item.{Item}
 use Rattle.model.specs.declared.Item.TheVariants.{Control, Printed, Refused, Sequence}
 use Rattle.model.specs.declared.Place.{Place}
+use Rattle.model.specs.declared.Sequence.{Sequence as Seq}
 use Rattle.model.specs.declared.Sequence.TheVariants.{PrintCode}
 use Rattle.model.specs.State.{State, state}
 use Rattle.model.specs.Checks.{member}
+use Rattle.model.specs.Sequences.{code_of}
 use Rattle.model.specs.Screens.{here}
 use Rattle.model.specs.Rules.{apply_item, obeyed, printed, with_dots}
 use Rattle.model.specs.OnScreen.{on_screen?}
 use Rattle.calls.specs.Repaint.{calm?, lifts?, print_lifts?}
-use Rattle.model.specs.contracts.Item.{the_type}
 use Rattle.model.proofs.Tests.{differ}
 use Rattle.ground.specs.declared.Frame.{Frame}
 use Rattle.ground.specs.Acts.{ActsWith}
 use Rattle.screen.proofs.Sequences.{never_idle}
-use Rattle.obeying.specs.Obeying.{Moves, printed?}
+use Rattle.obeying.specs.Obeying.{Moves}
 use Rattle.short_printing.specs.declared.Seen.{Seen}
 use Rattle.short_printing.specs.Seen.{SeenRun, Sees, run_of, seen_all, wide_all, wide_print}
 use Rattle.short_obeying.specs.Watches.{SeesItem, Watches, character, printing?, wide_item}
@@ -72,9 +71,15 @@ other_arm {m} {at} {size} {j = j} {f} {p} {r} {cells} {layer} {marks} {shown} {c
   record { run = λ k. absurd (differ (sym k ∙ no_byte j h)); one = λ k. subst (λ (i : Item). SeesItem i f p secret r.wide cells layer marks shown shown) e (u secret shown n) },
 )
 
--- in the last arm: neither a printed byte nor a sequence
-pub plain_item : (i : Item) → OneOf (1 ∷ 2 ∷ 3 ∷ []) (tag_of the_type i) → OneOf (0 ∷ 1 ∷ 3 ∷ []) (tag_of the_type i) → printing? i ≡ false
-plain_item (Printed c) o u = absurd (miss (1 ∷ 2 ∷ 3 ∷ []) 0 tt o)
-plain_item (Control c) o u = refl
-plain_item (Sequence q) o u = absurd (miss (0 ∷ 1 ∷ 3 ∷ []) 2 tt u)
-plain_item (Refused n p) o u = refl
+-- what is left: a sequence behind ESC 37, or an item that is neither a printed byte nor a sequence
+pub other_code : {i j : Item} {q : Seq} → i ≡ Sequence q → j ≡ Sequence q → eqb (code_of q) 37 ≡ false → (i ≡ j) × (printing? i ≡ false)
+other_code e k h = (e ∙ sym k, rw e h)
+
+not_printing : (i : Item) → ((c : ℕ) → i ≡ Printed c → ⊥) → ((q : Seq) → i ≡ Sequence q → ⊥) → printing? i ≡ false
+not_printing (Printed c) p s = absurd (p c refl)
+not_printing (Control c) p s = refl
+not_printing (Sequence q) p s = absurd (s q refl)
+not_printing (Refused n k) p s = refl
+
+pub other_item : {i j : Item} → i ≡ j → ((c : ℕ) → j ≡ Printed c → ⊥) → ((q : Seq) → j ≡ Sequence q → ⊥) → (i ≡ j) × (printing? i ≡ false)
+other_item {j = j} e p s = (e, rw e (not_printing j p s))

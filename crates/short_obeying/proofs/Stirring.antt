@@ -2,7 +2,7 @@
 -- already; one that does not, and is not wide by its kind, leaves it.
 use mathlib.Core.Path.{◌∙◌, ◌≡◌, ap, refl, sym}
 use Prim.Native.Nat.{ℕ}
-use mathlib.Core.Bool.{Bool, ◌&&◌, ◌||◌, cond, false, not, true}
+use mathlib.Core.Bool.{Bool, ◌&&◌, ◌||◌, false, not, true}
 use mathlib.Core.List.{List}
 use lib.ListN.{length}
 use lib.Dec.{eqb, ltb}
@@ -14,7 +14,7 @@ use Rattle.model.specs.declared.Sequence.{Sequence as Seq}
 use Rattle.model.specs.declared.Settings.{Settings}
 use Rattle.model.specs.State.{State, state}
 use Rattle.model.specs.Checks.{member}
-use Rattle.model.specs.Screens.{here, lines_here, place_of}
+use Rattle.model.specs.Screens.{here, place_of}
 use Rattle.model.specs.Sequences.{code_of, idle?}
 use Rattle.model.specs.Rules.{apply_item, obeyed, with_dots}
 use Rattle.model.specs.OnScreen.{stays_on_screen?}

@@ -4,7 +4,7 @@ use mathlib.Core.Path.{◌∙◌, ◌≡◌, ap, refl, subst, sym}
 use Prim.Native.Nat.{◌+◌, ◌-◌, ◌<◌, ◌≤◌, ℕ}
 use native.Mathlib.Omega.{arith}
 use mathlib.Core.Bool.{Bool, ◌||◌, cond, false, not, true}
-use mathlib.Core.List.{List, []}
+use mathlib.Core.List.{List}
 use lib.ListN.{drop, get_or, length, replicate, set, take}
 use lib.Dec.{eqb}
 use Rattle.model.specs.declared.Item.{Item}
@@ -12,14 +12,11 @@ use Rattle.model.specs.declared.Item.TheVariants.{Control, Printed, Refused, Seq
 use Rattle.model.specs.declared.Outcome.{Outcome}
 use Rattle.model.specs.declared.Place.{Place}
 use Rattle.model.specs.declared.Settings.{Settings}
-use Rattle.model.specs.declared.Sequence.TheVariants.{PrintCode}
 use Rattle.model.specs.State.{State, state, with_marks, with_places}
 use Rattle.model.specs.Checks.{member}
 use Rattle.model.specs.Screens.{here, place_of}
-use Rattle.model.specs.Sequences.{code_of, idle?}
 use Rattle.model.specs.Sound.{Good}
-use Rattle.model.specs.Judging.{judged, limits_of}
-use Rattle.model.specs.Reading.{Read, byte_of, item_of, own_bytes}
+use Rattle.model.specs.Reading.{Read, byte_of, own_bytes}
 use Rattle.model.specs.Rules.{apply_item, printed}
 use Rattle.model.specs.Items.{obeyed_by, printer_bytes}
 use Rattle.model.specs.OnScreen.{stays_on_screen?}
@@ -47,7 +44,7 @@ use Rattle.counting.proofs.CountingLaws.{printed_with}
 use Rattle.serving.proofs.Runs.{run}
 use Rattle.serving.proofs.Turns.{Loop, acted, bared, begin, changed, changed_to, end, away, marks_are, is_item, moved_to, printed_counts, ran_to}
 use Rattle.short_printing.specs.declared.Seen.{Seen}
-use Rattle.short_obeying.specs.Watches.{Inks, SeesItem, Watches, character, none, printing?, wide_item}
+use Rattle.short_obeying.specs.Watches.{Inks, Watches, character, none, printing?, wide_item}
 use Rattle.short_printing.specs.Seen.{Sees, run_of, seen_all, veiled, wide_print}
 use Rattle.short_serving.specs.ServesShort.{ServesShort}
 use Rattle.short_printing.proofs.Seeing.{or_none}

@@ -1,5 +1,4 @@
 -- `print_run`: the bytes from `at` up to i were printed and seen, part by part.
-use Prim.Native.Nat.{◌-◌}
 use native.Mathlib.Omega.{arith}
 use borrow.Author.Rules.{rules}
 use Rattle.short_printing.proofs.Seeing.{seen_all_lem, seen_none, seen_part}
@@ -12,7 +11,7 @@ loop-i-init c =
 pub print_part-part-requires : goal.print_part-part-requires
 print_part-part-requires c =
     let a = c.loop-i.invariant.1 in
-    (a.along.acts.ready, ((a.along.acts.marks_are, a.sees.size), search rules))
+    record { ready = a.along.acts.ready; marks_len = (a.along.acts.marks_are, a.sees.size); at_lt_end = search rules }
 
 pub loop-i-preserved : goal.loop-i-preserved
 loop-i-preserved c =

@@ -1,7 +1,7 @@
 -- The loop's invariant (proofs/Watching): it is serving's loop, and what is left of the message gives the same shown screen. Each way through the loop is one
 -- turn of it.
 use mathlib.Core.Path.{◌∙◌, refl, sym}
-use Prim.Native.Nat.{◌-◌, ◌<◌}
+use Prim.Native.Nat.{◌<◌}
 use native.Mathlib.Omega.{arith}
 use borrow.Author.Rules.{rules}
 use Rattle.model.proofs.Keep.{chosen}
@@ -27,7 +27,7 @@ overflow_sub-printer c =
 
 pub read_at-read-requires : goal.read_at-read-requires
 read_at-read-requires c =
-    (c.loop-at-test.true, c.loop-at.invariant.loop.sendable)
+    record { at_in_bounds = c.loop-at-test.true; message_len_bound = c.loop-at.invariant.loop.sendable }
 
 pub count-counts-requires : goal.count-counts-requires
 count-counts-requires c =
@@ -40,7 +40,7 @@ slice_bounds-obey_item-end c =
 pub obey_item-run-requires : goal.obey_item-run-requires
 obey_item-run-requires c =
     let g = c.loop-at.invariant in
-    (g.loop.ready, ((marks_are _ _ _ _ _ _ _ _ g.loop, g.still.size), offered _ _ _ _ _ _ _ _ g.loop c.loop-at-test.true c.read_at-read.result c.read_at-read.ensures))
+    record { ready = g.loop.ready; marks_len = (marks_are _ _ _ _ _ _ _ _ g.loop, g.still.size); offered = offered _ _ _ _ _ _ _ _ g.loop c.loop-at-test.true c.read_at-read.result c.read_at-read.ensures }
 
 pub wipe_after-requires : goal.wipe_after-requires
 wipe_after-requires c =
