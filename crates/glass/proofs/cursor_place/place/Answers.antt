@@ -1,6 +1,5 @@
 -- `place` meets its contract: the crate `cursor`'s function says where the cursor's cell is shown, of any cells and layer.
 use mathlib.Core.Path.{◌∙◌, sym}
-use mathlib.Core.Bool.{true}
 use mathlib.Core.List.{[]}
 use borrow.Author.Tests.{eq-eqb, ne_eqb}
 use Rattle.model.specs.State.{state}
