@@ -1,6 +1,5 @@
 -- Its number tells where it goes; one that is not 0 is the piece's own.
 use mathlib.Core.Path.{◌∙◌}
-use borrow.Author.Rules.{rules}
 use Rattle.calls.specs.Calls.{piece, terminal}
 use Rattle.stream_parts.proofs.Pieces.{promised_not}
 use Rattle.stream_parts.proofs.Unsound.{line_refused}
