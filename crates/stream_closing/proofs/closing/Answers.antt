@@ -58,7 +58,7 @@ slice_bounds-waiting-end-2 c =
 pub slice_bounds-lined-end : goal.slice_bounds-lined-end
 slice_bounds-lined-end c =
     let at = goal.at.slice_bounds-lined-end c in
-    sym (length-take-le _ _ (omega (arith, (line at.Else-number-ne0 (size at.Start)).fits, size at.Start)))
+    sym (length-take-le _ c.args.settings.waiting (omega (arith, (line at.Else-number-ne0 (size at.Start)).fits, size at.Start)))
 
 pub counted_from-requires : goal.counted_from-requires
 counted_from-requires c =
