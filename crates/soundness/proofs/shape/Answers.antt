@@ -17,10 +17,10 @@ returns-then-mode-eq1 c =
 
 pub returns-then-mode-eq2 : goal.returns-then-mode-eq2
 unfolding shape_ranges
-returns-then-mode-eq2 c = 
+returns-then-mode-eq2 c =
     rw (ne_eqb _ _ c.if-mode-eq0.false, ne_eqb _ _ c.if-mode-eq1.false, eq-eqb _ _ c.if-mode-eq2.true, c.minus-beside.ensures) (let a = c.args in mode_2 a.lines1 a.lines2 a.columns1 a.columns2 (79 - a.columns1))
 
 pub returns : goal.returns
 unfolding shape_ranges
-returns c = 
+returns c =
     rw (ne_eqb _ _ c.if-mode-eq0.false, ne_eqb _ _ c.if-mode-eq1.false, ne_eqb _ _ c.if-mode-eq2.false) c.curve.ensures
