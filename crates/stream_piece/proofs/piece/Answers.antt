@@ -2,10 +2,6 @@
 use mathlib.Core.Path.{sym}
 use native.Mathlib.Omega.{arith}
 use lib.Seq.{length-take-le}
-<<<<<<< HEAD
-use borrow.Author.Tests.{not-false}
-=======
->>>>>>> 071feb0375cf907becb06cc0ab2d748dbdc08021
 use Rattle.stream_parts.proofs.PlainPiece.{Plain, plain_end, plain_near, plain_refused, plain_rest, plain_served, plain-whole}
 use Rattle.stream_piece.proofs.piece.Goals.{After-whole_end-end}
 use Rattle.stream_piece.proofs.piece.Goals as goal
