@@ -1,16 +1,16 @@
 -- The short call's promise: from what serving a short message ensures, or from stores left as they came; and a message within the line as one run of its loop.
-use mathlib.Core.Path.{◌∙◌, ◌≡◌, ap, refl, subst, sym}
-use Prim.Native.Nat.{◌+◌, ◌≤◌, ℕ}
+use mathlib.Core.Path.{◌∙◌, ◌≡◌, ap, refl, sym}
+use Prim.Native.Nat.{◌+◌, ℕ}
 use native.Mathlib.Nat.{zero-add}
 use native.Mathlib.Omega.{arith}
-use mathlib.Core.Bool.{false, true}
+use mathlib.Core.Bool.{false}
 use mathlib.Core.List.{List}
 use lib.ListN.{drop, length, set, take}
 use Rattle.model.specs.declared.Answer.{Answer}
 use Rattle.model.specs.declared.Outcome.{Outcome}
 use Rattle.model.specs.declared.Place.{Place}
 use Rattle.model.specs.declared.Settings.{Settings}
-use Rattle.model.specs.State.{State, state, with_places}
+use Rattle.model.specs.State.{state, with_places}
 use Rattle.model.specs.Screens.{place_of}
 use Rattle.model.specs.Picture.{picture}
 use Rattle.model.specs.Items.{blank_answer}
@@ -24,7 +24,7 @@ use Rattle.paint.specs.Shown.{Visible}
 use Rattle.views.specs.Painted.{painted}
 use Rattle.ground.specs.declared.Frame.{Frame}
 use Rattle.ground.specs.Frame.{FrameOf}
-use Rattle.ground.specs.Acts.{Acts, with_here, with_place}
+use Rattle.ground.specs.Acts.{Acts, with_place}
 use Rattle.runs.specs.Run.{printed_all}
 use Rattle.counting.specs.Counting.{answer_at, no_counts}
 use Rattle.serving.specs.Serves.{Servable}
