@@ -16,7 +16,7 @@ slice_bounds-message-end c = sym (length-take-le _ _ (omega (arith, plain_end (p
 pub returns-then-out-ne0 : goal.returns-then-out-ne0
 returns-then-out-ne0 c =
     let a = c.args in
-    plain_refused (plain (goal.at.returns-then-out-ne0 c).After-whole_end-end) a.cells.now a.layer.now a.dots.now a.shown.now a.printer.now _ _ _ _ _ _ _ c.message-out.ensures c.if-out-ne0.true
+    plain_refused (plain (goal.at.returns-then-out-ne0 c).After-whole_end-end) a.cells.now a.layer.now a.dots.now a.shown.now a.printer.now _ _ _ _ _ _ _ c.message-out.ensures (omega arith)
 
 pub counted_from-answer-requires : goal.counted_from-answer-requires
 counted_from-answer-requires c =
@@ -29,11 +29,11 @@ lined-requires c = plain_rest (plain (goal.at.lined-requires c).After-whole_end-
 pub returns-then-end-piece : goal.returns-then-end-piece
 returns-then-end-piece c =
     let a = c.args in
-    plain_served (plain (goal.at.returns-then-end-piece c).After-whole_end-end) a.cells.now a.layer.now a.dots.now a.shown.now a.printer.now _ _ _ _ _ _ _ c.message-out.ensures c.if-out-ne0.false
+    plain_served (plain (goal.at.returns-then-end-piece c).After-whole_end-end) a.cells.now a.layer.now a.dots.now a.shown.now a.printer.now _ _ _ _ _ _ _ c.message-out.ensures (omega arith)
     _ _ c.counted_from-answer.ensures c.lined.ensures
 
 pub returns : goal.returns
 returns c =
     let a = c.args in
-    plain-whole (plain (goal.at.returns c).After-whole_end-end) a.cells.now a.layer.now a.dots.now a.shown.now a.printer.now _ _ _ _ _ _ _ c.message-out.ensures c.if-out-ne0.false c.if-end-piece.false
+    plain-whole (plain (goal.at.returns c).After-whole_end-end) a.cells.now a.layer.now a.dots.now a.shown.now a.printer.now _ _ _ _ _ _ _ c.message-out.ensures (omega arith) c.if-end-piece.false
     _ c.counted_from-answer.ensures
