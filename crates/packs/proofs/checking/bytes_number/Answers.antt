@@ -15,13 +15,13 @@ use Rattle.packs.proofs.checking.bytes_number.Goals as goal
 pub returns-then-pack-gt-PACK : goal.returns-then-pack-gt-PACK
 unfolding packable
 returns-then-pack-gt-PACK c = let p =
-    c.args.pack.now in sym (bytes_numbered p (lt-leb (length p) 60000 (omega (arith, c.if-pack-gt-PACK.true))) refl refl refl)
+    c.args.pack.now in sym (bytes_numbered p (lt-leb (length p) 60000 (omega arith)) refl refl refl)
 
 pub returns-then-not-uncut : goal.returns-then-not-uncut
 unfolding packable
 returns-then-not-uncut c =
     let p = c.args.pack.now in
-    sym (bytes_numbered p (le-leb (length p) 60000 (omega (arith, c.if-pack-gt-PACK.false))) (sym c.uncut.ensures ∙ c.if-not-uncut.true) refl refl)
+    sym (bytes_numbered p (le-leb (length p) 60000 (omega arith)) (sym c.uncut.ensures ∙ c.if-not-uncut.true) refl refl)
 
 pub loop-at-init : goal.loop-at-init
 unfolding known_in sendable_in
@@ -63,7 +63,7 @@ unfolding packable
 returns-then-not-known c =
     let p = c.args.pack.now in
     let past = c.loop-at-test.false in
-    let walked = bytes_numbered p (le-leb (length p) 60000 (omega (arith, c.if-pack-gt-PACK.false))) (sym c.uncut.ensures ∙ c.if-not-uncut.false)
+    let walked = bytes_numbered p (le-leb (length p) 60000 (omega arith)) (sym c.uncut.ensures ∙ c.if-not-uncut.false)
     (c.loop-at.invariant.1.0 ∙ over p c.loop-at.at known? c.loop-at.known past) (c.loop-at.invariant.1.1 ∙ over p c.loop-at.at (λ (r : Record). sendable r.body) c.loop-at.few past) in
     sym (walked ∙ rw c.if-not-known.true)
 
@@ -72,7 +72,7 @@ unfolding packable
 returns-then-few c =
     let p = c.args.pack.now in
     let past = c.loop-at-test.false in
-    let walked = bytes_numbered p (le-leb (length p) 60000 (omega (arith, c.if-pack-gt-PACK.false))) (sym c.uncut.ensures ∙ c.if-not-uncut.false)
+    let walked = bytes_numbered p (le-leb (length p) 60000 (omega arith)) (sym c.uncut.ensures ∙ c.if-not-uncut.false)
     (c.loop-at.invariant.1.0 ∙ over p c.loop-at.at known? c.loop-at.known past) (c.loop-at.invariant.1.1 ∙ over p c.loop-at.at (λ (r : Record). sendable r.body) c.loop-at.few past) in
     sym (walked ∙ rw (c.if-not-known.false, c.if-few.true))
 
@@ -81,6 +81,6 @@ unfolding packable
 returns-else-few c =
     let p = c.args.pack.now in
     let past = c.loop-at-test.false in
-    let walked = bytes_numbered p (le-leb (length p) 60000 (omega (arith, c.if-pack-gt-PACK.false))) (sym c.uncut.ensures ∙ c.if-not-uncut.false)
+    let walked = bytes_numbered p (le-leb (length p) 60000 (omega arith)) (sym c.uncut.ensures ∙ c.if-not-uncut.false)
     (c.loop-at.invariant.1.0 ∙ over p c.loop-at.at known? c.loop-at.known past) (c.loop-at.invariant.1.1 ∙ over p c.loop-at.at (λ (r : Record). sendable r.body) c.loop-at.few past) in
     sym (walked ∙ rw (c.if-not-known.false, c.if-few.false))
