@@ -69,7 +69,7 @@ pub fn compare(first: &[u8], second: &[u8], list: &mut [Difference]) -> Compared
     answer
 }
 
-// The same with the list by value, for callers whose proofs are not to be walks by hand.
+// The same with the list by value.
 pub fn compare_in(first: &[u8], second: &[u8], list: [Difference; 640]) -> Listing
     ensures { ComparePromised first.now second.now list result.answer result.list }
 {

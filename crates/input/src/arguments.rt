@@ -1,4 +1,5 @@
-// The program's arguments, counted from 1; number 0 is the program's own name.
+// The program's arguments, counted from 1; number 0 is the program's own name. Which arguments and files there are is not for a contract to say: these
+// functions promise that they are safe and end.
 use std::env::FillError;
 use std::rt::{Env, Files};
 
