@@ -7,9 +7,9 @@ use native.Mathlib.Omega.{arith}
 use mathlib.Core.Bool.{Bool, ◌&&◌, false, true}
 use mathlib.Core.List.{List, [], ◌∷◌, map}
 use lib.ListN.{drop, drop_of_length-le, get_or, length, length-drop, length-take, take}
-use lib.Seq.{drop-drop, get_or-drop}
+use lib.Seq.{drop-drop, get_or-drop, take_all}
 use lib.Dec.{eqb, leb, ltb}
-use borrow.Author.Tests.{eqb-false, eqb-true, ltb-false, ltb-true, ne_eqb}
+use borrow.Author.Tests.{ltb-false, ltb-true, ne_eqb}
 use Rattle.model.proofs.Tests.{differ}
 use Rattle.calls.specs.Calls.{sendable}
 use Rattle.calls.specs.Packs.{bodies_of, known?}
@@ -101,16 +101,16 @@ module _ (bs : List ℕ) (at : ℕ) (inside : at ≤ length bs) where
   uncut_past {n} e fits =
       rw (← e) at (uncut_next (drop at bs) (omega (arith, size_at)) (omega (arith, size_at)) ∙ ap uncut? (drop-drop (length_in (drop at bs) + 4) at bs))
 
-  pub uncut_short : {n : ℕ} → n ≡ length_in (drop at bs) → at < length bs → length bs - at < n + 4 → uncut? (drop at bs) ≡ false
-  uncut_short e some few = uncut_not (drop at bs) (omega (arith, size_at)) (omega (arith, size_at))
+-- bytes that are walked over by what is left of them: behind a record that is there, and at the end
+pub uncut_rest : (bs : List ℕ) {n : ℕ} → n ≡ length_in bs → n + 4 ≤ length bs → uncut? bs ≡ uncut? (take (length bs - (n + 4)) (drop (n + 4) bs))
+uncut_rest bs {n} e fits =
+    let size : length (drop (n + 4) bs) ≡ length bs - (n + 4) = length-drop (n + 4) bs in
+    rw (← e) at (uncut_next bs (omega arith) (omega arith)) ∙ ap uncut? (sym (take_all (length bs - (n + 4)) (drop (n + 4) bs) (omega arith)))
 
-  pub uncut_end : length bs < at + 4 → eqb at (length bs) ≡ uncut? (drop at bs)
-  unfolding uncut? lacking
-  uncut_end few = go (eqb at (length bs)) refl
-    where
-      go : (b : Bool) → eqb at (length bs) ≡ b → b ≡ uncut? (drop at bs)
-      go true e = let h : length bs ≤ at = omega (arith, eqb-true at (length bs) e) in rw (drop_of_length-le bs {i = at} h)
-      go false e = sym (uncut_not (drop at bs) (omega (arith, size_at, eqb-false at (length bs) e)) (omega (arith, size_at)))
+pub uncut_end : (bs : List ℕ) → length bs < 4 → eqb (length bs) 0 ≡ uncut? bs
+unfolding uncut? lacking
+uncut_end [] few = refl
+uncut_end (b ∷ bs) few = ne_eqb (length (b ∷ bs)) 0 (λ (e : length (b ∷ bs) ≡ 0). omega arith) ∙ sym (uncut_not (b ∷ bs) (omega arith) (omega arith))
 
 -- P6: a pack at an index where a record begins, n its length: each test of the whole pack, and its bodies, by that record and what is behind it
 module _ (bs : List ℕ) (at n : ℕ) (size : n ≡ length_in (drop at bs)) where

@@ -9,7 +9,7 @@ ghost use Rattle.model.specs.Records.{length_in, kind_in, uncut?};
 pub fn little(low: u8, high: u8) -> u16
     ensures { result ≡ low + 256 * high }
 {
-    low as u16 + 256 * (high as u16)
+    u16::from_le_bytes([low, high])
 }
 
 // The length of the body, of the record at `at`.
@@ -17,7 +17,7 @@ pub fn length_at(bytes: &[u8], at: usize) -> u16
     requires { at + 2 ≤ length bytes.now }
     ensures { result ≡ length_in (drop at bytes.now) }
 {
-    little(bytes[at], bytes[at + 1])
+    u16::from_le_bytes([bytes[at], bytes[at + 1]])
 }
 
 // Its kind.
@@ -25,20 +25,20 @@ pub fn kind_at(bytes: &[u8], at: usize) -> u16
     requires { at + 4 ≤ length bytes.now }
     ensures { result ≡ kind_in (drop at bytes.now) }
 {
-    little(bytes[at + 2], bytes[at + 3])
+    u16::from_le_bytes([bytes[at + 2], bytes[at + 3]])
 }
 
 // 20: "cut record"; here, that there is none.
 pub fn uncut(bytes: &[u8]) -> bool
     ensures { result ≡ uncut? bytes.now }
 {
-    let mut at = 0;
-    while bytes.len() - at >= 4 {
-        let size = length_at(bytes, at) as usize + 4;
-        if bytes.len() - at < size {
+    let mut rest = bytes;
+    while rest.len() >= 4 {
+        let size = usize::from(length_at(rest, 0)) + 4;
+        if rest.len() < size {
             return false;
         }
-        at += size;
+        rest = &rest[size..];
     }
-    at == bytes.len()
+    rest.is_empty()
 }

@@ -1,10 +1,11 @@
 -- `length_at`: the first two bytes.
-use mathlib.Core.Path.{◌∙◌, sym}
+use native.Mathlib.Omega.{arith}
 use Rattle.model.specs.Records.{length_in}
 use Rattle.records.proofs.Laws.{two_at}
 use Rattle.records.proofs.length_at.Goals as goal
 
 pub returns : goal.returns
 unfolding length_in
-returns c = let a =
-    c.args in c.little.ensures ∙ sym (two_at a.bytes.now a.at)
+returns c =
+    let a = c.args in
+    omega (arith, c.from_le_bytes.ensures, two_at a.bytes.now a.at)
