@@ -1,12 +1,11 @@
 -- Where the whole items end: one turn of the loop that finds it, and that nothing waits where no ESC is among the last twelve bytes.
 use mathlib.Core.Path.{◌∙◌, ◌≡◌, ap, refl, sym}
-use Prim.Native.Nat.{ℕ, zero, suc, ◌+◌, ◌<◌, ◌≤◌}
-use native.Mathlib.Nat.{zero-add}
+use Prim.Native.Nat.{ℕ, zero, suc, ◌+◌, ◌-◌, ◌<◌, ◌≤◌}
 use native.Mathlib.Omega.{arith}
 use mathlib.Core.Bool.{Bool, true, false, cond}
-use mathlib.Core.List.{List, [], ◌++◌, ◌∷◌}
-use lib.ListN.{drop, drop_of_length-le, get_or, length, length-append, take}
-use lib.Seq.{drop-drop, get_or-drop, length-take-le}
+use mathlib.Core.List.{List, [], ◌∷◌}
+use lib.ListN.{drop, get_or, length, length-append, length-drop, take}
+use lib.Seq.{get_or-drop, length-take-le, take_all}
 use lib.Dec.{eqb}
 use borrow.Author.Tests.{eqb-true, ltb-false, ltb-true}
 use Rattle.model.specs.Bytes.{joined}
@@ -17,42 +16,39 @@ use Rattle.calls.proofs.Wholes.{whole_next, whole_rest, whole-stop}
 use Rattle.unfinished.specs.Whole.{whole_end, whole_item}
 
 -- the item in front is whole and has n bytes, or it is not
-front : (bs : List ℕ) (n : ℕ) → n ≡ whole_item bs → (n ≡ 0 → ⊥) → (needed bs ≡ n) × (needed bs ≤ length bs)
+whole_front : (bs : List ℕ) (n : ℕ) → n ≡ whole_item bs → 1 ≤ n → (needed bs ≡ n) × (needed bs ≤ length bs)
 unfolding whole_item unfinished?
-front bs n e z = go (unfinished? bs) refl e
+whole_front bs n e some = go (unfinished? bs) refl e
   where
     go : (b : Bool) → unfinished? bs ≡ b → n ≡ cond b 0 (needed bs) → (needed bs ≡ n) × (needed bs ≤ length bs)
-    go true f e = absurd (z e)
+    go true f e = absurd (omega arith)
     go false f e = (sym e, ltb-false (length bs) (needed bs) f)
 
-cut_front : (bs : List ℕ) → 0 ≡ whole_item bs → length bs < needed bs
+cut_front : (bs : List ℕ) → whole_item bs ≡ 0 → length bs < needed bs
 unfolding whole_item unfinished?
 cut_front bs e = go (unfinished? bs) refl e
   where
-    go : (b : Bool) → unfinished? bs ≡ b → 0 ≡ cond b 0 (needed bs) → length bs < needed bs
+    go : (b : Bool) → unfinished? bs ≡ b → cond b 0 (needed bs) ≡ 0 → length bs < needed bs
     go true f e = ltb-true (length bs) (needed bs) f
     go false f e = absurd (omega (arith, needed-least bs, e))
 
-module _ (m : List ℕ) (at : ℕ) where
-  pub end_next : (n : ℕ) → n ≡ whole_item (drop at m) → (n ≡ 0 → ⊥) → at + whole_end (drop at m) ≡ (at + n) + whole_end (drop (at + n) m)
+module _ (bs : List ℕ) where
+  -- behind it, by what is left of the bytes
+  pub end_next : (n : ℕ) → n ≡ whole_item bs → 1 ≤ n → whole_end bs ≡ n + whole_end (take (length bs - n) (drop n bs))
   unfolding whole_end joined
-  end_next n e z =
-      let bs : List ℕ = drop at m in
-      let f = front bs n e z in
+  end_next n e some =
+      let f = whole_front bs n e some in
       let own : length (take (needed bs) bs) ≡ n = length-take-le (needed bs) bs f.1 ∙ f.0 in
-      let rest : drop (needed bs) bs ≡ drop (at + n) m = ap (λ (k : ℕ). drop k bs) f.0 ∙ drop-drop n at m in
+      let all : take (length bs - n) (drop n bs) ≡ drop n bs = take_all (length bs - n) (drop n bs) (omega (arith, length-drop n bs)) in
+      let rest : drop (needed bs) bs ≡ take (length bs - n) (drop n bs) = ap (λ (k : ℕ). drop k bs) f.0 ∙ sym all in
       let g : length (joined (gathered [] bs)) ≡ length (take (needed bs) bs) + length (joined (gathered [] (drop (needed bs) bs))) =
       ap (λ (l : List (List ℕ)). length (joined l)) (whole_next bs f.1).0 ∙ length-append (take (needed bs) bs) (joined (gathered [] (drop (needed bs) bs))) in
-      let h : length (joined (gathered [] (drop (needed bs) bs))) ≡ length (joined (gathered [] (drop (at + n) m))) = ap (λ (l : List ℕ). length (joined (gathered [] l))) rest in
+      let h : length (joined (gathered [] (drop (needed bs) bs))) ≡ length (joined (gathered [] (take (length bs - n) (drop n bs)))) = ap (λ (l : List ℕ). length (joined (gathered [] l))) rest in
       omega (arith, g, own, h)
 
-  pub end_stop : 0 ≡ whole_item (drop at m) → whole_end (drop at m) ≡ 0
+  pub end_stop : whole_item bs ≡ 0 → whole_end bs ≡ 0
   unfolding whole_end joined
-  end_stop e = ap (λ (l : List (List ℕ)). length (joined l)) (whole-stop (drop at m) (cut_front (drop at m) e)).0
-
-  pub end_all : length m ≤ at → whole_end (drop at m) ≡ 0
-  unfolding whole_end joined gathered
-  end_all h = ap whole_end (drop_of_length-le m {i = at} h)
+  end_stop e = ap (λ (l : List (List ℕ)). length (joined l)) (whole-stop bs (cut_front bs e)).0
 
 -- unfinished bytes are none, or led by ESC
 led : (bs : List ℕ) → unfinished? bs ≡ true → 1 ≤ length bs → get_or bs 0 0 ≡ 27

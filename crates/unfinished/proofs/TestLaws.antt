@@ -1,19 +1,19 @@
 -- The tests of a line: unfinished by its length and first bytes, and zeros behind what waits.
 use mathlib.Core.Path.{◌∙◌, ◌≡◌, ap, refl, sym}
-use mathlib.Core.Logic.{⊎_elim}
-use Prim.Native.Nat.{ℕ, zero, suc, ◌+◌, ◌<◌, ◌≤◌}
-use native.Mathlib.Nat.{eq-or-lt_of_le}
+use Prim.Native.Nat.{ℕ, zero, suc, ◌+◌, ◌-◌, ◌<◌, ◌≤◌}
 use native.Mathlib.Omega.{arith}
 use mathlib.Core.Bool.{Bool, true, false, cond, not, ◌&&◌, ◌||◌, and_assoc, and-true}
 use mathlib.Core.List.{List, [], ◌∷◌}
-use lib.ListN.{drop, get_or, length, take}
-use lib.Seq.{drop-nil}
+use lib.ListN.{drop, get_or, length, length-drop, take}
+use lib.Seq.{drop-nil, get_or-drop}
 use lib.Dec.{eqb, leb, ltb}
-use borrow.Author.Tests.{eq-eqb, eqb-false, eqb-true, le-ltb, leb-true, lt-ltb, ltb-false, ltb-true, ne_eqb, not-true}
-use Rattle.model.specs.Sequences.{Row, mode_row_of, refusal, row_of}
+use borrow.Author.Tests.{eq-eqb, eqb-true, le-ltb, leb-true, lt-ltb, ltb-false, ltb-true, ne_eqb}
+use Rattle.model.specs.Sequences.{mode_row_of, row_of}
 use Rattle.model.specs.Reading.{unfinished?}
 use Rattle.model.specs.Line.{limit, line?, unfinished_by, zeros?}
-use Rattle.model.proofs.Tests.{and_left, and_right, cond_at}
+use Rattle.model.proofs.Tests.{differ}
+use Rattle.std.specs.List.{list_all}
+use Rattle.std.proofs.lemmas.List.Folds.{list_all_at}
 use Rattle.model.proofs.LineLaws.{unfinished_held}
 use Rattle.tables.specs.Lengths.{length_of}
 use Rattle.decoding.proofs.Found.{mode_least}
@@ -88,10 +88,10 @@ line_by w h n e = go (leb h 12) refl
         ∙ ap (λ (t : Bool). t && (leb h n && (leb n limit && zeros? (drop h w)))) (sym (unfinished_held w h (omega arith) (omega (arith, leb-true h 12 f))))
     go false f = none (unfinished_by h (get_or w 0 0) (get_or w 1 0) (get_or w 2 0)) (leb h n) (leb n limit) (zeros? (drop h w))
 
--- one byte more that is no ESC
-pub seen : (bytes : List ℕ) (i : ℕ) (none : Bool) → (none ≡ true → (k : ℕ) → length bytes ≤ k + 12 → k < i → get_or bytes k 0 ≡ 27 → ⊥)
-    → (none && not (eqb (get_or bytes i 0) 27)) ≡ true → (k : ℕ) → length bytes ≤ k + 12 → k < i + 1 → get_or bytes k 0 ≡ 27 → ⊥
-seen bytes i none h e k l u b =
-    let v : k ≤ i = omega arith in
-    ⊎_elim (λ (z : k ≡ i). eqb-false (get_or bytes i 0) 27 (not-true _ (and_right none _ e)) (sym (ap (λ (j : ℕ). get_or bytes j 0) z) ∙ b))
-    (λ (z : k < i). h (and_left none _ e) k l z b) (eq-or-lt_of_le v)
+-- no byte from the twelfth last on is an ESC
+pub none_late : (bs : List ℕ) (late : ℕ) → list_all (λ b. not (eqb b 27)) (drop late bs) ≡ true → late ≤ length bs - 12
+    → (i : ℕ) → length bs ≤ i + 12 → i < length bs → get_or bs i 0 ≡ 27 → ⊥
+none_late bs late e h i l u b =
+    let at : get_or (drop late bs) (i - late) 0 ≡ 27 = get_or-drop late bs (i - late) 0 ∙ ap (λ (k : ℕ). get_or bs k 0) (omega arith) ∙ b in
+    let found = list_all_at (λ b. not (eqb b 27)) (drop late bs) (i - late) 0 (omega (arith, length-drop late bs)) (ap not (eq-eqb _ 27 at)) in
+    differ (sym e ∙ found)

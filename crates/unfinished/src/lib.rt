@@ -1,7 +1,7 @@
 // The unfinished bytes of a stream (document 02, P1): which bytes of a piece are whole items, which wait, and whether bytes may wait so.
 #![tactic(auto)]
 
-ghost use Rattle.std.specs.Prelude.{◌≡◌, true, ◌&&◌, ◌+◌, ◌*◌, ◌<◌, ◌≤◌, min, ℕ, ◌++◌, drop, get_or, length, take, eqb};
+ghost use Rattle.std.specs.Prelude.{◌≡◌, true, ◌&&◌, ◌+◌, ◌<◌, ◌≤◌, ℕ, ◌++◌, drop, MatchOption, get_or, length, take, eqb};
 ghost use Rattle.model.specs.Line.{line?, padded, unfinished_by, zeros?};
 ghost use Rattle.unfinished.specs.Whole.{counted_right, whole_end, whole_item};
 
@@ -12,55 +12,43 @@ pub fn whole_end(bytes: &[u8]) -> usize
     if no_late_escape(bytes) {
         return bytes.len();
     }
-    let mut at = 0;
-    while at < bytes.len() {
-        let length = whole_item(bytes, at);
-        if length == 0 {
-            return at;
-        }
-        at += length;
+    let mut rest = bytes;
+    while let Some(length) = whole_item(rest) {
+        rest = &rest[length..];
     }
-    at
+    bytes.len() - rest.len()
 }
 
-// How many bytes the item at an offset has; 0 where it is not whole.
-fn whole_item(bytes: &[u8], at: usize) -> usize
-    requires { at < length bytes.now }
-    ensures { (result ≡ whole_item (drop at bytes.now)) × (at + result ≤ length bytes.now) }
+// How many bytes the item in front has, if it is whole.
+fn whole_item(bytes: &[u8]) -> Option<usize>
+    ensures { MatchOption result (whole_item bytes.now ≡ 0) (λ n. (n ≡ whole_item bytes.now) × ((1 ≤ n) × (n ≤ length bytes.now))) }
 {
-    if bytes[at] != 27 {
-        return 1;
+    let first = *bytes.first()?;
+    if first != 27 {
+        return Some(1);
     }
-    let left = bytes.len() - at;
-    if left < 2 {
-        return 0;
-    }
-    let length = tables::length_of(bytes[at + 1], decoding::byte(bytes, at + 2));
+    let second = *bytes.get(1)?;
+    let length = tables::length_of(second, decoding::byte(bytes, 2));
     if length == 0 {
-        return 2;
+        return Some(2);
     }
-    if left < length { 0 } else { length }
+    if bytes.len() < length {
+        None
+    } else {
+        Some(length)
+    }
 }
 
 // Whether none of the last twelve bytes is an ESC. The loop never stops early, so that a compiler tests them all at once.
 fn no_late_escape(bytes: &[u8]) -> bool
     ensures { result ≡ true → (i : ℕ) → length bytes.now ≤ i + 12 → i < length bytes.now → get_or bytes.now i 0 ≡ 27 → ⊥ }
 {
-    let n = bytes.len();
-    let mut i = n - at_most(n, 12);
+    let late = bytes.len().saturating_sub(12);
     let mut none = true;
-    while i < n {
-        none = none & (bytes[i] != 27);
-        i += 1;
+    for byte in &bytes[late..] {
+        none &= *byte != 27;
     }
     none
-}
-
-// The lesser of two.
-pub fn at_most(n: usize, most: usize) -> usize
-    ensures { result ≡ min n most }
-{
-    if n < most { n } else { most }
 }
 
 // The bytes that wait, and so many bytes of a piece behind them.
@@ -69,8 +57,8 @@ pub fn join(waiting: [u8; 12], held: usize, piece: &[u8], count: usize) -> [u8; 
     ensures { take (held + count) result ≡ take held waiting ++ take count piece.now }
 {
     let mut bytes = [0u8; 64];
-    store::copy_in(&mut bytes, 0, &waiting, 0, held);
-    store::copy_in(&mut bytes, held, piece, 0, count);
+    bytes[..held].copy_from_slice(&waiting[..held]);
+    bytes[held..held + count].copy_from_slice(&piece[..count]);
     bytes
 }
 
@@ -80,7 +68,7 @@ pub fn padded(rest: &[u8]) -> [u8; 12]
     ensures { result ≡ padded rest.now }
 {
     let mut bytes = [0u8; 12];
-    store::copy_in(&mut bytes, 0, rest, 0, rest.len());
+    bytes[..rest.len()].copy_from_slice(rest);
     bytes
 }
 
@@ -97,14 +85,14 @@ fn begun(held: u8, first: u8, second: u8, third: u8) -> bool
     if held == 1 {
         return true;
     }
-    (held as usize) < tables::length_of(second, third)
+    usize::from(held) < tables::length_of(second, third)
 }
 
 // "at most 12", "no longer than the count", "up to 1,000,000,000".
 fn counted(held: u8, count: u32) -> bool
     ensures { result ≡ counted_right held count }
 {
-    (held <= 12) & (held as u32 <= count) & (count <= 1000000000)
+    (held <= 12) & (u32::from(held) <= count) & (count <= 1000000000)
 }
 
 // Whether the bytes that do not wait are 0.
@@ -112,10 +100,8 @@ fn clean(waiting: [u8; 12], held: u8) -> bool
     ensures { result ≡ zeros? (drop held waiting) }
 {
     let mut all = true;
-    let mut i: u8 = 0;
-    while i < 12 {
-        all = all & ((i < held) | (waiting[i as usize] == 0));
-        i += 1;
+    for (i, byte) in waiting.iter().enumerate() {
+        all &= (i < usize::from(held)) | (*byte == 0);
     }
     all
 }
@@ -134,23 +120,5 @@ pub fn sound(waiting: [u8; 12], held: u8, count: u32) -> bool
 pub fn quiet(waiting: [u8; 12], held: u8, count: u32) -> bool
     ensures { result ≡ (eqb held 0 && line? waiting held count) }
 {
-    let blank = blank(waiting);
-    (held == 0) & (count <= 1000000000) & blank
-}
-
-// Whether all twelve are 0. Four are tested at once: a compiler reads a word as one number.
-fn blank(waiting: [u8; 12]) -> bool
-    ensures { result ≡ zeros? waiting }
-{
-    let first = word(waiting[0], waiting[1], waiting[2], waiting[3]);
-    let second = word(waiting[4], waiting[5], waiting[6], waiting[7]);
-    let third = word(waiting[8], waiting[9], waiting[10], waiting[11]);
-    (first == 0) & (second == 0) & (third == 0)
-}
-
-// Four bytes as one number.
-fn word(a: u8, b: u8, c: u8, d: u8) -> u32
-    ensures { result ≡ a + 256 * b + 65536 * c + 16777216 * d }
-{
-    a as u32 + 256 * (b as u32) + 65536 * (c as u32) + 16777216 * (d as u32)
+    (held == 0) & (count <= 1000000000) & (waiting == [0; 12])
 }

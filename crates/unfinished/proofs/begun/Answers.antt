@@ -16,4 +16,4 @@ returns-then-held-eq1 c =
 
 pub returns : goal.returns
 returns c =
-    begun_more _ _ _ _ c.if-held-eq0.false c.if-held-eq1.false c.if-first-ne27.false _ c.length_of.ensures
+    rw c.from.ensures (begun_more _ _ _ _ c.if-held-eq0.false c.if-held-eq1.false c.if-first-ne27.false _ c.length_of.ensures)

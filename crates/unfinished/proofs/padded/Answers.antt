@@ -1,8 +1,7 @@
--- A copy into zeros.
-use mathlib.Core.Path.{◌∙◌}
+-- The bytes in front of zeros.
 use Rattle.unfinished.proofs.JoinLaws.{pads}
 use Rattle.unfinished.proofs.padded.Goals as goal
 
 pub returns : goal.returns
 returns c =
-    c.copy_in.ensures ∙ pads c.args.rest.now c.requires
+    pads c.args.rest.now c.requires c.copy_from_slice.ensures.after

@@ -1,34 +1,52 @@
 -- By the bytes that it looks at, in their order: one law a return.
-use mathlib.Core.Path.{◌∙◌, ap}
-use Prim.Native.Nat.{◌+◌}
-use lib.ListN.{get_or}
+use mathlib.Core.Path.{◌∙◌, ◌≡◌, sym}
+use Prim.Native.Nat.{◌<◌, ◌≤◌}
+use lib.ListN.{get_or, length}
+use borrow.Author.Rules.{rules}
 use Rattle.tables.specs.Lengths.{length_of}
-use Rattle.unfinished.proofs.ItemLaws.{alone, cut, listed, plain, unlisted}
+use Rattle.unfinished.proofs.ItemLaws.{alone, cut, listed, nothing, plain, unlisted}
 use Rattle.unfinished.proofs.whole_item.Goals as goal
 
-pub returns-then-bytes-at-ne27 : goal.returns-then-bytes-at-ne27
-returns-then-bytes-at-ne27 c = plain c.args.bytes.now c.args.at c.requires c.if-bytes-at-ne27.true
+pub returns-in_err-first : goal.returns-in_err-first
+returns-in_err-first c =
+    let m = c.args.bytes.now in
+    let h : length m < 1 = search rules in
+    rw c.from_residual.ensures (nothing m h)
 
-pub returns-then-left-lt2 : goal.returns-then-left-lt2
-returns-then-left-lt2 c = alone c.args.bytes.now c.args.at c.requires c.if-bytes-at-ne27.false c.if-left-lt2.true
+pub returns-then-first-ne27 : goal.returns-then-first-ne27
+returns-then-first-ne27 c =
+    let m = c.args.bytes.now in
+    let some : 1 ≤ length m = search rules in
+    let first : get_or m 0 0 ≡ c.in_ok-first.field-0.now = search rules in
+    plain m some (λ e. c.if-first-ne27.true (sym first ∙ e))
+
+pub returns-in_err-second : goal.returns-in_err-second
+returns-in_err-second c =
+    let m = c.args.bytes.now in
+    let first : get_or m 0 0 ≡ c.in_ok-first.field-0.now = search rules in
+    let few : length m < 2 = search rules in
+    rw c.from_residual-in_err-second.ensures (alone m (first ∙ c.if-first-ne27.false) few)
 
 pub returns-then-length-eq0 : goal.returns-then-length-eq0
 returns-then-length-eq0 c =
     let m = c.args.bytes.now in
-    let at = c.args.at in
-    let said = c.length_of-length.ensures ∙ ap (length_of (get_or m (at + 1) 0)) c.byte.ensures in
-    unlisted m at c.requires c.if-bytes-at-ne27.false c.if-left-lt2.false _ said c.if-length-eq0.true
+    let first : get_or m 0 0 ≡ c.in_ok-first.field-0.now = search rules in
+    let second : get_or m 1 0 ≡ c.in_ok-second.field-0.now = search rules in
+    let more : 2 ≤ length m = search rules in
+    unlisted m (first ∙ c.if-first-ne27.false) more (c.length_of-length.ensures ∙ (λ i. length_of (sym second i) (c.byte.ensures i))) c.if-length-eq0.true
 
-pub returns-then-left-length : goal.returns-then-left-length
-returns-then-left-length c =
+pub returns-then-bytes-length : goal.returns-then-bytes-length
+returns-then-bytes-length c =
     let m = c.args.bytes.now in
-    let at = c.args.at in
-    let said = c.length_of-length.ensures ∙ ap (length_of (get_or m (at + 1) 0)) c.byte.ensures in
-    cut m at c.requires c.if-bytes-at-ne27.false c.if-left-lt2.false _ said c.if-length-eq0.false c.if-left-length.true
+    let first : get_or m 0 0 ≡ c.in_ok-first.field-0.now = search rules in
+    let second : get_or m 1 0 ≡ c.in_ok-second.field-0.now = search rules in
+    let more : 2 ≤ length m = search rules in
+    cut m (first ∙ c.if-first-ne27.false) more (c.length_of-length.ensures ∙ (λ i. length_of (sym second i) (c.byte.ensures i))) c.if-length-eq0.false c.if-bytes-length.true
 
-pub returns-else-left-length : goal.returns-else-left-length
-returns-else-left-length c =
+pub returns-else-bytes-length : goal.returns-else-bytes-length
+returns-else-bytes-length c =
     let m = c.args.bytes.now in
-    let at = c.args.at in
-    let said = c.length_of-length.ensures ∙ ap (length_of (get_or m (at + 1) 0)) c.byte.ensures in
-    listed m at c.requires c.if-bytes-at-ne27.false c.if-left-lt2.false _ said c.if-length-eq0.false c.if-left-length.false
+    let first : get_or m 0 0 ≡ c.in_ok-first.field-0.now = search rules in
+    let second : get_or m 1 0 ≡ c.in_ok-second.field-0.now = search rules in
+    let more : 2 ≤ length m = search rules in
+    listed m (first ∙ c.if-first-ne27.false) more (c.length_of-length.ensures ∙ (λ i. length_of (sym second i) (c.byte.ensures i))) c.if-length-eq0.false c.if-bytes-length.false
