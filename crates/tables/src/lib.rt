@@ -19,20 +19,17 @@ use model::{COPY, DOTS, Sequence};
 pub fn charset(n: u8) -> bool
     ensures { result ≡ member n charsets }
 {
-    match n {
-        b'U' | b'F' | b'G' | b'E' | b'D' | b'W' | b'I' | b'S' | b'N' => true,
-        _ => false,
-    }
+    matches!(
+        n,
+        b'U' | b'F' | b'G' | b'E' | b'D' | b'W' | b'I' | b'S' | b'N'
+    )
 }
 
 // 247: "0, 2, 4, 6, 16, 18, 32, 34, 64, 66".
 pub fn shift(n: u8) -> bool
     ensures { result ≡ member n shifts }
 {
-    match n {
-        0 | 2 | 4 | 6 | 16 | 18 | 32 | 34 | 64 | 66 => true,
-        _ => false,
-    }
+    matches!(n, 0 | 2 | 4 | 6 | 16 | 18 | 32 | 34 | 64 | 66)
 }
 
 // The rows of text of the shown screen, of all settings with that key display: "With ESC 211,0 row 8 shows ten key texts" (document 02, P2).
@@ -83,7 +80,7 @@ pub fn copy_size(mode: u8) -> usize
 pub fn two_bytes(high: u8, low: u8) -> u16
     ensures { (result ≡ two_bytes high low) × (result < 65536) }
 {
-    256 * (high as u16) + (low as u16)
+    u16::from_be_bytes([high, low])
 }
 
 // "Lengths with ESC, by second byte": the bytes of a sequence, ESC with them; 0 where the list has none. One decision, in the list's order: an arm
