@@ -5,6 +5,7 @@ use native.Mathlib.Omega.{arith}
 use mathlib.Core.List.{List, ◌++◌}
 use lib.ListN.{drop, get_or, get_or-replicate, length, length-drop, length-replicate, length-take, replicate, take}
 use lib.Seq.{drop-drop, ext_get_or, take-add, take_at}
+use lib.Bits.{and_le_l, and_le_r, bit_or, or_add_and}
 use lib.Dec.{eqb}
 use borrow.Author.Tests.{eqb-false, eqb-true}
 use Rattle.model.specs.Bytes.{on_part, put}
@@ -19,6 +20,16 @@ held n at from src h dst up down fits =
     let ys : List ℕ = take n (drop at src) in
     let size : length ys ≡ n = simp (length-take, length-drop) (omega arith) in
     down ∙ ap (λ (zs : List ℕ). put from zs dst) (ap (take n) up ∙ take_at ys (drop (0 + length ys) h) n size)
+
+-- n bytes of src laid down at once over as many that were lent
+pub laid : (from at n : ℕ) (src dst : List ℕ) {ys : List ℕ} → ys ≡ take (at + n - at) (drop at src) → at + n ≤ length src → from + n ≤ length dst
+    → take from dst ++ (ys ++ drop (from + n - from) (drop from dst)) ≡ put from (take n (drop at src)) dst
+unfolding put on_part
+laid from at n src dst e fits room =
+    let same : at + n - at ≡ n = omega arith in
+    let size : length (take n (drop at src)) ≡ n = simp (length-take, length-drop) (omega arith) in
+    let one : from + n - from ≡ n = omega arith in
+    rw (e, same, size, one, drop-drop n from dst)
 
 -- the first i bytes of part of src stand in dst; n from its byte b on are laid over their end
 pub block : (from at i b n : ℕ) (src dst : List ℕ) {l l' : List ℕ} → l ≡ put from (take i (drop at src)) dst → l' ≡ put (from + b) (take n (drop (at + b) src)) l
@@ -41,6 +52,11 @@ block from at i b n src dst e e' low high inside fits =
     ∙ put_over (from + b) over mid (omega arith) zs (omega arith)
     ∙ put_then from ys dst (omega arith) (from + b) zs refl (omega arith)
     ∙ ap (λ (k : List ℕ). put from k dst) (sym (take-add b n xs))
+
+-- the bits of both: no less than either, and 0 only of two zeros
+pub either : (x y : ℕ) → (x ≤ bit_or x y) × ((y ≤ bit_or x y) × (bit_or x y ≤ x + y))
+either x y =
+    (omega (arith, or_add_and x y, and_le_r x y), (omega (arith, or_add_and x y, and_le_l x y), omega (arith, or_add_and x y)))
 
 -- one byte more that is no greater than what is kept
 pub seen : (xs : List ℕ) (i : ℕ) {a b : ℕ} → ((k : ℕ) → k < i → get_or xs k 0 ≤ a) → a ≤ b → get_or xs i 0 ≤ b → (k : ℕ) → k < i + 1 → get_or xs k 0 ≤ b

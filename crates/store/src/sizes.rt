@@ -5,12 +5,12 @@ ghost use Rattle.std.specs.Prelude.{◌≡◌, min};
 pub fn as_size(x: u8) -> usize
     ensures { result ≡ x }
 {
-    x as usize
+    usize::from(x)
 }
 
 // The lesser of two.
 pub fn lesser(x: usize, y: usize) -> usize
     ensures { result ≡ min x y }
 {
-    if x < y { x } else { y }
+    x.min(y)
 }

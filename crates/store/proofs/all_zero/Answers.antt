@@ -1,23 +1,22 @@
 -- `all_zero`: no byte that was seen is greater than `any`, so where it is 0, all are; and of zeros it stays 0.
 use mathlib.Core.Path.{refl}
-use Prim.Native.Nat.{◌-◌, ◌<◌}
 use native.Mathlib.Omega.{arith}
-use lib.ListN.{length}
+use lib.ListN.{get_or}
 use borrow.Author.Tests.{eq-eqb, eqb-true}
-use Rattle.store.proofs.Held.{seen, zero_at, zeros}
+use Rattle.store.proofs.Held.{either, seen, zero_at, zeros}
 use Rattle.store.proofs.all_zero.Goals as goal
 
-pub loop-i-init : goal.loop-i-init
-loop-i-init c =
-    (omega arith, (λ k l. absurd (omega arith), λ z. refl))
+pub loop-byte-init : goal.loop-byte-init
+loop-byte-init c =
+    (λ k l. absurd (omega arith), λ z. refl)
 
-pub loop-i-preserved : goal.loop-i-preserved
-loop-i-preserved c =
+pub loop-byte-preserved : goal.loop-byte-preserved
+loop-byte-preserved c =
     let xs = c.args.region.now in
-    let e = c.either-any.ensures in
-    let more : c.loop-i.i < length xs = c.loop-i-test.true in
-    (omega arith, (seen xs c.loop-i.i c.loop-i.invariant.1.0 e.0 e.1.0, λ z. omega (arith, e.1.1, c.loop-i.invariant.1.1 z, zero_at xs c.loop-i.i more z)))
+    let l = c.loop-byte in
+    let e = either l.any (get_or xs l.byte-index 0) in
+    (seen xs l.byte-index l.invariant.0 e.0 e.1.0, λ z. omega (arith, e.1.1, l.invariant.1 z, zero_at xs l.byte-index c.loop-byte-test.true z))
 
 pub returns : goal.returns
 returns c =
-    (λ t. zeros _ (λ k l. omega (arith, c.loop-i.invariant.1.0 k (omega arith), eqb-true c.loop-i.any 0 t)), λ z. eq-eqb _ 0 (c.loop-i.invariant.1.1 z))
+    (λ t. zeros _ (λ k l. omega (arith, c.loop-byte.invariant.0 k (omega arith), eqb-true c.loop-byte.any 0 t)), λ z. eq-eqb _ 0 (c.loop-byte.invariant.1 z))

@@ -1,10 +1,9 @@
--- `copy_many`: the bytes are taken up, then laid down.
+-- `copy_many`: the part comes home as the other's.
 use native.Mathlib.Omega.{arith}
-use lib.ListN.{replicate}
-use Rattle.store.proofs.Held.{held}
+use Rattle.store.proofs.Held.{laid}
 use Rattle.store.proofs.copy_many.Goals as goal
 
 pub returns : goal.returns
 returns c =
     let a = c.args in
-    held a.count a.at a.from a.src.now (replicate 3840 0) a.dst.now c.copy_bytes.ensures c.copy_bytes-2.ensures (omega arith)
+    laid a.from a.at a.count a.src.now a.dst.now c.copy_from_slice.ensures.after (omega arith) (omega arith)

@@ -8,4 +8,4 @@ use Rattle.store.proofs.scroll_down.Goals as goal
 pub returns : goal.returns
 returns c =
     let a = c.args in
-    lent a.from a.count (a.from + a.count - a.from) (scrolled_down a.width) a.cells.now c.down.ensures (omega arith)
+    lent a.from a.count (a.from + a.count - a.from) (scrolled_down a.width) a.cells.now c.scroll.ensures (omega arith)

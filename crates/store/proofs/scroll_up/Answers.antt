@@ -8,4 +8,4 @@ use Rattle.store.proofs.scroll_up.Goals as goal
 pub returns : goal.returns
 returns c =
     let a = c.args in
-    lent a.from a.count (a.from + a.count - a.from) (scrolled_up a.width) a.cells.now c.up.ensures (omega arith)
+    lent a.from a.count (a.from + a.count - a.from) (scrolled_up a.width) a.cells.now c.scroll.ensures (omega arith)
