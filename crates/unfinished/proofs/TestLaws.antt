@@ -12,7 +12,7 @@ use Rattle.model.specs.Sequences.{mode_row_of, row_of}
 use Rattle.model.specs.Reading.{unfinished?}
 use Rattle.model.specs.Line.{limit, line?, unfinished_by, zeros?}
 use Rattle.model.proofs.Tests.{differ}
-use Rattle.std.specs.List.{list_all}
+use Rattle.std.specs.List.{fold, list_all}
 use Rattle.std.proofs.lemmas.List.Folds.{list_all_at}
 use Rattle.model.proofs.LineLaws.{unfinished_held}
 use Rattle.tables.specs.Lengths.{length_of}
@@ -88,10 +88,15 @@ line_by w h n e = go (leb h 12) refl
         ∙ ap (λ (t : Bool). t && (leb h n && (leb n limit && zeros? (drop h w)))) (sym (unfinished_held w h (omega arith) (omega (arith, leb-true h 12 f))))
     go false f = none (unfinished_by h (get_or w 0 0) (get_or w 1 0) (get_or w 2 0)) (leb h n) (leb n limit) (zeros? (drop h w))
 
+-- the library's fold of a test that never stops early is the test of all
+all_of : {A : Type 0} (p : A → Bool) (t : Bool) (xs : List A) → fold (λ b x. b && p x) t xs ≡ (t && list_all p xs)
+all_of p t [] = sym (and-true t)
+all_of p t (x ∷ xs) = all_of p (t && p x) xs ∙ and_assoc t (p x) (list_all p xs)
+
 -- no byte from the twelfth last on is an ESC
-pub none_late : (bs : List ℕ) (late : ℕ) → list_all (λ b. not (eqb b 27)) (drop late bs) ≡ true → late ≤ length bs - 12
-    → (i : ℕ) → length bs ≤ i + 12 → i < length bs → get_or bs i 0 ≡ 27 → ⊥
-none_late bs late e h i l u b =
+pub none_late : (bs : List ℕ) → fold (λ none b. none && not (eqb b 27)) true (drop (length bs - 12) bs) ≡ true → (i : ℕ) → length bs ≤ i + 12 → i < length bs → get_or bs i 0 ≡ 27 → ⊥
+none_late bs e i l u b =
+    let late : ℕ = length bs - 12 in
     let at : get_or (drop late bs) (i - late) 0 ≡ 27 = get_or-drop late bs (i - late) 0 ∙ ap (λ (k : ℕ). get_or bs k 0) (omega arith) ∙ b in
     let found = list_all_at (λ b. not (eqb b 27)) (drop late bs) (i - late) 0 (omega (arith, length-drop late bs)) (ap not (eq-eqb _ 27 at)) in
-    differ (sym e ∙ found)
+    differ (sym e ∙ all_of (λ b. not (eqb b 27)) true (drop late bs) ∙ found)

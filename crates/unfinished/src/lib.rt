@@ -1,7 +1,7 @@
 // The unfinished bytes of a stream (document 02, P1): which bytes of a piece are whole items, which wait, and whether bytes may wait so.
 #![tactic(auto)]
 
-ghost use Rattle.std.specs.Prelude.{◌≡◌, true, ◌&&◌, ◌+◌, ◌<◌, ◌≤◌, ℕ, ◌++◌, drop, MatchOption, get_or, length, take, eqb};
+ghost use Rattle.std.specs.Prelude.{◌≡◌, ◌-◌, ◌==◌, not, fold, true, ◌&&◌, ◌+◌, ◌≤◌, ◌++◌, drop, MatchOption, length, take, eqb};
 ghost use Rattle.model.specs.Line.{line?, padded, unfinished_by, zeros?};
 ghost use Rattle.unfinished.specs.Whole.{counted_right, whole_end, whole_item};
 
@@ -39,16 +39,14 @@ fn whole_item(bytes: &[u8]) -> Option<usize>
     }
 }
 
-// Whether none of the last twelve bytes is an ESC. The loop never stops early, so that a compiler tests them all at once.
+// Whether none of the last twelve bytes is an ESC. It never stops early, so that a compiler tests them all at once.
 fn no_late_escape(bytes: &[u8]) -> bool
-    ensures { result ≡ true → (i : ℕ) → length bytes.now ≤ i + 12 → i < length bytes.now → get_or bytes.now i 0 ≡ 27 → ⊥ }
+    ensures { result ≡ fold (λ none b. none && not (b == 27)) true (drop (length bytes.now - 12) bytes.now) }
 {
     let late = bytes.len().saturating_sub(12);
-    let mut none = true;
-    for byte in &bytes[late..] {
-        none &= *byte != 27;
-    }
-    none
+    bytes[late..]
+        .iter()
+        .fold(true, |none, byte| none & (*byte != 27))
 }
 
 // The bytes that wait, and so many bytes of a piece behind them.

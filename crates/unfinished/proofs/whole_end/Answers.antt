@@ -1,16 +1,17 @@
 -- What is behind the items that were gone over ends where all of it does.
-use mathlib.Core.Path.{◌≡◌}
+use mathlib.Core.Path.{◌∙◌, ◌≡◌, sym}
 use Prim.Native.Nat.{◌≤◌, ◌-◌}
 use native.Mathlib.Omega.{arith}
 use lib.ListN.{drop, length, length-drop, length-take, take}
 use borrow.Author.Rules.{rules}
 use Rattle.unfinished.proofs.EndLaws.{end_late, end_next, end_stop}
+use Rattle.unfinished.proofs.TestLaws.{none_late}
 use Rattle.unfinished.specs.Whole.{whole_item}
 use Rattle.unfinished.proofs.whole_end.Goals as goal
 
 pub returns-then-no_late_escape : goal.returns-then-no_late_escape
 returns-then-no_late_escape c =
-    end_late c.args.bytes.now (c.no_late_escape.ensures c.if-no_late_escape.true)
+    end_late c.args.bytes.now (none_late c.args.bytes.now (sym c.no_late_escape.ensures ∙ c.if-no_late_escape.true))
 
 pub loop-length-preserved : goal.loop-length-preserved
 loop-length-preserved c =
