@@ -6,7 +6,7 @@ use native.Mathlib.Nat.{add-zero, zero-add}
 use native.Mathlib.Numerals.{add-one}
 use native.Mathlib.Omega.{arith}
 use mathlib.Core.List.{List, [], ◌++◌, ◌∷◌, append_assoc, append-nil}
-use lib.ListN.{get_or-append, drop, drop_of_length-le, get_or, length, length-append, length-drop, length-replicate, length-take, replicate, set, take, take-append-drop}
+use lib.ListN.{get_or-append, drop, drop_of_length-le, get_or, length, length-append, length-drop, length-replicate, length-take, replicate, replicate-append-replicate, set, take, take-append-drop}
 use lib.Seq.{drop_at, drop-drop, get_or-append-add, get_or-drop, length-take-le, set_split, take_at, take-suc}
 use Rattle.model.specs.Bytes.{on_part, put}
 use Rattle.model.proofs.ByteLaws.{length-put}
@@ -111,6 +111,9 @@ put_two a ys v w xs e i i' h =
     let n : length (ys ++ (v ∷ [])) ≡ length ys + 1 = length-append ys (v ∷ []) in
     put-more a (ys ++ (v ∷ [])) w xs (put-more a ys v xs e i refl refl (omega arith)) (omega arith) refl (sym (append_assoc ys (v ∷ []) (w ∷ []))) h
 
--- one byte more of a list
+-- one byte more: of a list, of bytes that are alike
 pub take_more : (xs : List ℕ) (i : ℕ) → i < length xs → take (i + 1) xs ≡ take i xs ++ (get_or xs i 0 ∷ [])
 take_more xs i h = rw (add-one, take-suc xs i 0 h)
+
+pub replicate_more : (i v : ℕ) → replicate (i + 1) v ≡ replicate i v ++ (v ∷ [])
+replicate_more i v = sym (replicate-append-replicate i 1 v)
