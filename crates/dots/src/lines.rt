@@ -53,7 +53,7 @@ fn draw(
         rest: n,
     };
     step(dots, at, mask, function);
-    while at.k < n {
+    for _ in 0..n {
         at = next(at, from, to, flat, n, d);
         step(dots, at, mask, function);
     }
