@@ -22,17 +22,14 @@ use Rattle.model.specs.Judging.{judged, limits_of}
 use Rattle.model.specs.Screens.{columns_of, height, lines_of}
 use Rattle.model.specs.Sound.{sound?}
 use Rattle.calls.specs.Calls.{first_of, reason}
-use Rattle.model.proofs.ByteLaws.{length-put}
 use Rattle.model.proofs.Gathering.{needed_most}
 use Rattle.model.proofs.ParameterLaws.{read_named}
 use Rattle.model.proofs.Tests.{cond_at}
 use Rattle.store.proofs.Laws.{put_front}
 use Rattle.reader.specs.Reading.{ReadAt}
 use Rattle.reader.specs.declared.Reading.{Reading}
-use Rattle.spelling.specs.declared.Spelled.{Spelled}
 use Rattle.spelling.specs.Spelling.{bytes_of}
 use Rattle.spelling.specs.Given.{given_bytes}
-use Rattle.spelling.specs.Spelled.{SpelledAs, Usable, front}
 use Rattle.spelling.proofs.Told.{needed_alone}
 use Rattle.writer.specs.declared.Reached.{Reached}
 use Rattle.writer.specs.declared.Verdict.{Verdict}
@@ -59,11 +56,6 @@ told_none (Printed c) o = record { number_is = refl; parameter_is = refl }
 told_none (Control c) o = record { number_is = refl; parameter_is = refl }
 told_none (Sequence q) o = record { number_is = refl; parameter_is = refl }
 told_none (Refused n p) o = absurd (o n p refl)
-
--- the encoder's bytes
-pub front_length : (r : Spelled) → Usable r → length (front r) ≡ r.length
-unfolding front
-front_length r u = length-take-le r.length r.bytes (omega (arith, u.size, u.most))
 
 -- what the reader read of all the bytes m, under these limits
 module _ (s : Settings) (m : List ℕ) (l : Limits) (room : ℕ) (r : Reading) (at : ReadAt m 0 l room r) where
@@ -225,18 +217,15 @@ module _ (s : Settings) (second : ℕ) (ps : List ℕ) (h : 11 < length ps) wher
 
 -- what is gathered
 module _ (second : ℕ) (ps : List ℕ) where
-  pub given_alone : (eqb second 209 && eqb (length ps) 0) ≡ true → SpelledAs (given_bytes second ps) (record { length = 3; bytes = 27 ∷ 209 ∷ 0 ∷ 0 ∷ 0 ∷ 0 ∷ 0 ∷ 0 ∷ 0 ∷ 0 ∷ 0 ∷ 0 ∷ 0 ∷ [] })
-  unfolding given_bytes front
-  given_alone e = record { front_is = ap (λ (t : Bool). cond t (27 ∷ 209 ∷ 0 ∷ []) (27 ∷ second ∷ ps)) (sym e); usable = record { some = omega arith; most = omega arith; size = refl } }
+  pub given_alone : (eqb second 209 && eqb (length ps) 0) ≡ true → 27 ∷ 209 ∷ 0 ∷ [] ≡ given_bytes second ps
+  unfolding given_bytes
+  given_alone e = ap (λ (t : Bool). cond t (27 ∷ 209 ∷ 0 ∷ []) (27 ∷ second ∷ ps)) (sym e)
 
   pub given-more : (eqb second 209 && eqb (length ps) 0) ≡ false → length ps ≤ 11 → (bs : List ℕ) → bs ≡ put 2 (take (length ps) (drop 0 ps)) (27 ∷ second ∷ 0 ∷ 0 ∷ 0 ∷ 0 ∷ 0 ∷ 0 ∷ 0 ∷ 0 ∷ 0 ∷ 0 ∷ 0 ∷ [])
-      → SpelledAs (given_bytes second ps) (record { length = length ps + 2; bytes = bs })
-  unfolding given_bytes front
+      → take (length ps + 2) bs ≡ given_bytes second ps
+  unfolding given_bytes
   given-more e h bs f =
       let z : List ℕ = 27 ∷ second ∷ 0 ∷ 0 ∷ 0 ∷ 0 ∷ 0 ∷ 0 ∷ 0 ∷ 0 ∷ 0 ∷ 0 ∷ 0 ∷ [] in
       let p : bs ≡ put 2 ps z = f ∙ ap (λ (l : List ℕ). put 2 l z) (take-length ps) in
       let n : length ps + 2 ≡ 2 + length ps = omega arith in
-      record {
-        front_is = (λ i. take (n i) (p i)) ∙ put_front 2 ps z (omega (arith, h)) ∙ ap (λ (t : Bool). cond t (27 ∷ 209 ∷ 0 ∷ []) (27 ∷ second ∷ ps)) (sym e);
-        usable = record { some = omega arith; most = omega (arith, h); size = ap length p ∙ length-put 2 ps z (omega (arith, h)) };
-      }
+      (λ i. take (n i) (p i)) ∙ put_front 2 ps z (omega (arith, h)) ∙ ap (λ (t : Bool). cond t (27 ∷ 209 ∷ 0 ∷ []) (27 ∷ second ∷ ps)) (sym e)

@@ -1,5 +1,4 @@
 // Bytes into the buffer, once nothing refuses them.
-ghost use Rattle.spelling.specs.Spelled.{Usable, front};
 ghost use Rattle.writer.specs.Writing.{said_of_all};
 ghost use Rattle.writer.specs.Promised.{Laid, WritePromised};
 
@@ -15,8 +14,7 @@ pub fn write_spelled(
     place: usize,
     spelled: Spelled,
 ) -> Reached
-    requires { Usable spelled }
-    ensures { WritePromised settings (record { word = said_of_all settings (front spelled); bytes = front spelled }) buffer.old place buffer.new result }
+    ensures { WritePromised settings (record { word = said_of_all settings spelled; bytes = spelled }) buffer.old place buffer.new result }
 {
     if !soundness::sound(settings) {
         return Reached {
@@ -25,7 +23,7 @@ pub fn write_spelled(
             parameter: 0,
         };
     }
-    let verdict = judge(settings, spelled);
+    let verdict = judge(settings, &spelled);
     if verdict.number != 0 {
         return Reached {
             place,
@@ -33,16 +31,15 @@ pub fn write_spelled(
             parameter: verdict.parameter,
         };
     }
-    lay(buffer, place, spelled)
+    lay(buffer, place, &spelled)
 }
 
 // All bytes from the place on, or 22 and none.
-fn lay(buffer: &mut [u8], place: usize, spelled: Spelled) -> Reached
-    requires { Usable spelled }
-    ensures { Laid buffer.old place (front spelled) buffer.new result }
+fn lay(buffer: &mut [u8], place: usize, spelled: &Spelled) -> Reached
+    ensures { Laid buffer.old place spelled.now buffer.new result }
 {
-    let length = spelled.length;
-    let bytes = spelled.bytes;
+    let bytes = spelled.as_slice();
+    let length = bytes.len();
     let number = 22;
     if buffer.len() < place {
         return Reached {
@@ -58,7 +55,7 @@ fn lay(buffer: &mut [u8], place: usize, spelled: Spelled) -> Reached
             parameter: 0,
         };
     }
-    store::copy_in(buffer, place, &bytes, 0, length);
+    store::copy_in(buffer, place, bytes, 0, length);
     Reached {
         place: place + length,
         number: 0,

@@ -2,7 +2,6 @@
 ghost use Rattle.std.specs.Prelude.{◌≡◌, cond};
 ghost use Rattle.model.specs.Judging.{limits_of};
 ghost use Rattle.model.specs.Sound.{sound?};
-ghost use Rattle.spelling.specs.Spelled.{Usable, front};
 ghost use Rattle.writer.specs.Writing.{said_of_all};
 ghost use Rattle.writer.specs.Promised.{Told};
 
@@ -33,15 +32,13 @@ pub fn limits_of(settings: Settings) -> Limits
 }
 
 // The reader's word on the bytes, under the settings given and with room for a copy; 10 if there are more bytes than the sequence has.
-pub fn judge(settings: Settings, spelled: Spelled) -> Verdict
-    requires { Usable spelled }
-    ensures { Told (said_of_all settings (front spelled)) result }
+pub fn judge(settings: Settings, spelled: &Spelled) -> Verdict
+    ensures { Told (said_of_all settings spelled.now) result }
 {
-    let length = spelled.length;
-    let bytes = spelled.bytes;
+    let bytes = spelled.as_slice();
     let room = tables::copy_size(settings.mode);
-    let reading = reader::read_item(limits_of(settings), room, &bytes[..length], 0);
-    if reading.length < length {
+    let reading = reader::read_item(limits_of(settings), room, bytes, 0);
+    if reading.length < bytes.len() {
         return Verdict {
             number: 10,
             parameter: 0,

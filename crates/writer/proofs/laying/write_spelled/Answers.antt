@@ -8,17 +8,9 @@ pub returns-then-not-sound : goal.returns-then-not-sound
 returns-then-not-sound c =
     unsound _ _ _ _ (sym c.sound.ensures ∙ c.if-not-sound.true)
 
-pub judge-verdict-requires : goal.judge-verdict-requires
-judge-verdict-requires c =
-    c.requires
-
 pub returns-then-verdict-ne0 : goal.returns-then-verdict-ne0
 returns-then-verdict-ne0 c =
     refused_read _ _ _ _ (sym c.sound.ensures ∙ c.if-not-sound.false) _ c.judge-verdict.ensures (λ z. omega (arith, c.if-verdict-ne0.true, z))
-
-pub lay-requires : goal.lay-requires
-lay-requires c =
-    c.requires
 
 pub returns : goal.returns
 returns c =
