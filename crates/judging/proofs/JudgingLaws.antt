@@ -148,6 +148,13 @@ pub last : (n : ℕ) (c : Check) → FindsFrom n (c ∷ []) (verdict (passes c) 
 unfolding in_ranges? first_bad
 last n c = by_test (λ (b : Bool). verdict b n ≡ verdict (b && true) (cond b 0 n)) (passes c) refl refl
 
+-- the last two
+pub two : (n : ℕ) (c d : Check) → FindsFrom n (c ∷ d ∷ []) (verdict (passes c && passes d) (cond (passes c) (n + 1) n))
+unfolding in_ranges? first_bad
+two n c d =
+    by_test (λ (p : Bool). verdict (p && passes d) (cond p (n + 1) n) ≡ verdict (p && (passes d && true)) (cond p (cond (passes d) 0 (n + 1)) n)) (passes c)
+    (by_test (λ (q : Bool). verdict q (n + 1) ≡ verdict (q && true) (cond q 0 (n + 1))) (passes d) refl refl) refl
+
 -- behind one that is free: the mode byte of 208, the high byte of a number
 pub behind_free : (n : ℕ) (cs : List Check) (v : Result (Unit {0}) ℕ) → FindsFrom (n + 1) cs v → FindsFrom n (any ∷ cs) v
 unfolding in_ranges? first_bad passes

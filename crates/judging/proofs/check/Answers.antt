@@ -1,11 +1,11 @@
 -- `judging::check` meets its contract: arm by arm, by the checks of its sequence.
-use mathlib.Core.Path.{◌∙◌, ap, refl}
+use mathlib.Core.Path.{ap, refl}
 use mathlib.Core.Bool.{Bool}
 use Rattle.model.specs.Checks.{member, passes}
 use Rattle.model.specs.declared.Limits.{Limits}
 use Rattle.model.specs.declared.Sequence.{Sequence as Seq}
 use Rattle.model.specs.Sequences.{code_of, idle?}
-use Rattle.judging.proofs.JudgingLaws.{behind_free, but_there, drawn_elsewhere, drawn_there, fails, holds, in_any, last, leaving, none_bad, stroke_finds}
+use Rattle.judging.proofs.JudgingLaws.{behind_free, but_there, drawn_elsewhere, drawn_there, in_any, last, none_bad, stroke_finds, two}
 use borrow.Enum.Refused.{opened}
 use Rattle.judging.proofs.check.Goals as goal
 
@@ -72,30 +72,20 @@ unfolding passes member idle?
 returns-in-Mode1 c =
     rw (c.in-Mode1.is, c.in_range-in-Mode1.ensures, c.within-in-Mode1.ensures) (in_any _ _ _ refl (behind_free 1 _ _ (last 2 _)))
 
-pub returns-in_err-in_range-in-Mode2 : goal.returns-in_err-in_range-in-Mode2
+pub returns-in-Mode2 : goal.returns-in-Mode2
 unfolding passes member idle?
-returns-in_err-in_range-in-Mode2 c =
-    rw (c.in-Mode2.is, leaving _ c.from_residual.ensures) (in_any _ _ _ refl (behind_free 1 _ _ (fails 2 _ _ (c.in_err-in_range-in-Mode2.ensures ∙ rw c.within-in-Mode2.ensures))))
-
-pub returns-in_ok-in_range-in-Mode2 : goal.returns-in_ok-in_range-in-Mode2
-unfolding passes member idle?
-returns-in_ok-in_range-in-Mode2 c =
-    rw (c.in-Mode2.is, c.in_range-in-Mode2-2.ensures, c.within-in-Mode2-2.ensures) (in_any _ _ _ refl (behind_free 1 _ _ (holds 2 _ _ (c.in_ok-in_range-in-Mode2.ensures ∙ rw c.within-in-Mode2.ensures) (last 3 _))))
+returns-in-Mode2 c =
+    rw (c.in-Mode2.is, c.both.ensures, c.within-in-Mode2-2.ensures, c.within-in-Mode2.ensures) (in_any _ _ _ refl (behind_free 1 _ _ (two 2 _ _)))
 
 pub returns-in-Select : goal.returns-in-Select
 unfolding passes member idle?
 returns-in-Select c =
     rw (c.in-Select.is, c.in_range-in-Select.ensures, c.within-in-Select.ensures) (but_there _ _ _ refl refl)
 
-pub returns-in_err-in_range-in-Cover : goal.returns-in_err-in_range-in-Cover
+pub returns-in-Cover : goal.returns-in-Cover
 unfolding passes member idle?
-returns-in_err-in_range-in-Cover c =
-    rw (c.in-Cover.is, leaving _ c.from_residual-in_err-in_range-in-Cover.ensures) (in_any _ _ _ refl (fails 1 _ _ (c.in_err-in_range-in-Cover.ensures ∙ rw c.within-in-Cover.ensures)))
-
-pub returns-in_ok-in_range-in-Cover : goal.returns-in_ok-in_range-in-Cover
-unfolding passes member idle?
-returns-in_ok-in_range-in-Cover c =
-    rw (c.in-Cover.is, c.in_range-in-Cover-2.ensures, c.within-in-Cover-2.ensures) (in_any _ _ _ refl (holds 1 _ _ (c.in_ok-in_range-in-Cover.ensures ∙ rw c.within-in-Cover.ensures) (last 2 _)))
+returns-in-Cover c =
+    rw (c.in-Cover.is, c.both-in-Cover.ensures, c.within-in-Cover-2.ensures, c.within-in-Cover.ensures) (in_any _ _ _ refl (two 1 _ _))
 
 pub returns-in-Display : goal.returns-in-Display
 unfolding passes member idle?
