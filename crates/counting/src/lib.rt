@@ -9,7 +9,7 @@ ghost use Rattle.counting.specs.Counting.{no_counts, accepted_with, refused_with
 use model::{Answer, Item, Sequence};
 
 // What the answer counts, while a message is served.
-#[derive(Clone, Copy)]
+#[derive(Clone, Copy, Default)]
 pub struct Counts {
     pub accepted: u32,
     pub refused: u32,
@@ -23,21 +23,14 @@ pub struct Counts {
 pub fn no_counts() -> Counts
     ensures { result ≡ no_counts }
 {
-    Counts {
-        accepted: 0,
-        refused: 0,
-        first: 0,
-        parameter: 0,
-        offset: 0,
-        printed: 0,
-    }
+    Counts::default()
 }
 
 // Whether a sequence is 80.
 pub fn is_copy(q: Sequence) -> bool
     ensures { result ≡ eqb (code_of q) 80 }
 {
-    if let Sequence::Copy = q { true } else { false }
+    matches!(q, Sequence::Copy)
 }
 
 // One item more, read in a mode at an offset: "sequences accepted, sequences refused, number and offset of the first refusal .., printer bytes".
@@ -46,8 +39,7 @@ pub fn count(counts: Counts, mode: u8, item: Item, at: usize) -> Counts
     ensures { result ≡ counts_with mode item at counts }
 {
     match item {
-        Item::Printed(_) => counts,
-        Item::Control(_) => counts,
+        Item::Printed(_) | Item::Control(_) => counts,
         Item::Sequence(q) => accept(counts, printer_bytes(mode, q)),
         Item::Refused { number, parameter } => refuse(counts, number, parameter, at as u32),
     }
@@ -69,10 +61,11 @@ fn accept(counts: Counts, bytes: usize) -> Counts
     requires { Accepting counts bytes }
     ensures { result ≡ accepted_with bytes counts }
 {
-    let mut c = counts;
-    c.accepted += 1;
-    c.printed += bytes;
-    c
+    Counts {
+        accepted: counts.accepted + 1,
+        printed: counts.printed + bytes,
+        ..counts
+    }
 }
 
 // A refusal, the first with its number, the parameter that it names, and its offset.
@@ -82,21 +75,16 @@ fn refuse(counts: Counts, number: u8, parameter: u8, at: u32) -> Counts
 {
     if counts.refused == 0 {
         return Counts {
-            accepted: counts.accepted,
             refused: 1,
             first: number,
             parameter,
             offset: at,
-            printed: counts.printed,
+            ..counts
         };
     }
     Counts {
-        accepted: counts.accepted,
         refused: counts.refused + 1,
-        first: counts.first,
-        parameter: counts.parameter,
-        offset: counts.offset,
-        printed: counts.printed,
+        ..counts
     }
 }
 

@@ -11,7 +11,7 @@ use model::{Item, Sequence};
 pub fn byte(bytes: &[u8], i: usize) -> u8
     ensures { result ≡ get_or bytes.now i 0 }
 {
-    if i < bytes.len() { bytes[i] } else { 0 }
+    bytes.get(i).copied().unwrap_or(0)
 }
 
 // The sequence whose ESC stands at an offset of the message.

@@ -23,7 +23,8 @@ use Rattle.model.specs.Bytes.{list_from}
 use Rattle.model.specs.Checks.{Check, first_bad, in_ranges?, member, passes, free as any}
 use Rattle.model.specs.Sequences.{code_of, idle?}
 use Rattle.model.specs.Judging.{allowed, bad_of, fitting, judged, judged_ranges, legal?, ranges}
-use Rattle.judging.specs.declared.Verdict.{Verdict}
+use Rattle.std.specs.Prelude.{Result, Ok, Err, IsErr, IsErrAnd, is_ok}
+use Rattle.std.proofs.lemmas.Result.{err_from_is_err_and}
 use Rattle.judging.specs.Judging.{Finds, FindsFrom, verdict}
 use Rattle.model.proofs.Tests.{and_left, and_right, by_test, cond_at, differ}
 use Rattle.model.proofs.Arms.{key_of}
@@ -92,12 +93,26 @@ told (Arrows3 a b c d) s t = refl
 told Nothing s t = refl
 told (Shift a) s t = absurd t
 
-pub none_bad : (q : Seq) (s : Limits) → OneOf free (tag_of the_type q) → Finds (judged_ranges q s) (verdict true 1)
+-- what the exit of a `?` hands on
+pub leaving : (r : Result (Unit {0}) ℕ) {p : ℕ} → IsErr r × IsErrAnd r (λ y. y ≡ p) → r ≡ Err p
+leaving r h = let z = err_from_is_err_and r h.1 in z.1 ∙ ap Err z.2
+
+-- the parts of a verdict
+abbrev fault : Result (Unit {0}) ℕ → ℕ
+fault (Ok x) = 0
+fault (Err p) = p
+
+verdict_ok : (b : Bool) (n : ℕ) → Ok tt ≡ verdict b n → b ≡ true
+verdict_ok true n e = refl
+verdict_ok false n e = absurd (differ (ap is_ok e))
+
+verdict_err : (b : Bool) (n : ℕ) {p : ℕ} → Err p ≡ verdict b n → (b ≡ false) × (p ≡ n)
+verdict_err true n e = absurd (differ (sym (ap is_ok e)))
+verdict_err false n e = (refl, ap fault e)
+
+pub none_bad : (q : Seq) (s : Limits) → OneOf free (tag_of the_type q) → Finds (judged_ranges q s) (Ok tt)
 unfolding judged_ranges in_ranges?
-none_bad q s o = record {
-  passed = sym (cond_at (λ cs. in_ranges? cs ≡ true) (idle? s.mode (code_of q)) [] (ranges q s) (λ e. refl) (λ e. told q s (key_of free (tag_of the_type q) o)));
-  first = λ e. absurd (differ e);
-}
+none_bad q s o = rw (cond_at (λ cs. in_ranges? cs ≡ true) (idle? s.mode (code_of q)) [] (ranges q s) (λ e. refl) (λ e. told q s (key_of free (tag_of the_type q) o)))
 
 pub no_copy : (q : Seq) → OneOf others (tag_of the_type q) → eqb (code_of q) 80 ≡ false
 no_copy q = none_passes (λ c. eqb c 80) others q refl
@@ -105,7 +120,7 @@ no_copy q = none_passes (λ c. eqb c 80) others q refl
 pub no-stroke : (q : Seq) → OneOf undrawn (tag_of the_type q) → eqb (code_of q) 198 ≡ false
 no-stroke q = none_passes (λ c. eqb c 198) undrawn q refl
 
-pub stroke_finds : {q k : Seq} {v : Verdict} (s : Limits) → q ≡ k → eqb (code_of k) 198 ≡ true → Finds (cond (eqb (code_of q) 198) (ranges q s) []) v → Finds (ranges q s) v
+pub stroke_finds : {q k : Seq} {v : Result (Unit {0}) ℕ} (s : Limits) → q ≡ k → eqb (code_of k) 198 ≡ true → Finds (cond (eqb (code_of q) 198) (ranges q s) []) v → Finds (ranges q s) v
 stroke_finds {q} {v = v} s e t h = subst (λ (b : Bool). Finds (cond b (ranges q s) []) v) (ap (λ (k : Seq). eqb (code_of k) 198) e ∙ t) h
 
 -- a copy is idle in no mode
@@ -114,9 +129,39 @@ unfolding idle? member
 no-copy_idle mode c e = ne_eqb c 80 (λ f. differ (sym e ∙ ap (idle? mode) f ∙ by_test (λ b. cond b false false ≡ false) (eqb mode 3) refl refl))
 
 -- no checks
-pub no_check : Finds [] (verdict true 1)
+pub no_check : Finds [] (Ok tt)
 unfolding in_ranges?
-no_check = record { passed = refl; first = λ e. absurd (differ e) }
+no_check = refl
+
+-- one check in front: it fails, or what is found of those behind it is found of all
+module _ (n : ℕ) (c : Check) (cs : List Check) where
+  pub fails : {p : ℕ} → Err p ≡ verdict (passes c) n → FindsFrom n (c ∷ cs) (Err p)
+  unfolding in_ranges? first_bad
+  fails e = let z = verdict_err (passes c) n e in rw (z.0, z.1)
+
+  pub holds : {v : Result (Unit {0}) ℕ} → Ok tt ≡ verdict (passes c) n → FindsFrom (n + 1) cs v → FindsFrom n (c ∷ cs) v
+  unfolding in_ranges? first_bad
+  holds e h = rw (verdict_ok (passes c) n e) h
+
+-- the last one
+pub last : (n : ℕ) (c : Check) → FindsFrom n (c ∷ []) (verdict (passes c) n)
+unfolding in_ranges? first_bad
+last n c = by_test (λ (b : Bool). verdict b n ≡ verdict (b && true) (cond b 0 n)) (passes c) refl refl
+
+-- the last two
+pub two : (n : ℕ) (c d : Check) → FindsFrom n (c ∷ d ∷ []) (verdict (passes c && passes d) (cond (passes c) (n + 1) n))
+unfolding in_ranges? first_bad
+two n c d =
+    by_test (λ (p : Bool). verdict (p && passes d) (cond p (n + 1) n) ≡ verdict (p && (passes d && true)) (cond p (cond (passes d) 0 (n + 1)) n)) (passes c)
+    (by_test (λ (q : Bool). verdict q (n + 1) ≡ verdict (q && true) (cond q 0 (n + 1))) (passes d) refl refl) refl
+
+-- behind one that is free: the mode byte of 208, the high byte of a number
+pub behind_free : (n : ℕ) (cs : List Check) (v : Result (Unit {0}) ℕ) → FindsFrom (n + 1) cs v → FindsFrom n (any ∷ cs) v
+unfolding in_ranges? first_bad passes
+behind_free n cs v h = h
+
+pub two_on : (n : ℕ) → n + 2 ≡ n + 1 + 1
+two_on n = omega arith
 
 -- checks that all pass, and checks of which one fails, with others behind them
 past : (n : ℕ) (cs ds : List Check) → in_ranges? cs ≡ true → (in_ranges? (cs ++ ds) ≡ in_ranges? ds) × (first_bad n (cs ++ ds) ≡ first_bad (n + length cs) ds)
@@ -138,65 +183,20 @@ within n (c ∷ cs) ds e = go (passes c) e (within (n + 1) cs ds)
     go true f rest = rest f
     go false f rest = (refl, refl)
 
--- one check or two, by their tests
-one_of : (n : ℕ) (p : Bool) → (p ≡ (p && true)) × (p ≡ false → n ≡ cond p 0 n)
-one_of n true = (refl, λ e. absurd (differ e))
-one_of n false = (refl, λ e. refl)
+pub some_fail : (n : ℕ) (cs ds : List Check) {p : ℕ} → FindsFrom n cs (Err p) → FindsFrom n (cs ++ ds) (Err p)
+some_fail n cs ds e = let z = verdict_err (in_ranges? cs) (first_bad n cs) e in let t = within n cs ds z.0 in rw (t.0, t.1, z.1)
 
-two_of : (n m : ℕ) (p q : Bool) → ((p && q) ≡ (p && (q && true))) × ((p && q) ≡ false → cond p m n ≡ cond p (cond q 0 m) n)
-two_of n m true true = (refl, λ e. absurd (differ e))
-two_of n m true false = (refl, λ e. refl)
-two_of n m false q = (refl, λ e. refl)
-
-pub one : (n : ℕ) (c : Check) → FindsFrom n (c ∷ []) (verdict (passes c) n)
-unfolding in_ranges? first_bad
-one n c = let z = one_of n (passes c) in record { passed = z.0; first = z.1 }
-
-pub two : (n : ℕ) (c d : Check) → FindsFrom n (c ∷ d ∷ []) (verdict (passes c && passes d) (cond (passes c) (n + 1) n))
-unfolding in_ranges? first_bad
-two n c d = let z = two_of n (n + 1) (passes c) (passes d) in record { passed = z.0; first = z.1 }
-
--- behind one that is free: the mode byte of 208, the high byte of a number
-pub behind_free : (n : ℕ) (cs : List Check) (v : Verdict) → FindsFrom (n + 1) cs v → FindsFrom n (any ∷ cs) v
-unfolding in_ranges? first_bad passes
-behind_free n cs v h = record { passed = h.passed; first = h.first }
-
--- some checks, and others behind them
-pub both_parts : (n : ℕ) (cs ds : List Check) (v w : Verdict) → FindsFrom n cs v → FindsFrom (n + length cs) ds w → FindsFrom n (cs ++ ds) (cond v.good w v)
-both_parts n cs ds v w h k =
-    cond_at (FindsFrom n (cs ++ ds)) v.good w v
-    (λ e. record { passed = k.passed ∙ sym (passing e).0; first = λ f. k.first f ∙ sym (passing e).1 })
-    (λ e. record { passed = e ∙ sym (failing e).0; first = λ f. h.first e ∙ sym (failing e).1 })
-  where
-    passing : v.good ≡ true → (in_ranges? (cs ++ ds) ≡ in_ranges? ds) × (first_bad n (cs ++ ds) ≡ first_bad (n + length cs) ds)
-    passing e = past n cs ds (sym h.passed ∙ e)
-
-    failing : v.good ≡ false → (in_ranges? (cs ++ ds) ≡ false) × (first_bad n (cs ++ ds) ≡ first_bad n cs)
-    failing e = within n cs ds (sym h.passed ∙ e)
-
--- two with one between them that is free: the low bytes of two numbers
-module _ (c d : Check) (n : ℕ) where
-  abbrev low_bytes : List Check
-  low_bytes = c ∷ any ∷ d ∷ []
-
-  apart : FindsFrom n low_bytes (verdict (passes c && passes d) (cond (passes c) (n + 1 + 1) n))
-  unfolding in_ranges? first_bad passes
-  apart = let z = two_of n (n + 1 + 1) (passes c) (passes d) in record { passed = z.0; first = z.1 }
-
-  pub first_good : (m : ℕ) → n + 1 + 1 ≡ m → passes c ≡ true → FindsFrom n low_bytes (verdict (passes d) m)
-  first_good m e t = rw (← e) (rw t at apart)
-
-  pub first_bad_lem : passes c ≡ false → FindsFrom n low_bytes (verdict false n)
-  first_bad_lem t = rw t at apart
+pub all_hold : (n : ℕ) (cs ds : List Check) {v : Result (Unit {0}) ℕ} → FindsFrom n cs (Ok tt) → FindsFrom (n + length cs) ds v → FindsFrom n (cs ++ ds) v
+all_hold n cs ds e h = let t = past n cs ds (verdict_ok (in_ranges? cs) (first_bad n cs) e) in rw (t.0, t.1) h
 
 -- a sequence by whether it is idle, which at a known second byte is a choice by the mode
 module _ (q : Seq) (s : Limits) where
-  by_idle : (v : Verdict) (b : Bool) → idle? s.mode (code_of q) ≡ b → Finds (cond b [] (ranges q s)) v → Finds (judged_ranges q s) v
+  by_idle : (v : Result (Unit {0}) ℕ) (b : Bool) → idle? s.mode (code_of q) ≡ b → Finds (cond b [] (ranges q s)) v → Finds (judged_ranges q s) v
   unfolding judged_ranges
   by_idle v b e h = subst (λ (x : Bool). Finds (cond x [] (ranges q s)) v) (sym e) h
 
   -- in no mode
-  pub in_any : (v : Verdict) → idle? s.mode (code_of q) ≡ cond (eqb s.mode 3) false false → Finds (ranges q s) v → Finds (judged_ranges q s) v
+  pub in_any : (v : Result (Unit {0}) ℕ) → idle? s.mode (code_of q) ≡ cond (eqb s.mode 3) false false → Finds (ranges q s) v → Finds (judged_ranges q s) v
   in_any v e = by_idle v false (e ∙ by_test (λ b. cond b false false ≡ false) (eqb s.mode 3) refl refl)
 
   -- in mode 3 alone, with one check
@@ -205,29 +205,25 @@ module _ (q : Seq) (s : Limits) where
     where
       go : (b : Bool) → Finds (cond (cond b true false) [] (c ∷ [])) (verdict (passes c || b) 1)
       go true = by_test (λ p. Finds [] (verdict (p || true) 1)) (passes c) no_check no_check
-      go false = subst (λ (p : Bool). Finds (c ∷ []) (verdict p 1)) (by_test (λ p. p ≡ (p || false)) (passes c) refl refl) (one 1 c)
+      go false = subst (λ (p : Bool). Finds (c ∷ []) (verdict p 1)) (by_test (λ p. p ≡ (p || false)) (passes c) refl refl) (last 1 c)
 
   -- in all but mode 3
   module _ (mode : ℕ) (is : s.mode ≡ mode) (draws : idle? s.mode (code_of q) ≡ cond (eqb s.mode 3) false true) where
-    pub drawn_there : (v : Verdict) → mode ≡ 3 → Finds (ranges q s) v → Finds (judged_ranges q s) v
+    pub drawn_there : (v : Result (Unit {0}) ℕ) → mode ≡ 3 → Finds (ranges q s) v → Finds (judged_ranges q s) v
     drawn_there v f = by_idle v false (draws ∙ ap (λ (b : Bool). cond b false true) (eq-eqb s.mode 3 (is ∙ f)))
 
-    pub drawn_elsewhere : (mode ≡ 3 → ⊥) → Finds (judged_ranges q s) (verdict true 1)
+    pub drawn_elsewhere : (mode ≡ 3 → ⊥) → Finds (judged_ranges q s) (Ok tt)
     drawn_elsewhere f = by_idle _ true (draws ∙ ap (λ (b : Bool). cond b false true) (ne_eqb s.mode 3 (λ g. f (sym is ∙ g)))) no_check
 
 -- a sequence once its parameters are looked at
-module _ (q : Seq) (s : Limits) (room : ℕ) (v : Verdict) (found : Finds (judged_ranges q s) v) where
-  legal_is : legal? q s ≡ v.good
-  unfolding legal?
-  legal_is = sym found.passed
+module _ (q : Seq) (s : Limits) (room : ℕ) where
+  pub judged_good : Finds (judged_ranges q s) (Ok tt) → fitting s.mode (Sequence q) room ≡ judged (Sequence q) s room
+  unfolding allowed legal?
+  judged_good e = ap (λ (b : Bool). fitting s.mode (cond b (Sequence q) (Refused 11 (bad_of q s))) room) (sym (verdict_ok _ _ e))
 
-  pub judged_good : v.good ≡ true → fitting s.mode (Sequence q) room ≡ judged (Sequence q) s room
-  unfolding allowed
-  judged_good e = ap (λ (b : Bool). fitting s.mode (cond b (Sequence q) (Refused 11 (bad_of q s))) room) (sym (legal_is ∙ e))
-
-  pub judged_bad : v.good ≡ false → Refused 11 v.parameter ≡ judged (Sequence q) s room
-  unfolding bad_of
-  judged_bad e = ap (λ (n : ℕ). Refused 11 n) (found.first e) ∙ sym (refused_by_lem q s room (legal_is ∙ e))
+  pub judged_bad : {p : ℕ} → Finds (judged_ranges q s) (Err p) → Refused 11 p ≡ judged (Sequence q) s room
+  unfolding bad_of legal?
+  judged_bad e = let z = verdict_err (in_ranges? (judged_ranges q s)) (first_bad 1 (judged_ranges q s)) e in ap (λ (n : ℕ). Refused 11 n) z.1 ∙ sym (refused_by_lem q s room z.0)
 
 -- an item that is no sequence is not judged
 pub unjudged : (i : Item) (s : Limits) (room : ℕ) → OneOf (0 ∷ 1 ∷ 3 ∷ []) (tag_of item-type i) → i ≡ judged i s room

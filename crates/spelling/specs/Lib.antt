@@ -1,4 +1,3 @@
 pub mod Spelling
 pub mod Given
-pub mod Spelled
 pub mod Claims

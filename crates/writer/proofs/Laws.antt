@@ -5,39 +5,37 @@ use Prim.Native.Nat.{ℕ, ◌+◌, ◌<◌, ◌≤◌}
 use native.Mathlib.Omega.{arith}
 use mathlib.Core.Bool.{Bool, ◌&&◌, and-false, cond, false, true}
 use mathlib.Core.List.{List, [], ◌∷◌}
-use lib.ListN.{drop, length, take}
+use lib.ListN.{drop, get_or, length, take}
 use lib.Seq.{length-take-le, take_all, take-length}
 use lib.Dec.{eqb, ltb}
 use borrow.Author.Tests.{eq-eqb, le-leb, le-ltb, lt-leb, lt-ltb, ltb-false, ltb-true, ne_eqb}
 use Rattle.model.specs.declared.Settings.{Settings}
 use Rattle.model.specs.declared.Limits.{Limits}
 use Rattle.model.specs.declared.Sequence.{Sequence as Seq}
+use Rattle.model.specs.declared.Sequence.TheVariants.{Select}
 use Rattle.model.specs.declared.Item.{Item}
 use Rattle.model.specs.declared.Item.TheVariants.{Printed, Control, Sequence, Refused}
 use Rattle.model.specs.Bytes.{put}
 use Rattle.model.specs.Picture.{copy_size_of}
-use Rattle.model.specs.Parameters.{NamedItem}
-use Rattle.model.specs.Reading.{item_of, needed, own_bytes}
-use Rattle.model.specs.Judging.{judged, limits_of}
+use Rattle.model.specs.Sequences.{code_of, mode_row_of, mode_rows, refusal, row_of, rows}
+use Rattle.model.specs.Reading.{decoded, ended, item_of, kind_of, needed, own_bytes, unfinished?}
+use Rattle.model.specs.Judging.{allowed, bad_of, fitting, judged, legal?, limits_of}
 use Rattle.model.specs.Screens.{columns_of, height, lines_of}
 use Rattle.model.specs.Sound.{sound?}
 use Rattle.calls.specs.Calls.{first_of, reason}
-use Rattle.model.proofs.ByteLaws.{length-put}
-use Rattle.model.proofs.Gathering.{needed_most}
-use Rattle.model.proofs.ParameterLaws.{read_named}
-use Rattle.model.proofs.Tests.{cond_at}
+use Rattle.model.proofs.Gathering.{found, needed_most}
+use Rattle.model.proofs.Tests.{cond_at, elim_at}
 use Rattle.store.proofs.Laws.{put_front}
 use Rattle.reader.specs.Reading.{ReadAt}
 use Rattle.reader.specs.declared.Reading.{Reading}
-use Rattle.spelling.specs.declared.Spelled.{Spelled}
 use Rattle.spelling.specs.Spelling.{bytes_of}
 use Rattle.spelling.specs.Given.{given_bytes}
-use Rattle.spelling.specs.Spelled.{SpelledAs, Usable, front}
 use Rattle.spelling.proofs.Told.{needed_alone}
 use Rattle.writer.specs.declared.Reached.{Reached}
-use Rattle.writer.specs.declared.Verdict.{Verdict}
+use Rattle.writer.specs.declared.Refusal.{Refusal}
+use Rattle.std.specs.Prelude.{Result, Ok, Err}
 use Rattle.writer.specs.Writing.{Wanted, buffer_after, number_in, number_of, parameter_in, parameter_of, place_after, said, said_of_all, space?, wanted, wanted_by}
-use Rattle.writer.specs.Promised.{Laid, Told, WritePromised}
+use Rattle.writer.specs.Promised.{Laid, Told, WritePromised, reached}
 
 -- the limits of the selected screen
 module _ (s : Settings) (h : ℕ) (f : h ≡ height s) where
@@ -52,18 +50,54 @@ module _ (s : Settings) (h : ℕ) (f : h ≡ height s) where
   unfolding lines_of columns_of
   limits_second e = rw (ne_eqb s.selected 0 e, f)
 
--- an item that is no refusal
-pub told_none : (i : Item) → ((n p : ℕ) → i ≡ Refused n p → ⊥) → Told i (record { number = 0; parameter = 0 })
+-- no item is refused by 0: not as it is read, nor as it is judged
+abbrev some? : Item → Bool
+some? (Printed c) = true
+some? (Control c) = true
+some? (Sequence q) = true
+some? (Refused n p) = ltb 0 n
+
+item_some : (at : ℕ) (bs : List ℕ) → some? (item_of at bs) ≡ true
+unfolding item_of ended decoded kind_of row_of mode_row_of
+item_some at bs =
+    let p : ℕ → ℕ = λ n. get_or bs (n + 1) 0 in
+    let N : Item → Type 0 = λ i. some? i ≡ true in
+    elim_at N (unfinished? bs) (ended bs) (decoded at bs)
+    (λ e. elim_at N (eqb (get_or bs 1 0) 209) (Sequence (Select 0)) (Refused 12 0) (λ e. refl) (λ e. refl))
+    (λ e. elim_at N (eqb (get_or bs 0 0) 27) ((kind_of bs).made p (at + 2)) _
+    (λ e. elim_at (λ r. N (r.made p (at + 2))) (eqb (get_or bs 1 0) 208) (mode_row_of (get_or bs 2 0)) (row_of (get_or bs 1 0))
+    (λ e. found (λ r. some? (r.made p (at + 2))) (refusal 0 3 11 1) mode_rows (get_or bs 2 0) refl refl)
+    (λ e. found (λ r. some? (r.made p (at + 2))) (refusal 0 2 10 0) rows (get_or bs 1 0) refl refl))
+    (λ e. elim_at N (ltb (get_or bs 0 0) 32) (Control (get_or bs 0 0)) (Printed (get_or bs 0 0)) (λ e. refl) (λ e. refl)))
+
+judged_some : (i : Item) (l : Limits) (room : ℕ) → some? i ≡ true → some? (judged i l room) ≡ true
+unfolding allowed fitting
+judged_some (Printed c) l room h = refl
+judged_some (Control c) l room h = refl
+judged_some (Sequence q) l room h =
+    cond_at (λ (i : Item). some? (fitting l.mode i room) ≡ true) (legal? q l) (Sequence q) (Refused 11 (bad_of q l))
+    (λ e. cond_at (λ (i : Item). some? i ≡ true) (eqb (code_of q) 80 && ltb room (copy_size_of l.mode)) (Refused 13 0) (Sequence q) (λ f. refl) (λ f. refl))
+    (λ e. refl)
+judged_some (Refused n p) l room h = h
+
+pub refused_some : {i : Item} {n p : ℕ} (at : ℕ) (bs : List ℕ) (l : Limits) (room : ℕ) → i ≡ judged (item_of at bs) l room → i ≡ Refused n p → n ≡ 0 → ⊥
+refused_some {n = n} at bs l room e f z =
+    let h : 0 < n = ltb-true 0 n (ap some? (sym f ∙ e) ∙ judged_some (item_of at bs) l room (item_some at bs)) in omega arith
+
+-- the word of an item
+pub told_none : (i : Item) → ((n p : ℕ) → i ≡ Refused n p → ⊥) → Told i (Ok tt)
 unfolding number_in parameter_in
-told_none (Printed c) o = record { number_is = refl; parameter_is = refl }
-told_none (Control c) o = record { number_is = refl; parameter_is = refl }
-told_none (Sequence q) o = record { number_is = refl; parameter_is = refl }
+told_none (Printed c) o = (refl, refl)
+told_none (Control c) o = (refl, refl)
+told_none (Sequence q) o = (refl, refl)
 told_none (Refused n p) o = absurd (o n p refl)
 
--- the encoder's bytes
-pub front_length : (r : Spelled) → Usable r → length (front r) ≡ r.length
-unfolding front
-front_length r u = length-take-le r.length r.bytes (omega (arith, u.size, u.most))
+pub told_as : {i j : Item} (v : Result (Unit {0}) Refusal) → i ≡ j → Told i v → Told j v
+told_as v e = subst (λ (i : Item). Told i v) e
+
+pub told_refused : {i : Item} {n p : ℕ} → i ≡ Refused n p → (n ≡ 0 → ⊥) → Told i (Err (record { number = n; parameter = p }))
+unfolding number_in parameter_in
+told_refused {n = n} {p = p} e z = told_as (Err (record { number = n; parameter = p })) (sym e) (refl, refl, z)
 
 -- what the reader read of all the bytes m, under these limits
 module _ (s : Settings) (m : List ℕ) (l : Limits) (room : ℕ) (r : Reading) (at : ReadAt m 0 l room r) where
@@ -85,14 +119,6 @@ module _ (s : Settings) (m : List ℕ) (l : Limits) (room : ℕ) (r : Reading) (
       cond_at (λ (i : Item). r.item ≡ i) (ltb (needed m) (length m)) (Refused 10 0) (said s m)
       (λ e. let n = ltb-true (needed m) (length m) e in let k = length-take-le (needed m) m (omega (arith, n)) in absurd (h (omega (arith, own_length, k, n))))
       (λ e. let p : take (needed m) m ≡ m = take_all (needed m) m (ltb-false (needed m) (length m) e) in at.item_is ∙ (λ i. judged (item_of 0 (p i)) (f i) (g i)))
-
--- the word of a verdict
-pub told_as : {i j : Item} {v : Verdict} → i ≡ j → Told i v → Told j v
-told_as {v = v} e = subst (λ (i : Item). Told i v) e
-
-pub told_ten : {i : Item} → i ≡ Refused 10 0 → Told i (record { number = 10; parameter = 0 })
-unfolding number_in parameter_in
-told_ten e = told_as (sym e) (record { number_is = refl; parameter_is = refl })
 
 -- 22, or all is laid down
 pub laid_none : (b : List ℕ) (at : ℕ) (bs : List ℕ) → length b < at + length bs → Laid b at bs b (record { place = at; number = 22; parameter = 0 })
@@ -132,50 +158,35 @@ module _ (s : Settings) (x : Wanted) (b : List ℕ) (at : ℕ) where
   unfolding number_of first_of parameter_of
   unsound e = refused 3 0 (ap (λ (t : Bool). by_tests t (eqb (number_in x.word) 0) (space? b at x.bytes) (number_in x.word)) (sym e)) (rw e) (λ z. omega arith)
 
-  module _ (e : sound? s ≡ true) (v : Verdict) (w : Told x.word v) where
-    passed_on : v.parameter ≡ parameter_of s x
+  module _ (e : sound? s ≡ true) where
+    passed_on : {p : ℕ} → p ≡ parameter_in x.word → p ≡ parameter_of s x
     unfolding parameter_of
-    passed_on = w.parameter_is ∙ sym (rw e)
+    passed_on h = h ∙ sym (rw e)
 
     -- the reader's number
-    pub refused_read : (v.number ≡ 0 → ⊥) → WritePromised s x b at b (record { place = at; number = v.number; parameter = v.parameter })
+    pub refused_read : (v : Refusal) → Told x.word (Err v) → WritePromised s x b at b (reached at (Err v))
     unfolding number_of first_of
-    refused_read z =
-        let f : eqb (number_in x.word) 0 ≡ false = ne_eqb (number_in x.word) 0 (λ y. z (w.number_is ∙ y)) in
-        refused v.number v.parameter (λ i. by_tests (sym e i) (sym f i) (space? b at x.bytes) (w.number_is i)) passed_on z
+    refused_read v w =
+        let f : eqb (number_in x.word) 0 ≡ false = ne_eqb (number_in x.word) 0 (λ y. w.2 (w.0 ∙ y)) in
+        refused v.number v.parameter (λ i. by_tests (sym e i) (sym f i) (space? b at x.bytes) (w.0 i)) (passed_on w.1) w.2
 
-    numbered : v.number ≡ 0 → number_of s x b at ≡ cond (space? b at x.bytes) 0 22
+    numbered : number_in x.word ≡ 0 → number_of s x b at ≡ cond (space? b at x.bytes) 0 22
     unfolding number_of
     numbered z =
-        let f : eqb (number_in x.word) 0 ≡ true = eq-eqb (number_in x.word) 0 (sym w.number_is ∙ z) in
+        let f : eqb (number_in x.word) 0 ≡ true = eq-eqb (number_in x.word) 0 z in
         (λ i. by_tests (e i) (f i) (space? b at x.bytes) (number_in x.word)) ∙ last_test (space? b at x.bytes) (number_in x.word)
 
     -- 22, or written
-    pub laid : v.number ≡ 0 → (v.number ≡ 0 → v.parameter ≡ 0) → (b' : List ℕ) (r : Reached) → Laid b at x.bytes b' r → WritePromised s x b at b' r
+    pub laid : Told x.word (Ok tt) → (b' : List ℕ) (r : Reached) → Laid b at x.bytes b' r → WritePromised s x b at b' r
     unfolding place_after buffer_after
-    laid z d b' r h =
-        let k = numbered z in
+    laid w b' r h =
+        let k = numbered w.0 in
         record {
           number_is = h.number_is ∙ sym k;
-          parameter_is = h.parameter_is ∙ sym (d z) ∙ passed_on;
+          parameter_is = h.parameter_is ∙ passed_on (sym w.1);
           place_is = h.place_is ∙ sym (rw k (unless (space? b at x.bytes) _ _));
           buffer_is = h.buffer_is ∙ sym (rw k (unless (space? b at x.bytes) _ _));
         }
-
--- P10, "For all other numbers it is 0": what is not refused names no parameter
-quiet : (i : Item) → NamedItem i → number_in i ≡ 0 → parameter_in i ≡ 0
-unfolding number_in parameter_in
-quiet (Printed c) n z = refl
-quiet (Control c) n z = refl
-quiet (Sequence q) n z = refl
-quiet (Refused k p) n z = n.another (λ e. omega (arith, e, z))
-
-pub quiet_word : (s : Settings) (bs : List ℕ) (v : Verdict) → Told (said_of_all s bs) v → v.number ≡ 0 → v.parameter ≡ 0
-unfolding said_of_all said
-quiet_word s bs v w z =
-    w.parameter_is ∙ cond_at (λ (i : Item). number_in i ≡ 0 → parameter_in i ≡ 0) (ltb (needed bs) (length bs)) (Refused 10 0) (said s bs)
-    (λ e. quiet (Refused 10 0) (record { eleven = λ k. absurd (omega (arith, k)); another = λ k. refl }))
-    (λ e. quiet (said s bs) (read_named 0 bs (limits_of s) (copy_size_of s.mode))) (sym w.number_is ∙ z)
 
 -- what is written of a named sequence: the reader takes all its bytes
 pub wanted-named : (s : Settings) (q : Seq) (rows : List ℕ) (bs : List ℕ) → length rows ≡ 8 → bs ≡ bytes_of q rows → ◌≡◌ {A = Wanted} (record { word = said_of_all s bs; bytes = bs }) (wanted s q rows)
@@ -225,18 +236,15 @@ module _ (s : Settings) (second : ℕ) (ps : List ℕ) (h : 11 < length ps) wher
 
 -- what is gathered
 module _ (second : ℕ) (ps : List ℕ) where
-  pub given_alone : (eqb second 209 && eqb (length ps) 0) ≡ true → SpelledAs (given_bytes second ps) (record { length = 3; bytes = 27 ∷ 209 ∷ 0 ∷ 0 ∷ 0 ∷ 0 ∷ 0 ∷ 0 ∷ 0 ∷ 0 ∷ 0 ∷ 0 ∷ 0 ∷ [] })
-  unfolding given_bytes front
-  given_alone e = record { front_is = ap (λ (t : Bool). cond t (27 ∷ 209 ∷ 0 ∷ []) (27 ∷ second ∷ ps)) (sym e); usable = record { some = omega arith; most = omega arith; size = refl } }
+  pub given_alone : (eqb second 209 && eqb (length ps) 0) ≡ true → 27 ∷ 209 ∷ 0 ∷ [] ≡ given_bytes second ps
+  unfolding given_bytes
+  given_alone e = ap (λ (t : Bool). cond t (27 ∷ 209 ∷ 0 ∷ []) (27 ∷ second ∷ ps)) (sym e)
 
   pub given-more : (eqb second 209 && eqb (length ps) 0) ≡ false → length ps ≤ 11 → (bs : List ℕ) → bs ≡ put 2 (take (length ps) (drop 0 ps)) (27 ∷ second ∷ 0 ∷ 0 ∷ 0 ∷ 0 ∷ 0 ∷ 0 ∷ 0 ∷ 0 ∷ 0 ∷ 0 ∷ 0 ∷ [])
-      → SpelledAs (given_bytes second ps) (record { length = length ps + 2; bytes = bs })
-  unfolding given_bytes front
+      → take (length ps + 2) bs ≡ given_bytes second ps
+  unfolding given_bytes
   given-more e h bs f =
       let z : List ℕ = 27 ∷ second ∷ 0 ∷ 0 ∷ 0 ∷ 0 ∷ 0 ∷ 0 ∷ 0 ∷ 0 ∷ 0 ∷ 0 ∷ 0 ∷ [] in
       let p : bs ≡ put 2 ps z = f ∙ ap (λ (l : List ℕ). put 2 l z) (take-length ps) in
       let n : length ps + 2 ≡ 2 + length ps = omega arith in
-      record {
-        front_is = (λ i. take (n i) (p i)) ∙ put_front 2 ps z (omega (arith, h)) ∙ ap (λ (t : Bool). cond t (27 ∷ 209 ∷ 0 ∷ []) (27 ∷ second ∷ ps)) (sym e);
-        usable = record { some = omega arith; most = omega (arith, h); size = ap length p ∙ length-put 2 ps z (omega (arith, h)) };
-      }
+      (λ i. take (n i) (p i)) ∙ put_front 2 ps z (omega (arith, h)) ∙ ap (λ (t : Bool). cond t (27 ∷ 209 ∷ 0 ∷ []) (27 ∷ second ∷ ps)) (sym e)

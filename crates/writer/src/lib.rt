@@ -24,9 +24,9 @@ pub struct Reached {
     pub parameter: u8,
 }
 
-// What the reader says of a sequence: 0, or the number and the parameter of its refusal.
+// Why a sequence is not written: the number, and with 11 the parameter that it names.
 #[derive(Clone, Copy)]
-pub struct Verdict {
+pub struct Refusal {
     pub number: u8,
     pub parameter: u8,
 }

@@ -2,11 +2,10 @@
 ghost use Rattle.std.specs.Prelude.{◌≡◌, cond};
 ghost use Rattle.model.specs.Judging.{limits_of};
 ghost use Rattle.model.specs.Sound.{sound?};
-ghost use Rattle.spelling.specs.Spelled.{Usable, front};
 ghost use Rattle.writer.specs.Writing.{said_of_all};
 ghost use Rattle.writer.specs.Promised.{Told};
 
-use crate::{Reached, Verdict};
+use crate::{Reached, Refusal};
 use model::{Item, Limits, Settings};
 use spelling::Spelled;
 
@@ -16,51 +15,35 @@ pub fn limits_of(settings: Settings) -> Limits
 {
     let mode = settings.mode;
     let height = tables::height_of(mode, settings.display);
-    if settings.selected == 0 {
-        return Limits {
-            mode,
-            lines: settings.lines1,
-            columns: settings.columns1,
-            height,
-        };
-    }
+    let (lines, columns) = if settings.selected == 0 {
+        (settings.lines1, settings.columns1)
+    } else {
+        (settings.lines2, settings.columns2)
+    };
     Limits {
         mode,
-        lines: settings.lines2,
-        columns: settings.columns2,
+        lines,
+        columns,
         height,
     }
 }
 
 // The reader's word on the bytes, under the settings given and with room for a copy; 10 if there are more bytes than the sequence has.
-pub fn judge(settings: Settings, spelled: Spelled) -> Verdict
-    requires { Usable spelled }
-    ensures { Told (said_of_all settings (front spelled)) result }
+pub fn judge(settings: Settings, spelled: &Spelled) -> Result<(), Refusal>
+    ensures { Told (said_of_all settings spelled.now) result }
 {
-    let length = spelled.length;
-    let bytes = spelled.bytes;
+    let bytes = spelled.as_slice();
     let room = tables::copy_size(settings.mode);
-    let reading = reader::read_item(limits_of(settings), room, &bytes[..length], 0);
-    if reading.length < length {
-        return Verdict {
+    let reading = reader::read_item(limits_of(settings), room, bytes, 0);
+    if reading.length < bytes.len() {
+        return Err(Refusal {
             number: 10,
             parameter: 0,
-        };
+        });
     }
-    let item = reading.item;
-    told(item)
-}
-
-// An item's refusal.
-fn told(item: Item) -> Verdict
-    ensures { Told item result }
-{
-    match item {
-        Item::Refused { number, parameter } => Verdict { number, parameter },
-        _ => Verdict {
-            number: 0,
-            parameter: 0,
-        },
+    match reading.item {
+        Item::Refused { number, parameter } => Err(Refusal { number, parameter }),
+        _ => Ok(()),
     }
 }
 

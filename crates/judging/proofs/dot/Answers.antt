@@ -1,21 +1,31 @@
--- `judging::dot` meets its contract: in mode 3 the tests of its number and its row, then that of its column.
-use mathlib.Core.Path.{refl}
-use mathlib.Core.List.{[], ◌∷◌}
-use Rattle.model.specs.Checks.{free, member, passes, range}
-use Rattle.model.specs.Dot.{two_bytes}
+-- `judging::dot` meets its contract: in mode 3 the tests of its number, of its row, then of its column.
+use mathlib.Core.Path.{◌∙◌, refl}
+use Rattle.model.specs.Checks.{member, passes}
 use Rattle.model.specs.Sequences.{idle?}
-use Rattle.judging.proofs.JudgingLaws.{behind_free, both_parts, drawn_elsewhere, drawn_there, one, two}
+use Rattle.judging.proofs.JudgingLaws.{behind_free, drawn_elsewhere, drawn_there, fails, holds, last, leaving}
 use Rattle.judging.proofs.dot.Goals as goal
 
 pub returns-then-mode-ne3 : goal.returns-then-mode-ne3
 unfolding passes member idle?
 returns-then-mode-ne3 c s e =
-    rw c.of_one.ensures (drawn_elsewhere _ s _ e refl c.if-mode-ne3.true)
+    drawn_elsewhere _ s _ e refl c.if-mode-ne3.true
+
+pub returns-in_err-in_range : goal.returns-in_err-in_range
+unfolding passes member idle?
+returns-in_err-in_range c s e =
+    rw (leaving _ c.from_residual.ensures) (drawn_there _ s _ e refl _ c.if-mode-ne3.false (fails 1 _ _ (c.in_err-in_range.ensures ∙ rw c.within.ensures)))
+
+pub returns-in_err-in_range-2 : goal.returns-in_err-in_range-2
+unfolding passes member idle?
+returns-in_err-in_range-2 c s e =
+    rw (leaving _ c.from_residual-in_err-in_range-2.ensures)
+    (drawn_there _ s _ e refl _ c.if-mode-ne3.false
+    (holds 1 _ _ (c.in_ok-in_range.ensures ∙ rw c.within.ensures) (fails 2 _ _ (c.in_err-in_range-2.ensures ∙ rw c.within-2.ensures))))
 
 pub returns : goal.returns
 unfolding passes member idle?
 returns c s e =
-    let a = c.args in
-    rw (c.unless_bad.ensures, c.of_one-2.ensures, c.up_to.ensures, c.of_two-first.ensures, c.within-2.ensures, c.within.ensures)
+    rw (c.in_range-3.ensures, c.up_to.ensures)
     (drawn_there _ s _ e refl _ c.if-mode-ne3.false
-    (both_parts 1 (range 0 a.p1 1 ∷ range 0 a.p2 63 ∷ []) (free ∷ range 0 (two_bytes a.p3 a.p4) 479 ∷ []) _ _ (two 1 _ _) (behind_free 3 _ _ (one 4 _))))
+    (holds 1 _ _ (c.in_ok-in_range.ensures ∙ rw c.within.ensures)
+    (holds 2 _ _ (c.in_ok-in_range-2.ensures ∙ rw c.within-2.ensures) (behind_free 3 _ _ (last 4 _)))))

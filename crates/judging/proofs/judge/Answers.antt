@@ -4,13 +4,13 @@ use Rattle.judging.proofs.JudgingLaws.{judged_bad, judged_good, unjudged}
 use borrow.Enum.Refused.{opened}
 use Rattle.judging.proofs.judge.Goals as goal
 
-pub returns-then-found : goal.returns-then-found
-returns-then-found c =
-    rw c.in-Sequence.is (c.fit.ensures ∙ judged_good _ _ _ _ c.check-found.ensures c.if-found.true)
+pub returns-in-Ok : goal.returns-in-Ok
+returns-in-Ok c =
+    rw c.in-Sequence.is (c.fit.ensures ∙ judged_good _ _ _ c.in-Ok.ensures)
 
-pub returns-else-found : goal.returns-else-found
-returns-else-found c =
-    rw c.in-Sequence.is (judged_bad _ _ _ _ c.check-found.ensures c.if-found.false)
+pub returns-in-Err : goal.returns-in-Err
+returns-in-Err c =
+    rw c.in-Sequence.is (judged_bad _ _ _ c.in-Err.ensures)
 
 pub returns-in_default : goal.returns-in_default
 returns-in_default c =

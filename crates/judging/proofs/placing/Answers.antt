@@ -6,4 +6,4 @@ use Rattle.judging.proofs.placing.Goals as goal
 pub returns : goal.returns
 unfolding passes
 returns c =
-    rw (c.of_two.ensures, c.shifted-2.ensures, c.shifted.ensures) (two 1 _ _)
+    rw (c.both.ensures, c.shifted-2.ensures, c.shifted.ensures) (two 1 _ _)

@@ -1,13 +1,14 @@
--- `judging::point` meets its contract: by its two tests, the first of them decided.
-use mathlib.Core.Path.{◌∙◌, sym}
-use native.Mathlib.Omega.{arith}
-use Rattle.judging.proofs.JudgingLaws.{first_bad_lem, first_good}
+-- `judging::point` meets its contract: by its two tests, each behind a high byte, which is free.
+use mathlib.Core.Path.{◌∙◌}
+use Prim.Native.Nat.{◌+◌}
+use Rattle.judging.proofs.JudgingLaws.{behind_free, fails, holds, last, leaving, two_on}
 use Rattle.judging.proofs.point.Goals as goal
 
-pub returns-then-h : goal.returns-then-h
-returns-then-h c =
-    rw (c.of_one.ensures, c.up_to-v.ensures) (first_good _ _ _ _ (omega arith) (sym c.up_to-h.ensures ∙ c.if-h.true))
+pub returns-in_err-in_range : goal.returns-in_err-in_range
+returns-in_err-in_range c =
+    rw (leaving _ c.from_residual.ensures) (fails c.args.number _ _ (c.in_err-in_range.ensures ∙ rw c.up_to.ensures))
 
-pub returns-else-h : goal.returns-else-h
-returns-else-h c =
-    rw c.of_one-else-h.ensures (first_bad_lem _ _ _ (sym c.up_to-h.ensures ∙ c.if-h.false))
+pub returns : goal.returns
+returns c =
+    rw (c.in_range-2.ensures, c.up_to-2.ensures, two_on c.args.number)
+    (holds c.args.number _ _ (c.in_ok-in_range.ensures ∙ rw c.up_to.ensures) (behind_free (c.args.number + 1) _ _ (last (c.args.number + 1 + 1) _)))

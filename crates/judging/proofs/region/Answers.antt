@@ -6,4 +6,4 @@ use Rattle.judging.proofs.region.Goals as goal
 pub returns : goal.returns
 unfolding passes
 returns c =
-    rw (c.of_two.ensures, c.within-2.ensures, c.within.ensures, c.less_one.ensures) (two 1 _ _)
+    rw (c.both.ensures, c.within-2.ensures, c.within.ensures, c.saturating_sub.ensures) (two 1 _ _)

@@ -6,4 +6,4 @@ use Rattle.judging.proofs.two_screens.Goals as goal
 pub returns : goal.returns
 unfolding passes
 returns c s =
-    rw c.of_two.ensures (behind_free 1 _ _ (two 2 _ _))
+    rw c.both.ensures (behind_free 1 _ _ (two 2 _ _))

@@ -2,10 +2,6 @@
 use Rattle.writer.proofs.Laws.{promised_as, wanted-named}
 use Rattle.writer.proofs.write_at.Goals as goal
 
-pub write_spelled-requires : goal.write_spelled-requires
-write_spelled-requires c =
-    c.spell.ensures.usable
-
 pub returns : goal.returns
 returns c =
-    promised_as (wanted-named c.args.settings c.args.sequence c.args.rows _ (search c.well_formed.1.1.1.1) c.spell.ensures.front_is) c.write_spelled.ensures
+    promised_as (wanted-named c.args.settings c.args.sequence c.args.rows _ (search c.well_formed.1.1.1.1) c.spell.ensures) c.write_spelled.ensures

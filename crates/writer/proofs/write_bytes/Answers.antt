@@ -11,11 +11,7 @@ pub gather-requires : goal.gather-requires
 gather-requires c =
     omega (arith, c.if-parameters-gt11.false)
 
-pub write_spelled-requires : goal.write_spelled-requires
-write_spelled-requires c =
-    c.gather.ensures.usable
-
 pub returns : goal.returns
 returns c =
     let a = c.args in
-    promised_as (wanted-given a.settings a.second a.parameters.now _ c.gather.ensures.front_is) c.write_spelled.ensures
+    promised_as (wanted-given a.settings a.second a.parameters.now _ c.gather.ensures) c.write_spelled.ensures

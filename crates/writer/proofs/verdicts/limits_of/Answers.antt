@@ -7,6 +7,6 @@ pub returns-then-settings-eq0 : goal.returns-then-settings-eq0
 returns-then-settings-eq0 c =
     limits_first _ _ (c.height_of-height.ensures _ refl refl) c.if-settings-eq0.true
 
-pub returns : goal.returns
-returns c =
+pub returns-else-settings-eq0 : goal.returns-else-settings-eq0
+returns-else-settings-eq0 c =
     limits_second _ _ (c.height_of-height.ensures _ refl refl) c.if-settings-eq0.false
