@@ -1,9 +1,10 @@
 // The rows of the picture without secret and layer: a row, and all of them.
-ghost use Rattle.std.specs.Prelude.{◌≡◌, ◌*◌, ◌<◌, length};
+ghost use Rattle.std.specs.Prelude.{◌≡◌, ◌*◌, ◌<◌};
 ghost use Rattle.views.specs.Painted.{painted};
 ghost use Rattle.views.specs.Panes.{Framed, seen};
 
-use crate::{Pane, View, start};
+use crate::{Pane, View};
+use model::{CELLS, SHOWN};
 
 // The rows of the shown screen, a row, all places, and those before row 8.
 pub const ROWS: usize = 8;
@@ -15,9 +16,8 @@ pub const PLACES: usize = 640;
 pub const ROW_8: usize = 560;
 
 // Row `row`, from 0, of the picture without secret and layer: the left pane, the gap, the right pane.
-pub fn paint_row(view: View, cells: &[u8], shown: &mut [u8], row: usize)
+pub fn paint_row(view: View, cells: &[u8; CELLS], shown: &mut [u8; SHOWN], row: usize)
     requires framed { (Framed view) × (row < view.rows) }
-    requires cells_len { (length cells.now ≡ 3840) × (length shown.old ≡ 640) }
     ensures { shown.new ≡ painted (row * 80) 80 (seen view cells.now) shown.old }
 {
     let left = view.left;
@@ -25,16 +25,15 @@ pub fn paint_row(view: View, cells: &[u8], shown: &mut [u8], row: usize)
     let from = row * ROW;
     let between = from + left.width;
     let to = between + view.gap;
-    store::copy_in(shown, from, cells, start(left, row), left.width);
+    store::copy_in(shown, from, cells, left.start(row), left.width);
     store::fill(&mut shown[between..to], view.code);
-    store::copy_in(shown, to, cells, start(right, row), right.width);
+    store::copy_in(shown, to, cells, right.start(row), right.width);
 }
 
 // The panes. One as wide as the screen is one piece of the cells. Else there are 39, 2 and 39 places, or a gap of 1: these numbers are
 // handed on as such, so that a compiler sees them.
-pub fn paint_view(panes: View, cells: &[u8], shown: &mut [u8])
+pub fn paint_view(panes: View, cells: &[u8; CELLS], shown: &mut [u8; SHOWN])
     requires framed { Framed panes }
-    requires cells_len { (length cells.now ≡ 3840) × (length shown.old ≡ 640) }
     ensures { shown.new ≡ painted 0 (panes.rows * 80) (seen panes cells.now) shown.old }
 {
     let left = panes.left;
@@ -51,30 +50,31 @@ pub fn paint_view(panes: View, cells: &[u8], shown: &mut [u8])
 }
 
 // The panes row by row, `one`, `gap` and `two` places of each.
-fn paint_rows(panes: View, one: usize, gap: usize, two: usize, cells: &[u8], shown: &mut [u8])
+fn paint_rows(
+    panes: View,
+    one: usize,
+    gap: usize,
+    two: usize,
+    cells: &[u8; CELLS],
+    shown: &mut [u8; SHOWN],
+)
     requires framed { Framed panes }
     requires one_value { (one ≡ panes.left.width) × ((gap ≡ panes.gap) × (two ≡ panes.right.width)) }
-    requires cells_len { (length cells.now ≡ 3840) × (length shown.old ≡ 640) }
     ensures { shown.new ≡ painted 0 (panes.rows * 80) (seen panes cells.now) shown.old }
 {
-    let left = panes.left;
-    let right = panes.right;
     let view = View {
-        rows: panes.rows,
         left: Pane {
-            at: left.at,
             width: one,
+            ..panes.left
         },
         gap,
-        code: panes.code,
         right: Pane {
-            at: right.at,
             width: two,
+            ..panes.right
         },
+        ..panes
     };
-    let mut row = 0;
-    while row < view.rows {
+    for row in 0..view.rows {
         paint_row(view, cells, shown, row);
-        row += 1;
     }
 }

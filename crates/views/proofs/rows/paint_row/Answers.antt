@@ -14,5 +14,5 @@ start-requires-2 c =
 pub returns : goal.returns
 returns c =
     let a = c.args in
-    row_made a.view c.requires.framed.0 a.cells.now (omega arith) a.row a.shown.now c.start.ensures c.start-2.ensures
+    row_made a.view c.requires.framed.0 a.cells.now c.told-cells a.row a.shown.now c.start.ensures c.start-2.ensures
     (omega arith) (omega arith) c.copy_in.ensures c.fill.ensures c.copy_in-2.ensures

@@ -23,7 +23,7 @@ copy_many-requires c =
 pub returns-then-left-eq-ROW : goal.returns-then-left-eq-ROW
 returns-then-left-eq-ROW c =
     let a = c.args in
-    whole_made a.panes c.requires.framed a.cells.now a.shown.now (omega arith) (omega arith) c.copy_many.ensures
+    whole_made a.panes c.requires.framed a.cells.now a.shown.now c.told-cells (omega arith) c.copy_many.ensures
 
 pub paint_rows-requires : goal.paint_rows-requires
 paint_rows-requires c =
