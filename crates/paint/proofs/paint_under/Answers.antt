@@ -12,4 +12,4 @@ returns-then-secret-ne1 c =
 
 pub returns : goal.returns
 returns c =
-    c.fill.ensures ∙ ap (λ (n : ℕ). replicate n 32) c.requires.cells_len.1 ∙ sym (is c.args.secret 1 _ _ (omega arith))
+    c.fill.ensures ∙ ap (λ (n : ℕ). replicate n 32) c.told-shown ∙ sym (is c.args.secret 1 _ _ (omega arith))
