@@ -5,94 +5,56 @@ ghost use Rattle.std.specs.Prelude.{◌≡◌, ◌+◌, ◌<◌, ◌≤◌, fals
 ghost use Rattle.model.specs.Bytes.{put};
 ghost use Rattle.model.specs.Sequences.{code_of, idle?};
 ghost use Rattle.model.specs.Sound.{Sound};
-ghost use Rattle.model.specs.State.{keys_with, repeat_with, with_flags};
+ghost use Rattle.model.specs.State.{keys_with, repeat_with};
 ghost use Rattle.model.specs.Judging.{legal?, limits_of};
-ghost use Rattle.values.specs.Keyed.{keyed};
 ghost use Rattle.values.specs.Setting.{Setting};
 
 use model::{Keys, Sequence, Settings};
 
 // The sequences that only set something. The last arm is what changes nothing here: the sequences of crate screen, 80 (the copy is made
-// from the picture or the dots) and 246, and those that crate settings does: 198, 199, 208 to 211 and 224.
+// from the picture or the dots) and 246, and those that crate settings does: 198, 199, 208 to 211 and 224. One copy is written to: a struct update
+// in each arm took up to 1.07 of this (mixed-200).
 pub fn set(settings: Settings, q: Sequence) -> Settings
     requires sound { Sound settings }
     requires settings_value { (legal? q (limits_of settings) ≡ true) × (idle? settings.mode (code_of q) ≡ false) }
     ensures { Setting settings q result }
 {
-    let keys = settings.keys;
+    let mut s = settings;
     match q {
-        Sequence::CursorOff => with_cursor(settings, 0),
-        Sequence::CursorOn => with_cursor(settings, 1),
-        Sequence::Charset(charset) => with_keys(settings, Keys { charset, ..keys }),
-        Sequence::SecretOn => with_secret(settings, 1),
-        Sequence::SecretOff => with_secret(settings, 0),
-        Sequence::Step(step) => Settings { step, ..settings },
-        Sequence::Tracking(off) => {
-            let tracking = 1 - off;
-            Settings {
-                tracking,
-                ..settings
-            }
-        }
-        Sequence::InsOn => with_led(settings, 0, 1),
-        Sequence::InsOff => with_led(settings, 0, 0),
-        Sequence::CapsOn => with_led(settings, 1, 1),
-        Sequence::CapsOff => with_led(settings, 1, 0),
-        Sequence::NumOn => with_led(settings, 2, 1),
-        Sequence::NumOff => with_led(settings, 2, 0),
-        Sequence::StringsOff => with_keys(settings, Keys { strings: 0, ..keys }),
-        Sequence::StringsOn => with_keys(settings, Keys { strings: 1, ..keys }),
-        Sequence::CursorKind(kind) => Settings { kind, ..settings },
-        Sequence::Repeat(repeat) => with_keys(settings, Keys { repeat, ..keys }),
-        Sequence::RepeatDelay(delay) => with_keys(settings, Keys { delay, ..keys }),
-        Sequence::RepeatInterval(interval) => with_keys(settings, Keys { interval, ..keys }),
-        Sequence::Arrows1 { c1, c2, c3, c4 } => with_arrows(settings, 0, [c1, c2, c3, c4]),
-        Sequence::Arrows2 { c1, c2, c3, c4 } => with_arrows(settings, 4, [c1, c2, c3, c4]),
-        Sequence::Arrows3 { c1, c2, c3, c4 } => with_arrows(settings, 8, [c1, c2, c3, c4]),
-        Sequence::Shift(shift) => with_keys(settings, Keys { shift, ..keys }),
-        _ => settings,
+        Sequence::CursorOff => s.cursor = 0,
+        Sequence::CursorOn => s.cursor = 1,
+        Sequence::Charset(letter) => s.keys.charset = letter,
+        Sequence::SecretOn => s.secret = 1,
+        Sequence::SecretOff => s.secret = 0,
+        Sequence::Step(lines) => s.step = lines,
+        Sequence::Tracking(off) => s.tracking = 1 - off,
+        Sequence::InsOn => s.keys.leds[0] = 1,
+        Sequence::InsOff => s.keys.leds[0] = 0,
+        Sequence::CapsOn => s.keys.leds[1] = 1,
+        Sequence::CapsOff => s.keys.leds[1] = 0,
+        Sequence::NumOn => s.keys.leds[2] = 1,
+        Sequence::NumOff => s.keys.leds[2] = 0,
+        Sequence::StringsOff => s.keys.strings = 0,
+        Sequence::StringsOn => s.keys.strings = 1,
+        Sequence::CursorKind(kind) => s.kind = kind,
+        Sequence::Repeat(on) => s.keys.repeat = on,
+        Sequence::RepeatDelay(n) => s.keys.delay = n,
+        Sequence::RepeatInterval(n) => s.keys.interval = n,
+        Sequence::Arrows1 { c1, c2, c3, c4 } => s.keys = arrows(s.keys, 0, [c1, c2, c3, c4]),
+        Sequence::Arrows2 { c1, c2, c3, c4 } => s.keys = arrows(s.keys, 4, [c1, c2, c3, c4]),
+        Sequence::Arrows3 { c1, c2, c3, c4 } => s.keys = arrows(s.keys, 8, [c1, c2, c3, c4]),
+        Sequence::Shift(n) => s.keys.shift = n,
+        _ => {}
     }
+    s
 }
 
-// 50, 51: "cursor off, on".
-fn with_cursor(settings: Settings, cursor: u8) -> Settings
-    ensures { result ≡ with_flags settings settings.selected settings.tracking settings.step settings.secret cursor }
-{
-    Settings { cursor, ..settings }
-}
-
-// 123, 125: "secret on, off".
-fn with_secret(settings: Settings, secret: u8) -> Settings
-    ensures { result ≡ with_flags settings settings.selected settings.tracking settings.step secret settings.cursor }
-{
-    Settings { secret, ..settings }
-}
-
-// What is only stored of the keyboard.
-fn with_keys(settings: Settings, keys: Keys) -> Settings
-    ensures { result ≡ keyed (λ _. keys) settings }
-{
-    Settings { keys, ..settings }
-}
-
-// 160 to 165: "INS, CAPS, NUM on, off", LED 0, 1 and 2.
-fn with_led(settings: Settings, which: usize, on: u8) -> Settings
-    requires { which < 3 }
-    ensures { result ≡ keyed (λ k. keys_with k (set k.leds which on) k.charset k.strings) settings }
-{
-    let keys = settings.keys;
-    let mut leds = keys.leds;
-    leds[which] = on;
-    with_keys(settings, Keys { leds, ..keys })
-}
-
-// 243 to 245: "four codes each", from 0, 4 and 8 on.
-fn with_arrows(settings: Settings, from: usize, codes: [u8; 4]) -> Settings
+// The keys with other codes for four arrows: 243 to 245, "four codes each", from 0, 4 and 8 on.
+fn arrows(keys: Keys, from: usize, codes: [u8; 4]) -> Keys
     requires { from + 4 ≤ 12 }
-    ensures { result ≡ keyed (λ k. repeat_with k k.repeat k.delay k.interval k.shift (put from codes k.arrows)) settings }
+    ensures { result ≡ repeat_with keys keys.repeat keys.delay keys.interval keys.shift (put from codes keys.arrows) }
 {
-    let keys = settings.keys;
     let mut arrows = keys.arrows;
     store::copy_in(&mut arrows, from, &codes, 0, 4);
-    with_keys(settings, Keys { arrows, ..keys })
+    Keys { arrows, ..keys }
 }
