@@ -1,11 +1,11 @@
 // Document 01, "What the sequences do": those that only set something, in the settings alone: cursor, window and secret mode, the keyboard.
 #![tactic(auto)]
 
-ghost use Rattle.std.specs.Prelude.{◌≡◌, ◌+◌, ◌<◌, ◌≤◌, false, set, true};
+ghost use Rattle.std.specs.Prelude.{◌≡◌, ◌+◌, ◌≤◌, false, true};
 ghost use Rattle.model.specs.Bytes.{put};
 ghost use Rattle.model.specs.Sequences.{code_of, idle?};
 ghost use Rattle.model.specs.Sound.{Sound};
-ghost use Rattle.model.specs.State.{keys_with, repeat_with};
+ghost use Rattle.model.specs.State.{repeat_with};
 ghost use Rattle.model.specs.Judging.{legal?, limits_of};
 ghost use Rattle.values.specs.Setting.{Setting};
 
