@@ -19,7 +19,7 @@ use views::rows::{ROW, ROW_8};
 
 // "It always ends by painting all 640 places": the panes, under display 0 the key line behind them, then the layer over all. What paints is handed
 // the view and single numbers, so that no settings are copied for it. The picture shows no dots: it is the same whatever they are. `top` is the selected
-// screen's, handed over by who has it at hand: what was just written into the settings is slow to read back.
+// screen's, handed over by who has it at hand: what was just written into the settings is slow to read back, as it would be in a struct of both.
 pub fn paint(
     settings: Settings,
     top: u8,
@@ -74,7 +74,7 @@ fn paint_last(settings: Settings, top: u8, cells: &[u8; CELLS], shown: &mut [u8;
         store::copy_in(shown, ROW_8, cells, left.start(7), ROW);
         return;
     }
-    views::rows::paint_row(panes, cells, shown, 7);
+    panes.paint_row(cells, shown, 7);
 }
 
 // "With ESC 211,0 row 8 shows ten key texts of 8 codes", which secret mode leaves out. Only then are the texts touched.
@@ -111,7 +111,7 @@ pub fn paint_under(secret: u8, panes: View, cells: &[u8; CELLS], shown: &mut [u8
     ensures { shown.new ≡ cond (eqb secret 1) (replicate 640 32) (painted 0 (panes.rows * 80) (seen panes cells.now) shown.old) }
 {
     if secret != 1 {
-        views::rows::paint_view(panes, cells, shown);
+        panes.paint(cells, shown);
         return;
     }
     store::fill(shown, 32);

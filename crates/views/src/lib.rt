@@ -17,7 +17,8 @@ pub struct Pane {
     pub width: usize,
 }
 
-// In `rows` rows, those of text; `gap` places of `code` stand between the panes.
+// In `rows` rows, those of text; `gap` places of `code` stand between the panes. That these fit the shown screen and the cells (`Framed`) is no ghost
+// field: it would be said again of seven numbers, since the definition has a View, and a struct that has one takes no `..self`.
 #[derive(Clone, Copy)]
 pub struct View {
     pub rows: usize,
@@ -47,7 +48,8 @@ pub fn place_of(settings: Settings, screen: u8) -> Place
     places[screen as usize]
 }
 
-// The window of a screen, by its number and its top. Screen 2's cells stand behind those of screen 1.
+// The window of a screen, by its number and its top. Screen 2's cells stand behind those of screen 1. The casts are no `usize::from`: tried, each is a
+// number of its own then, and the bounds of the products are not found.
 fn window(settings: Settings, screen: u8, top: u8) -> Pane
     requires { (Sound settings) × ((screen < screens settings) × (top ≡ (place_of settings screen).top)) }
     ensures { Window settings screen result }

@@ -8,7 +8,7 @@ use Rattle.paint.proofs.paint_under.Goals as goal
 
 pub returns-then-secret-ne1 : goal.returns-then-secret-ne1
 returns-then-secret-ne1 c =
-    c.paint_view.ensures ∙ sym (is_not c.args.secret 1 _ _ (omega arith))
+    c.paint.ensures ∙ sym (is_not c.args.secret 1 _ _ (omega arith))
 
 pub returns : goal.returns
 returns c =

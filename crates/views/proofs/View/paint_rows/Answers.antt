@@ -6,7 +6,7 @@ use Rattle.views.specs.declared.View.{View}
 use Rattle.views.specs.Panes.{Framed, seen}
 use Rattle.views.specs.Painted.{painted}
 use Rattle.views.proofs.Painted.{painted_next, painted-none}
-use Rattle.views.proofs.rows.paint_rows.Goals as goal
+use Rattle.views.proofs.View.paint_rows.Goals as goal
 
 -- a view made anew from numbers that are its own
 made-anew : (v : View) {one gap two : ℕ} → (one ≡ v.left.width) × ((gap ≡ v.gap) × (two ≡ v.right.width))
@@ -19,7 +19,7 @@ loop-row-init c =
 
 pub paint_row-requires : goal.paint_row-requires
 paint_row-requires c =
-    record { framed = (subst (λ (v : View). Framed v) (sym (made-anew c.args.panes c.requires.one_value)) c.requires.framed, omega arith) }
+    record { framed = (subst (λ (v : View). Framed v) (sym (made-anew c.args.self c.requires.one_value)) c.requires.framed, omega arith) }
 
 pub loop-row-preserved : goal.loop-row-preserved
 loop-row-preserved c =
@@ -29,5 +29,5 @@ loop-row-preserved c =
 pub returns : goal.returns
 returns c =
     let loop = c.loop-row in
-    let n : loop.row * 80 ≡ c.args.panes.rows * 80 = omega arith in
-    loop.invariant ∙ (λ i. painted 0 (n i) (seen (made-anew c.args.panes c.requires.one_value i) c.args.cells.now) c.args.shown.now)
+    let n : loop.row * 80 ≡ c.args.self.rows * 80 = omega arith in
+    loop.invariant ∙ (λ i. painted 0 (n i) (seen (made-anew c.args.self c.requires.one_value i) c.args.cells.now) c.args.shown.now)

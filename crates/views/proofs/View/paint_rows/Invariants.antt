@@ -3,7 +3,7 @@ use mathlib.Core.Path.{◌≡◌}
 use Prim.Native.Nat.{◌*◌}
 use Rattle.views.specs.Panes.{seen}
 use Rattle.views.specs.Painted.{painted}
-use Rattle.views.proofs.rows.paint_rows.Given as goal
+use Rattle.views.proofs.View.paint_rows.Given as goal
 
 abbrev pub invariant-loop-row : goal.invariant-loop-row
 invariant-loop-row l = l.shown ≡ painted 0 (l.row * 80) (seen l.view l.cells) l.initial.shown
