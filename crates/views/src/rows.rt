@@ -6,12 +6,10 @@ ghost use Rattle.views.specs.Panes.{Framed, seen};
 use crate::{Pane, View};
 use model::{CELLS, SHOWN};
 
-// The rows of the shown screen, a row, all places, and those before row 8.
+// The rows of the shown screen, a row's places, and those before row 8.
 pub const ROWS: usize = 8;
 
 pub const ROW: usize = 80;
-
-pub const PLACES: usize = 640;
 
 pub const ROW_8: usize = 560;
 
