@@ -6,12 +6,12 @@ pub mod places;
 ghost use Rattle.std.specs.Prelude.{◌≡◌, ◌+◌, ◌≤◌, length};
 ghost use Rattle.model.specs.Bytes.{put};
 ghost use Rattle.model.specs.State.{state};
-ghost use Rattle.model.specs.Sound.{Good};
+ghost use Rattle.model.specs.Sound.{Sound};
 ghost use Rattle.model.specs.Items.{copy_of, printer_bytes};
 ghost use Rattle.applying.specs.Applying.{Applying, Applied};
 
 use counting::is_copy;
-use model::{Item, Sequence, Settings};
+use model::{CELLS, DOTS, Item, LAYER, Sequence, Settings};
 
 // "A refused sequence changes nothing but the counts and the first refusal": the accepted case is taken apart, else, and where it is idle, the settings
 // are those that were given.
@@ -19,9 +19,9 @@ pub fn apply(
     settings: Settings,
     item: Item,
     message: &[u8],
-    cells: &mut [u8],
-    layer: &mut [u8],
-    dots: &mut [u8],
+    cells: &mut [u8; CELLS],
+    layer: &mut [u8; LAYER],
+    dots: &mut [u8; DOTS],
     printer: &mut [u8],
     from: usize,
 ) -> Settings
@@ -45,13 +45,13 @@ pub fn apply(
 fn print_copy(
     settings: Settings,
     q: Sequence,
-    cells: &[u8],
-    layer: &[u8],
-    dots: &[u8],
+    cells: &[u8; CELLS],
+    layer: &[u8; LAYER],
+    dots: &[u8; DOTS],
     printer: &mut [u8],
     from: usize,
 )
-    requires good { Good (state settings cells.now layer.now dots.now) }
+    requires sound { Sound settings }
     requires q_in_bounds { from + printer_bytes settings.mode (Item.Sequence q) ≤ length printer.old }
     ensures { printer.new ≡ put from (copy_of (Item.Sequence q) (state settings cells.now layer.now dots.now)) printer.old }
 {

@@ -12,7 +12,7 @@ use borrow.Author.Tests.{eq-eqb, ne_eqb}
 use Rattle.model.specs.Bytes.{list_from, put}
 use Rattle.model.specs.State.{State}
 use Rattle.model.specs.Picture.{copied, copied_rows, copy_size_of, dot_copy, painting, picture, picture_copy}
-use Rattle.model.proofs.ByteLaws.{get_or_list_from, length_list_from, same_list_from}
+use Rattle.model.proofs.ByteLaws.{get_or_list_from, same_list_from}
 use Rattle.model.proofs.DotLaws.{dots_copied}
 use Rattle.calls.proofs.Printing.{length_rows}
 use Rattle.store.proofs.Laws.{put_then}

@@ -1,16 +1,16 @@
 // 198 and 199 in mode 3, by crate dots. The settings stay.
 #![tactic(auto)]
 
-ghost use Rattle.std.specs.Prelude.{◌≡◌, length};
+ghost use Rattle.std.specs.Prelude.{◌≡◌};
 ghost use Rattle.model.specs.Dot.{two_bytes, with_dot};
 ghost use Rattle.model.specs.Rules.{point};
 ghost use Rattle.drawing.specs.Drawing.{Dotted, Drawable, Stroked};
 
-use model::{Point, Sequence, Settings};
+use model::{DOTS, Point, Sequence, Settings};
 
 // 198: "document 000's 13 bytes", start and end (each horizontal, then vertical), mask and function. Any other sequence draws nothing here.
-pub fn stroke(settings: Settings, q: Sequence, dots: &mut [u8]) -> Settings
-    requires { (Drawable q) × (length dots.old ≡ 3840) }
+pub fn stroke(settings: Settings, q: Sequence, dots: &mut [u8; DOTS]) -> Settings
+    requires { Drawable q }
     ensures { (result ≡ settings) × (Stroked q dots.old dots.new) }
 {
     if let Sequence::DrawLine {
@@ -49,12 +49,12 @@ fn point_of(h1: u8, h2: u8, v1: u8, v2: u8) -> Point
 }
 
 // 199: its number, vertical, horizontal.
-pub fn dot(settings: Settings, on: u8, v: u8, h1: u8, h2: u8, dots: &mut [u8]) -> Settings
-    requires { (Dotted on v (two_bytes h1 h2)) × (length dots.old ≡ 3840) }
+pub fn dot(settings: Settings, on: u8, v: u8, h1: u8, h2: u8, dots: &mut [u8; DOTS]) -> Settings
+    requires { Dotted on v (two_bytes h1 h2) }
     ensures { (result ≡ settings) × (dots.new ≡ with_dot on v (two_bytes h1 h2) dots.old) }
 {
     let p = Point {
-        v: v as u16,
+        v: u16::from(v),
         h: tables::two_bytes(h1, h2),
     };
     dots::put_dot(dots, p, on);

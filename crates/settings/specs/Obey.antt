@@ -7,13 +7,11 @@ use Rattle.model.specs.State.{state, with_stored}
 use Rattle.model.specs.Sound.{Sound}
 use Rattle.model.specs.Sequences.{code_of, idle?}
 use Rattle.model.specs.Judging.{legal?, limits_of}
-use Rattle.modes.specs.Sized.{Sized}
 use Rattle.values.specs.Setting.{settled}
 
--- sound settings, stores of their sizes, every parameter in its range, and a sequence that is not idle in the mode (P11)
-pub record Obeying (s : Settings) (q : Seq) (cells layer dots : List ℕ) : Type 0 where
+-- sound settings, every parameter in its range, and a sequence that is not idle in the mode (P11)
+pub record Obeying (s : Settings) (q : Seq) : Type 0 where
   pub sound : Sound s
-  pub sized : Sized cells layer dots
   pub legal : legal? q (limits_of s) ≡ true
   pub awake : idle? s.mode (code_of q) ≡ false
 

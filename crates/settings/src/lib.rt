@@ -11,18 +11,18 @@ ghost use Rattle.std.specs.Prelude.{◌≡◌, eqb};
 ghost use Rattle.model.specs.Sequences.{code_of};
 ghost use Rattle.settings.specs.Obey.{Obeying, Obeyed, PatternAsked, PatternStored};
 
-use model::{Sequence, Settings};
+use model::{CELLS, DOTS, LAYER, Sequence, Settings};
 
 // Does what an accepted sequence says that is not idle in the mode, unless it is 224, and leaves patterns and key texts. 208 changes all stores, 209 to
 // 211 the layer, 198 and 199 the dots.
 pub fn obey(
     settings: Settings,
     q: Sequence,
-    cells: &mut [u8],
-    layer: &mut [u8],
-    dots: &mut [u8],
+    cells: &mut [u8; CELLS],
+    layer: &mut [u8; LAYER],
+    dots: &mut [u8; DOTS],
 ) -> Settings
-    requires { Obeying settings q cells.old layer.old dots.old }
+    requires { Obeying settings q }
     ensures { Obeyed settings q result cells.old layer.old dots.old cells.new layer.new dots.new }
 {
     match q {
@@ -49,11 +49,7 @@ pub fn obey(
 pub fn is_pattern(q: Sequence) -> bool
     ensures { result ≡ eqb (code_of q) 224 }
 {
-    if let Sequence::Pattern { code: _, at: _ } = q {
-        true
-    } else {
-        false
-    }
+    matches!(q, Sequence::Pattern { .. })
 }
 
 // Does what an accepted 224 says. Any other sequence leaves the settings.

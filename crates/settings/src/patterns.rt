@@ -11,10 +11,11 @@ pub fn keep(settings: Settings, code: u8, message: &[u8], at: u32) -> Settings
     requires { Storing code at message.now settings.patterns }
     ensures { result ≡ with_stored settings settings.kind settings.keys (put ((code - 224) * 8) (take 8 (drop at message.now)) settings.patterns) }
 {
-    let from = (code as usize - 224) * 8;
+    let from = (usize::from(code) - 224) * 8;
     let mut rows = settings.patterns;
     store::copy_in(&mut rows, from, message, at as usize, 8);
-    let mut s = settings;
-    s.patterns = rows;
-    s
+    Settings {
+        patterns: rows,
+        ..settings
+    }
 }

@@ -8,7 +8,7 @@ ghost use Rattle.model.specs.Screens.{place_of, screens};
 ghost use Rattle.model.specs.Sound.{Sound};
 ghost use Rattle.views.specs.Panes.{Line, Window, ViewOf};
 
-use model::Settings;
+use model::{Place, Settings};
 
 // In each row `width` cells, in the first from cell `at` on, in the next from where the one before ends.
 #[derive(Clone, Copy)]
@@ -17,7 +17,8 @@ pub struct Pane {
     pub width: usize,
 }
 
-// In `rows` rows, those of text; `gap` places of `code` stand between the panes.
+// In `rows` rows, those of text; `gap` places of `code` stand between the panes. That these fit the shown screen and the cells (`Framed`) is no ghost
+// field: it would be said again of seven numbers, since the definition has a View, and a struct that has one takes no `..self`.
 #[derive(Clone, Copy)]
 pub struct View {
     pub rows: usize,
@@ -27,27 +28,28 @@ pub struct View {
     pub right: Pane,
 }
 
-// The first cell of a pane in row `row`, from 0.
-pub fn start(pane: Pane, row: usize) -> usize
-    requires { pane.at + row * pane.width + pane.width ≤ 3840 }
-    ensures { Line pane row result }
-{
-    pane.at + row * pane.width
+impl Pane {
+    // The first cell of a pane in row `row`, from 0.
+    pub fn start(self, row: usize) -> usize
+        requires { self.at + row * self.width + self.width ≤ 3840 }
+        ensures { Line self row result }
+    {
+        self.at + row * self.width
+    }
 }
 
-// The top of a screen's window, by its number: the place is picked from a copy of the two, since an index into the settings themselves that
-// is not a literal would keep a compiler from taking them apart.
-pub fn top_of(settings: Settings, screen: u8) -> u8
+// A screen's place, by its number: picked from a copy of the two, since an index into the settings themselves that is not a literal would
+// keep a compiler from taking them apart, and so have all of them copied.
+pub fn place_of(settings: Settings, screen: u8) -> Place
     requires { screen < 2 }
-    ensures { result ≡ (place_of settings screen).top }
+    ensures { result ≡ place_of settings screen }
 {
     let places = settings.places;
-    let k = screen as usize;
-    let place = places[k];
-    place.top
+    places[screen as usize]
 }
 
-// The window of a screen, by its number and its top. Screen 2's cells stand behind those of screen 1.
+// The window of a screen, by its number and its top. Screen 2's cells stand behind those of screen 1. The casts are no `usize::from`: tried, each is a
+// number of its own then, and the bounds of the products are not found.
 fn window(settings: Settings, screen: u8, top: u8) -> Pane
     requires { (Sound settings) × ((screen < screens settings) × (top ≡ (place_of settings screen).top)) }
     ensures { Window settings screen result }
@@ -79,10 +81,10 @@ pub fn view_of(settings: Settings, top: u8) -> View
     if mode == 2 {
         return View {
             rows,
-            left: window(settings, 0, top_of(settings, 0)),
+            left: window(settings, 0, place_of(settings, 0).top),
             gap: 1,
             code: settings.boundary,
-            right: window(settings, 1, top_of(settings, 1)),
+            right: window(settings, 1, place_of(settings, 1).top),
         };
     }
     let left = window(settings, settings.selected, top);

@@ -27,7 +27,7 @@ returns-then-idle c =
 
 pub print_copy-requires : goal.print_copy-requires
 print_copy-requires c =
-    record { good = c.requires.good; q_in_bounds = rw c.in-Sequence.is at c.requires.roomy }
+    record { sound = c.requires.good.sound; q_in_bounds = rw c.in-Sequence.is at c.requires.roomy }
 
 pub store_pattern-requires : goal.store_pattern-requires
 store_pattern-requires c =
@@ -43,7 +43,7 @@ returns-then-is_pattern c =
 pub obey-requires : goal.obey-requires
 obey-requires c =
     let p = c.requires in
-    record { sound = p.good.sound; sized = record { cells_are = p.good.cells_are; layer_are = p.good.layer_are; dots_are = p.good.dots_are }; legal = rw c.in-Sequence.is at p.legal; awake = sym c.idle.ensures ∙ c.if-idle.false }
+    record { sound = p.good.sound; legal = rw c.in-Sequence.is at p.legal; awake = sym c.idle.ensures ∙ c.if-idle.false }
 
 pub returns : goal.returns
 returns c =

@@ -5,7 +5,7 @@ use Rattle.applying.proofs.print_copy.Goals as goal
 
 pub copy-requires : goal.copy-requires
 copy-requires c =
-    (c.requires.good, rw (sym c.is_copy.ensures ∙ c.if-is_copy.true) at c.requires.q_in_bounds)
+    (c.requires.sound, rw (sym c.is_copy.ensures ∙ c.if-is_copy.true) at c.requires.q_in_bounds)
 
 pub returns-then-is_copy : goal.returns-then-is_copy
 returns-then-is_copy c =

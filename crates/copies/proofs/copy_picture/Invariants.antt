@@ -1,13 +1,10 @@
 -- `copy_picture`: after `row` turns the rows before it are in the buffer.
 use mathlib.Core.Path.{◌≡◌}
-use Prim.Native.Nat.{◌-◌, ◌≤◌, ℕ}
-use lib.ListN.{get_or, length}
+use Prim.Native.Nat.{ℕ}
+use lib.ListN.{get_or}
 use Rattle.model.specs.Bytes.{put}
 use Rattle.model.specs.Picture.{copied_rows}
 use Rattle.copies.proofs.copy_picture.Given as goal
 
 abbrev pub invariant-loop-row : goal.invariant-loop-row
-invariant-loop-row l = (l.row ≤ 8) × ((length l.printer ≡ length l.initial.printer) × (l.printer ≡ put l.from (copied_rows (λ (p : ℕ). get_or l.picture p 0) 0 l.row) l.initial.printer))
-
-abbrev pub decreases-loop-row : goal.decreases-loop-row
-decreases-loop-row l = 8 - l.row
+invariant-loop-row l = l.printer ≡ put l.from (copied_rows (λ (p : ℕ). get_or l.picture p 0) 0 l.row) l.initial.printer

@@ -1,9 +1,7 @@
 -- `copy_row`: after i turns i codes of the row are put; then the two codes behind them.
 use mathlib.Core.Path.{◌∙◌, ◌≡◌, refl, sym}
-use Prim.Native.Nat.{◌-◌}
 use native.Mathlib.Omega.{arith}
 use lib.ListN.{length, length-set}
-use borrow.Author.Rules.{rules}
 use Rattle.model.specs.Bytes.{list_from}
 use Rattle.model.proofs.ByteLaws.{length_list_from}
 use Rattle.store.proofs.Laws.{put-none, put_two}
@@ -13,13 +11,13 @@ use Rattle.copies.proofs.copy_row.Goals as goal
 
 pub loop-i-init : goal.loop-i-init
 loop-i-init c =
-    (search rules, (search rules, sym (put-none _ _)))
+    sym (put-none _ _)
 
 pub loop-i-preserved : goal.loop-i-preserved
 loop-i-preserved c =
     let at = c.loop-i in
     let a = c.args in
-    (omega arith, (simp length-set (omega arith), listed_more a.from a.at at.i (printed a.picture.now) a.printer.now at.invariant.1.1 refl c.printable.ensures (omega arith)))
+    listed_more a.from a.at at.i (printed a.picture.now) a.printer.now at.invariant refl (omega (arith, c.max.ensures)) (omega arith)
 
 pub bounds-printer-from-3 : goal.bounds-printer-from-3
 bounds-printer-from-3 c =
@@ -37,4 +35,4 @@ returns c =
     let row = list_from (printed a.picture.now) a.at at.i in
     let end : at.i ≡ 80 = omega arith in
     let n : length row ≡ 80 = length_list_from (printed a.picture.now) a.at at.i ∙ end in
-    put_two a.from row 13 10 a.printer.now at.invariant.1.1 (omega arith) (omega arith) (omega arith) ∙ rw end
+    put_two a.from row 13 10 a.printer.now at.invariant (omega arith) (omega arith) (omega arith) ∙ rw end

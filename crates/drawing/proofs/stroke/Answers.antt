@@ -8,8 +8,8 @@ use Rattle.drawing.proofs.stroke.Goals as goal
 
 pub line-requires : goal.line-requires
 line-requires c =
-    let z = ends_on c.in-DrawLine.is c.requires.0 c.point_of.ensures c.point_of-in-DrawLine.ensures in
-    (z.0, (z.1, c.requires.1))
+    let z = ends_on c.in-DrawLine.is c.requires c.point_of.ensures c.point_of-in-DrawLine.ensures in
+    (z.0, (z.1, c.told-dots))
 
 pub returns-in-DrawLine : goal.returns-in-DrawLine
 returns-in-DrawLine c =

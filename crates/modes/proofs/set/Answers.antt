@@ -9,6 +9,5 @@ use Rattle.modes.proofs.set.Goals as goal
 pub returns : goal.returns
 unfolding mode_set
 returns c =
-    let sized = c.requires in
-    stands refl (c.fill.ensures ∙ ap (λ (n : ℕ). replicate n 32) sized.cells_are) (c.fill-2.ensures ∙ ap (λ (n : ℕ). replicate n 0) sized.layer_are)
-    (c.wipe.ensures ∙ ap (λ (n : ℕ). replicate n 0) sized.dots_are)
+    stands refl (c.fill.ensures ∙ ap (λ (n : ℕ). replicate n 32) c.told-cells) (c.fill-2.ensures ∙ ap (λ (n : ℕ). replicate n 0) c.told-layer)
+    (c.wipe.ensures ∙ ap (λ (n : ℕ). replicate n 0) c.told-dots)

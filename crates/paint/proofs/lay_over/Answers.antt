@@ -16,7 +16,7 @@ returns-then-secret-eq1 c =
 pub returns-then-bare : goal.returns-then-bare
 returns-then-bare c =
     let a = c.args in
-    painted_same 640 a.shown.now (omega arith)
+    painted_same 640 a.shown.now c.told-shown
     ∙ painted_bare 0 640 1280 (λ (p : ℕ). get_or a.shown.now p 0) a.layer.now a.shown.now (c.requires.layer_value (search rules)) (omega arith)
     ∙ sym (is_not a.secret 1 _ _ (omega arith))
 

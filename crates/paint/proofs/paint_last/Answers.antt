@@ -36,13 +36,13 @@ returns-then-left-eq-ROW c layer dots =
     let a = c.args in
     let w = c.view_of-panes.result in
     row_8_view a.settings a.cells.now layer dots a.shown.now w c.view_of-panes.ensures c.if-settings-eq0.false
-    (whole_row w c.view_of-panes.ensures.framed a.cells.now (omega arith) 7 a.shown.now (omega arith) c.start.ensures c.copy_in-then-left-eq-ROW.ensures)
+    (whole_row w c.view_of-panes.ensures.framed a.cells.now c.told-cells 7 a.shown.now (omega arith) c.start.ensures c.copy_in-then-left-eq-ROW.ensures)
 
 pub paint_row-requires : goal.paint_row-requires
 paint_row-requires c =
     let v = c.view_of-panes in
     let s = c.args.settings in
-    record { framed = (v.ensures.framed, omega (arith, v.ensures.rows_are, rows_plain s c.if-settings-eq0.false)); cells_len = search rules }
+    record { framed = (v.ensures.framed, omega (arith, v.ensures.rows_are, rows_plain s c.if-settings-eq0.false)) }
 
 pub returns : goal.returns
 returns c layer dots =

@@ -9,9 +9,9 @@ use Rattle.paint.proofs.paint_row_8.Goals as goal
 pub returns-then-hidden-eq1 : goal.returns-then-hidden-eq1
 returns-then-hidden-eq1 c dots =
     let a = c.args in
-    row_8_secret a.settings a.cells.now a.layer.now dots a.shown.now (eq-eqb _ _ c.if-hidden-eq1.true) (lent_filled 560 80 80 32 a.shown.now c.fill.ensures refl (omega arith))
+    row_8_secret a.settings a.cells.now a.layer.now dots a.shown.now (eq-eqb _ _ c.if-hidden-eq1.true) (lent_filled 560 80 80 32 a.shown.now c.fill.ensures refl (omega (arith, c.told-shown)))
 
 pub returns : goal.returns
 returns c dots =
     let a = c.args in
-    row_8_plain a.settings a.cells.now a.layer.now dots a.shown.now (ne_eqb _ _ c.if-hidden-eq1.false) (omega arith) (c.paint_last.ensures a.layer.now dots) c.lay_last.ensures
+    row_8_plain a.settings a.cells.now a.layer.now dots a.shown.now (ne_eqb _ _ c.if-hidden-eq1.false) c.told-shown (c.paint_last.ensures a.layer.now dots) c.lay.ensures

@@ -8,8 +8,8 @@ use Rattle.paint.proofs.paint_under.Goals as goal
 
 pub returns-then-secret-ne1 : goal.returns-then-secret-ne1
 returns-then-secret-ne1 c =
-    c.paint_view.ensures ∙ sym (is_not c.args.secret 1 _ _ (omega arith))
+    c.paint.ensures ∙ sym (is_not c.args.secret 1 _ _ (omega arith))
 
 pub returns : goal.returns
 returns c =
-    c.fill.ensures ∙ ap (λ (n : ℕ). replicate n 32) c.requires.cells_len.1 ∙ sym (is c.args.secret 1 _ _ (omega arith))
+    c.fill.ensures ∙ ap (λ (n : ℕ). replicate n 32) c.told-shown ∙ sym (is c.args.secret 1 _ _ (omega arith))

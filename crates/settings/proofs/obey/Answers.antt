@@ -1,10 +1,8 @@
 -- `settings::obey` meets its contract. In the arm of a sequence that changes a store `q` is that sequence, and what its rule says is what the
 -- function that the arm calls ensures; the rule leaves patterns and key texts. What the last arm is left with changes no store, and `set` does it;
 -- of 224 only patterns and key texts are claimed.
-use mathlib.Core.Path.{◌∙◌, ap, refl}
-use Prim.Native.Nat.{ℕ}
+use mathlib.Core.Path.{refl}
 use native.Mathlib.Omega.{arith}
-use lib.ListN.{replicate}
 use Rattle.model.specs.Checks.{member}
 use Rattle.model.specs.OnScreen.{on_screen?}
 use Rattle.model.specs.Rules.{obeyed, flagged, with_dots, with_settings, emptied, with_layer, mode_set}
@@ -22,27 +20,27 @@ use Rattle.settings.proofs.obey.Goals as goal
 pub mode2-requires : goal.mode2-requires
 unfolding settled on_screen? member obeyed flagged with_dots with_settings emptied with_layer mode_set
 mode2-requires c =
-    let p = c.requires in (p.sized, omega (arith, ranged _ p.legal c.in-Mode2.is (awake_as _ c.in-Mode2.is p.awake)))
+    let p = c.requires in omega (arith, ranged _ p.legal c.in-Mode2.is (awake_as _ c.in-Mode2.is p.awake))
 
 pub stroke-requires : goal.stroke-requires
 unfolding settled on_screen? member obeyed flagged with_dots with_settings emptied with_layer mode_set
 stroke-requires c =
-    let p = c.requires in (drawable c.in-DrawLine.is _ p.legal p.awake, p.sized.dots_are)
+    let p = c.requires in drawable c.in-DrawLine.is _ p.legal p.awake
 
 pub dot-requires : goal.dot-requires
 unfolding settled on_screen? member obeyed flagged with_dots with_settings emptied with_layer mode_set
 dot-requires c =
-    let p = c.requires in let r = ranged _ p.legal c.in-DrawDot.is (awake_as _ c.in-DrawDot.is p.awake) in (record { number = omega (arith, r); vertical = omega (arith, r); horizontal = omega (arith, r) }, p.sized.dots_are)
+    let p = c.requires in let r = ranged _ p.legal c.in-DrawDot.is (awake_as _ c.in-DrawDot.is p.awake) in record { number = omega (arith, r); vertical = omega (arith, r); horizontal = omega (arith, r) }
 
 pub cover-requires : goal.cover-requires
 unfolding settled on_screen? member obeyed flagged with_dots with_settings emptied with_layer mode_set
 cover-requires c =
-    let p = c.requires in omega (arith, ranged _ p.legal c.in-Cover.is (awake_as _ c.in-Cover.is p.awake), p.sized)
+    let p = c.requires in omega (arith, ranged _ p.legal c.in-Cover.is (awake_as _ c.in-Cover.is p.awake))
 
 pub display-requires : goal.display-requires
 unfolding settled on_screen? member obeyed flagged with_dots with_settings emptied with_layer mode_set
 display-requires c =
-    let p = c.requires in (p.sound, (two_screens _ (awake_as _ c.in-Display.is p.awake), p.sized.layer_are))
+    let p = c.requires in (p.sound, two_screens _ (awake_as _ c.in-Display.is p.awake))
 
 pub set-requires : goal.set-requires
 unfolding settled on_screen? member obeyed flagged with_dots with_settings emptied with_layer mode_set
@@ -82,7 +80,7 @@ returns-in-DrawDot c =
 pub returns-in-Select : goal.returns-in-Select
 unfolding settled on_screen? member obeyed flagged with_dots with_settings emptied with_layer mode_set
 returns-in-Select c =
-    arm c.in-Select.is (λ m. stands c.select.ensures.0 refl (c.select.ensures.1 ∙ ap (λ (n : ℕ). replicate n 0) c.requires.sized.layer_are) refl) (refl, refl) refl
+    arm c.in-Select.is (λ m. stands c.select.ensures.0 refl c.select.ensures.1 refl) (refl, refl) refl
 
 pub returns-in-Cover : goal.returns-in-Cover
 unfolding settled on_screen? member obeyed flagged with_dots with_settings emptied with_layer mode_set

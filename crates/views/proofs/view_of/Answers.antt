@@ -7,11 +7,11 @@ use Rattle.views.proofs.view_of.Goals as goal
 
 pub window-requires : goal.window-requires
 window-requires c =
-    (c.requires.0, (screens_low c.args.settings, c.top_of.ensures))
+    (c.requires.0, (screens_low c.args.settings, (λ i. (c.place_of.ensures i).top)))
 
 pub window-requires-then-mode-eq2 : goal.window-requires-then-mode-eq2
 window-requires-then-mode-eq2 c =
-    (c.requires.0, (omega (arith, c.if-mode-eq2.true, both_there c.args.settings (λ e. omega (arith, e, c.if-mode-eq2.true))), c.top_of-then-mode-eq2.ensures))
+    (c.requires.0, (omega (arith, c.if-mode-eq2.true, both_there c.args.settings (λ e. omega (arith, e, c.if-mode-eq2.true))), (λ i. (c.place_of-then-mode-eq2.ensures i).top)))
 
 pub returns-then-mode-eq2 : goal.returns-then-mode-eq2
 returns-then-mode-eq2 c =

@@ -13,18 +13,18 @@ returns-then-on-settings c cells dots =
 
 pub hold-first-requires : goal.hold-first-requires
 hold-first-requires c =
-    let f = fits c.args.settings c.args.on (c.height_of-height.ensures _ refl refl) c.requires.0 c.requires.1.0 in
+    let f = fits c.args.settings c.args.on (c.height_of-height.ensures _ refl refl) c.requires.0 c.requires.1 in
     (f.0, f.1)
 
 pub hold-second-requires : goal.hold-second-requires
 hold-second-requires c =
-    let f = fits c.args.settings c.args.on (c.height_of-height.ensures _ refl refl) c.requires.0 c.requires.1.0 in
+    let f = fits c.args.settings c.args.on (c.height_of-height.ensures _ refl refl) c.requires.0 c.requires.1 in
     (f.0, f.2)
 
 pub returns : goal.returns
 unfolding emptied with_layer with_settings
 returns c cells dots =
     let a = c.args in
-    let new = displayed a.settings a.on (c.height_of-height.ensures _ refl refl) c.hold-first.ensures c.hold-second.ensures c.lesser.ensures in
-    stands new refl (c.fill.ensures ∙ ap (λ (n : ℕ). replicate n 0) c.requires.1.1) refl
+    let new = displayed a.settings a.on (c.height_of-height.ensures _ refl refl) c.hold-first.ensures c.hold-second.ensures c.min.ensures in
+    stands new refl (c.fill.ensures ∙ ap (λ (n : ℕ). replicate n 0) c.told-layer) refl
     ∙ line_changes a.on _ c.if-on-settings.false

@@ -9,4 +9,4 @@ pub returns : goal.returns
 returns c =
     let a = c.args in
     let last : a.lines - (a.height - 1) ≡ a.lines + 1 - a.height = omega arith in
-    ap (λ (t : ℕ). top_at t a.place) (c.lesser.ensures ∙ ap (min a.place.top) last)
+    ap (λ (t : ℕ). top_at t a.place) (c.min.ensures ∙ ap (min a.place.top) last)

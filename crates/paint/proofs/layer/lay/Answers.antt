@@ -1,10 +1,9 @@
--- `lay`: after i turns the layer lies over i places, and the others, which are still to be read, stand as they were.
+-- `lay`: after some turns the layer lies over the places before `place`, and the others, which are still to be read, stand as they were.
 use mathlib.Core.Path.{◌∙◌, ◌≡◌, ap}
 use Prim.Native.Nat.{◌+◌, ◌-◌, ℕ}
 use native.Mathlib.Omega.{arith}
 use mathlib.Core.List.{List}
-use lib.ListN.{get_or, length, length-set}
-use borrow.Author.Rules.{rules}
+use lib.ListN.{get_or, length}
 use Rattle.model.specs.Bytes.{list_from}
 use Rattle.model.proofs.ByteLaws.{length_list_from}
 use Rattle.store.proofs.Laws.{put_ahead}
@@ -15,7 +14,8 @@ use Rattle.paint.proofs.layer.lay.Goals as goal
 
 pub loop-place-init : goal.loop-place-init
 loop-place-init c =
-    (search rules, (search rules, painted-none _ _ _))
+    let none : c.args.first - c.args.first ≡ 0 = omega arith in
+    rw none (painted-none _ _ _)
 
 pub loop-place-preserved : goal.loop-place-preserved
 unfolding laid painted
@@ -23,14 +23,17 @@ loop-place-preserved c =
     let at = c.loop-place in
     let a = c.args in
     let f = laid a.layer.now (λ (p : ℕ). get_or a.shown.now p 0) in
-    let n : length (list_from f 0 at.place) ≡ at.place = length_list_from f 0 at.place in
+    let n = at.place - a.first in
+    let size : length (list_from f a.first n) ≡ n = length_list_from f a.first n in
+    let here : a.first + n ≡ at.place = omega arith in
+    let next : at.place + 1 - a.first ≡ n + 1 = omega arith in
     let read : get_or at.shown at.place 0 ≡ get_or a.shown.now at.place 0 =
-    ap (λ (l : List ℕ). get_or l at.place 0) at.invariant.1.1 ∙ put_ahead 0 (list_from f 0 at.place) a.shown.now (omega arith) at.place (omega arith)
+    ap (λ (l : List ℕ). get_or l at.place 0) at.invariant ∙ put_ahead a.first (list_from f a.first n) a.shown.now (omega arith) at.place (omega arith)
     in
     let v = c.over.ensures ∙ ap (covered_by (get_or a.layer.now at.place 0) (get_or a.layer.now (640 + at.place) 0)) read in
-    (omega arith, (simp length-set (omega arith), painted-more 0 f a.shown.now at.place at.invariant.1.1 (omega arith) (v ∙ ap f (omega arith)) (omega arith)))
+    rw next (painted-more a.first f a.shown.now n at.invariant (omega arith) (v ∙ ap f (omega arith)) (omega arith))
 
 pub returns : goal.returns
 returns c =
     let end : c.loop-place.place ≡ 640 = omega arith in
-    rw end at c.loop-place.invariant.1.1
+    rw end at c.loop-place.invariant

@@ -3,4 +3,4 @@ use Rattle.settings.proofs.patterns.keep.Goals as goal
 
 pub returns : goal.returns
 returns c =
-    rw c.copy_in.ensures
+    rw (c.copy_in.ensures, c.from.ensures)
