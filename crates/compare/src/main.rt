@@ -3,10 +3,9 @@
 // printed.
 #![tactic(auto)]
 
-ghost use Rattle.std.specs.Prelude.{◌≤◌};
 ghost use Rattle.input.specs.Counts.{IsPrefixLen};
 
-use differences::{Difference, First, Listing};
+use differences::{Difference, Refusal};
 use std::io::Read;
 use std::rt::{Env, Files};
 
@@ -16,9 +15,14 @@ fn main(rt: HostRuntime) {
     let n = read_named(&rt, 1, &mut first);
     let m = read_named(&rt, 2, &mut second);
     let found = differences::first_difference(&first[..n], &second[..m]);
-    let listing = differences::compare_in(&first[..n], &second[..m], differences::blank());
     say_first(&rt, found);
-    say_list(&rt, listing);
+
+    // The records that the call counted: none, if it was refused.
+    let mut list = [Difference::default(); 640];
+    let answer = differences::compare(&first[..n], &second[..m], &mut list);
+    for difference in list.iter().take(answer.count) {
+        say_record(&rt, *difference);
+    }
 }
 
 // Reads the file that the argument names, and answers how many bytes it has: 0 if it cannot be read, or has more than a screen, or if there are
@@ -46,37 +50,21 @@ fn read_all<F: Read>(file: &mut F, screen: &mut [u8]) -> usize
     let mut more = [0u8; 1];
     match file.read(&mut more) {
         Ok(0) => count,
-        Ok(_) => 0,
-        Err(_) => 0,
+        _ => 0,
     }
 }
 
-fn say_first(out: &impl Print, found: First) {
+fn say_first(out: &impl Print, found: Result<Option<Difference>, Refusal>) {
     match found {
-        First::At(difference) => {
+        Ok(Some(difference)) => {
             report::say(out, b"first ");
             say_record(out, difference);
         }
-        First::Nothing => report::say(out, b"none\n"),
-        First::Refused(number) => {
-            report::say_byte(out, b"refused ", number);
+        Ok(None) => report::say(out, b"none\n"),
+        Err(refusal) => {
+            report::say_byte(out, b"refused ", refusal.into());
             report::say(out, b"\n");
         }
-    }
-}
-
-// The records that the call counted: none, if it was refused.
-fn say_list(out: &impl Print, listing: Listing)
-    requires { listing.answer.count ≤ 640 }
-{
-    let list = listing.list;
-    let answer = listing.answer;
-    let count = answer.count;
-    let mut k: usize = 0;
-    while k < count {
-        let record = list[k];
-        say_record(out, record);
-        k += 1;
     }
 }
 

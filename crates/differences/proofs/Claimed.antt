@@ -8,14 +8,15 @@ use native.Mathlib.Omega.{arith}
 use mathlib.Core.List.{List, [], ◌∷◌}
 use lib.ListN.{length, get_or}
 use lib.Dec.{eqb}
+use Rattle.std.specs.Prelude.{Option, Some, None, Result, Ok, Err}
 use borrow.Author.Tests.{eq-eqb, eqb-true, le-ltb, lt-ltb, ne_eqb}
 use Rattle.model.proofs.Tests.{differ}
-use Rattle.differences.specs.declared.First.{First}
-use Rattle.differences.specs.declared.First.TheVariants.{At, Nothing, Refused}
+use Rattle.differences.specs.declared.Difference.{Difference}
+use Rattle.differences.specs.declared.Refusal.{Refusal}
 use Rattle.differences.specs.Differences.{record_at, listed, differences, sought}
 use Rattle.differences.specs.Answers.{nowhere, first_of}
 use Rattle.differences.specs.Claims.{Comparison, EachOnce, FirstOrNone, nth, place_of}
-use Rattle.differences.proofs.Laws.{place_from, first_of_lem}
+use Rattle.differences.proofs.Laws.{answered, place_from, first_of_lem}
 use Rattle.differences.proofs.Reaching.{finds, onwards, reached}
 
 -- a place that differs has its record in the list of the places from p on
@@ -79,28 +80,28 @@ same_lists [] (y ∷ b) e h = absurd (omega (arith, e))
 same_lists (x ∷ a) [] e h = absurd (omega (arith, e))
 same_lists (x ∷ a) (y ∷ b) e h = λ i. h 0 (omega arith) i ∷ same_lists a b (omega (arith, e)) (λ p l. h (suc p) (omega (arith, l))) i
 
-abbrev is_at : First → ℕ
-is_at (At d) = 1
-is_at Nothing = 0
-is_at (Refused n) = 0
+abbrev is_at : Result (Option Difference) Refusal → ℕ
+is_at (Ok (Some d)) = 1
+is_at (Ok None) = 0
+is_at (Err e) = 0
 
 none : (n : ℕ) → (0 < n → ⊥) → n ≡ 0
 none zero h = refl
 none (suc n) h = absurd (h (omega arith))
 
 module _ (a b : List ℕ) (ha : length a ≡ 640) (hb : length b ≡ 640) where
-  head : 0 < length (differences a b) → first_of a b ≡ At (nth a b 0)
+  head : 0 < length (differences a b) → first_of a b ≡ Ok (Some (nth a b 0))
   head h =
       let f = finds 0 a b h in
-      first_of_lem a b ha hb ∙ ap (λ (t : Bool). cond t (At (record_at a b (place_from 0 a b))) Nothing) (lt-ltb _ _ f.within) ∙ ap At (sym f.is)
+      first_of_lem a b ha hb ∙ ap (λ (t : Bool). answered (cond t (Some (record_at a b (place_from 0 a b))) None)) (lt-ltb _ _ f.within) ∙ ap (λ (d : Difference). answered (Some d)) (sym f.is)
 
-  empty : length (differences a b) ≡ 0 → first_of a b ≡ Nothing
+  empty : length (differences a b) ≡ 0 → first_of a b ≡ Ok None
   unfolding differences
   empty e =
       let end : place_from 0 a b ≡ 640 = unfound 640 0 a b e in
-      first_of_lem a b ha hb ∙ ap (λ (t : Bool). cond t (At (record_at a b (place_from 0 a b))) Nothing) (le-ltb (place_from 0 a b) 640 (omega (arith, end)))
+      first_of_lem a b ha hb ∙ ap (λ (t : Bool). answered (cond t (Some (record_at a b (place_from 0 a b))) None)) (le-ltb (place_from 0 a b) 640 (omega (arith, end)))
 
-  listed_none : first_of a b ≡ Nothing → length (differences a b) ≡ 0
+  listed_none : first_of a b ≡ Ok None → length (differences a b) ≡ 0
   listed_none e = none _ (λ h. absurd (omega (arith, ap is_at (sym (head h) ∙ e))))
 
   alike : length (differences a b) ≡ 0 → (p : ℕ) → p < 640 → (t : Bool) → eqb (get_or a p 0) (get_or b p 0) ≡ t → get_or a p 0 ≡ get_or b p 0

@@ -8,10 +8,12 @@ use native.Mathlib.Omega.{arith}
 use mathlib.Core.List.{List, [], ◌∷◌}
 use lib.ListN.{length, get_or}
 use lib.Dec.{eqb}
+use Rattle.std.specs.Prelude.{Option, Some, None, Result, Ok, Err, not}
 use borrow.Author.Tests.{eq-eqb, lt-ltb, le-ltb}
+use Rattle.model.proofs.Tests.{differ}
 use Rattle.differences.specs.declared.Difference.{Difference}
-use Rattle.differences.specs.declared.First.{First}
-use Rattle.differences.specs.declared.First.TheVariants.{At, Nothing, Refused}
+use Rattle.differences.specs.declared.Refusal.{Refusal}
+use Rattle.differences.specs.declared.Refusal.TheVariants.{StoreSize}
 use Rattle.differences.specs.Differences.{record_at, listed, differences, sought}
 use Rattle.differences.specs.Answers.{FirstPromised, sized, found_at, first_of, first_values, head_of, nowhere, values_of}
 
@@ -21,6 +23,15 @@ list_from p a b = listed (640 - p) p a b
 
 abbrev pub place_from : ℕ → List ℕ → List ℕ → ℕ
 place_from p a b = sought (640 - p) p a b
+
+-- whether a place differs, as a test tells it
+pub other : {r t : Bool} → r ≡ not t → r ≡ true → t ≡ false
+other {r} {t = true} e h = absurd (differ (sym h ∙ e))
+other {r} {t = false} e h = refl
+
+pub same : {r t : Bool} → r ≡ not t → r ≡ false → t ≡ true
+same {r} {t = true} e h = refl
+same {r} {t = false} e h = absurd (differ (sym e ∙ h))
 
 pub list_start : (a b : List ℕ) → list_from 0 a b ≡ differences a b
 unfolding differences
@@ -62,18 +73,33 @@ place_end p a b h = let e : 640 - p ≡ 0 = omega (arith, h) in ap (λ (m : ℕ)
 pub moved : (p q o : ℕ) (a b : List ℕ) → p ≡ q → place_from p a b ≡ o → place_from q a b ≡ o
 moved p q o a b e h = ap (λ (j : ℕ). place_from j a b) (sym e) ∙ h
 
--- the second call's answer where both screens have their size
+-- the second call's answer by what was found
+abbrev pub answered : Option Difference → Result (Option Difference) Refusal
+answered found = Ok found
+
+abbrev pub err : Refusal → Result (Option Difference) Refusal
+err e = Err e
+
+-- the second call's answer where a screen has not its size, and where both have
+pub first_refused : (a b : List ℕ) → sized a b ≡ false → first_of a b ≡ Err StoreSize
+unfolding first_of
+first_refused a b e = simp e
+
 pub first_of_lem : (a b : List ℕ) → length a ≡ 640 → length b ≡ 640 → first_of a b ≡ found_at a b (place_from 0 a b)
 unfolding first_of sized
 first_of_lem a b ha hb = simp (eq-eqb _ _ ha, eq-eqb _ _ hb)
 
-pub first_here : (p : ℕ) (a b : List ℕ) → length a ≡ 640 → length b ≡ 640 → p < 640 → place_from p a b ≡ place_from 0 a b → eqb (get_or a p 0) (get_or b p 0) ≡ false → At (record_at a b p) ≡ first_of a b
-first_here p a b ha hb h e t =
-    sym (ap (λ (x : Bool). cond x (At (record_at a b p)) Nothing) (lt-ltb p 640 h)) ∙ ap (found_at a b) (sym (place_here p a b h t) ∙ e) ∙ sym (first_of_lem a b ha hb)
+first_sized : (a b : List ℕ) → sized a b ≡ true → first_of a b ≡ found_at a b (place_from 0 a b)
+unfolding first_of
+first_sized a b e = simp e
 
-pub first_none : (p : ℕ) (a b : List ℕ) → length a ≡ 640 → length b ≡ 640 → 640 ≤ p → place_from p a b ≡ place_from 0 a b → Nothing ≡ first_of a b
-first_none p a b ha hb h e =
-    sym (ap (λ (x : Bool). cond x (At (record_at a b p)) Nothing) (le-ltb p 640 h)) ∙ ap (found_at a b) (sym (place_end p a b h) ∙ e) ∙ sym (first_of_lem a b ha hb)
+pub first_here : (p : ℕ) (a b : List ℕ) → sized a b ≡ true → p < 640 → place_from p a b ≡ place_from 0 a b → eqb (get_or a p 0) (get_or b p 0) ≡ false → Ok (Some (record_at a b p)) ≡ first_of a b
+first_here p a b size h e t =
+    sym (ap (λ (x : Bool). answered (cond x (Some (record_at a b p)) None)) (lt-ltb p 640 h)) ∙ ap (found_at a b) (sym (place_here p a b h t) ∙ e) ∙ sym (first_sized a b size)
+
+pub first_none : (p : ℕ) (a b : List ℕ) → sized a b ≡ true → 640 ≤ p → place_from p a b ≡ place_from 0 a b → Ok None ≡ first_of a b
+first_none p a b size h e =
+    sym (ap (λ (x : Bool). answered (cond x (Some (record_at a b p)) None)) (le-ltb p 640 h)) ∙ ap (found_at a b) (sym (place_end p a b h) ∙ e) ∙ sym (first_sized a b size)
 
 -- the search finds the head of the list, over n places from p on
 head_found : (n p : ℕ) (a b : List ℕ) → p + n ≡ 640 → values_of (found_at a b (sought n p a b)) ≡ head_of (listed n p a b)
@@ -90,9 +116,9 @@ values_first : (a b : List ℕ) → values_of (first_of a b) ≡ first_values a 
 unfolding first_of first_values differences
 values_first a b = go (sized a b)
   where
-    go : (t : Bool) → values_of (cond t (found_at a b (sought 640 0 a b)) (Refused 1)) ≡ cond t (head_of (listed 640 0 a b)) (record { number = 1; found = 0; difference = nowhere })
+    go : (t : Bool) → values_of (cond t (found_at a b (sought 640 0 a b)) (Err StoreSize)) ≡ cond t (head_of (listed 640 0 a b)) (record { number = 1; found = 0; difference = nowhere })
     go true = head_found 640 0 a b refl
     go false = refl
 
-pub first_promised : (a b : List ℕ) {r : First} → r ≡ first_of a b → (r ≡ first_of a b) × FirstPromised a b (values_of r)
+pub first_promised : (a b : List ℕ) {r : Result (Option Difference) Refusal} → r ≡ first_of a b → (r ≡ first_of a b) × FirstPromised a b (values_of r)
 first_promised a b e = let f = ap values_of e in (e, record { found_is = f; values_are = f ∙ values_first a b })

@@ -10,7 +10,7 @@ use lib.ListN.{drop, get_or, replicate}
 use lib.Seq.{drop-drop, get_or-drop}
 use lib.Dec.{eqb}
 use Rattle.differences.specs.declared.Difference.{Difference}
-use Rattle.differences.specs.declared.First.TheVariants.{Nothing}
+use Rattle.std.specs.Prelude.{None, Ok}
 use Rattle.differences.specs.Differences.{listed, differences, sought}
 use Rattle.differences.specs.Answers.{sized, compared, list_after, first_of, nowhere, refused_by}
 use Rattle.differences.specs.Examples.{Examples, blank, counting, place, three}
@@ -77,7 +77,7 @@ module _ (a b : List ℕ) (whole : sized a b ≡ true) where
   unfolding compared
   none_counted e = rw (whole, e)
 
-  none_first : sought 640 0 a b ≡ 640 → first_of a b ≡ Nothing
+  none_first : sought 640 0 a b ≡ 640 → first_of a b ≡ Ok None
   unfolding first_of
   none_first e = rw (whole, e)
 

@@ -2,17 +2,19 @@
 use mathlib.Core.Path.{◌≡◌, refl, sym, ap, ◌∙◌, subst}
 use mathlib.Core.Bool.{Bool, true, false, cond}
 use Prim.Native.Nat.{ℕ, zero, suc, ◌≤◌, ◌<◌}
-use native.Mathlib.Nat.{not-suc-le-zero, le_of_suc-le-suc, le_trans, le_refl}
+use native.Mathlib.Nat.{not-suc-le-zero, le_of_suc-le-suc, le_refl}
 use native.Mathlib.Omega.{arith}
 use mathlib.Core.List.{List, [], ◌∷◌, ◌++◌}
 use lib.ListN.{length, get_or, take, drop, set, length-set}
-use lib.Dec.{eqb, ltb}
-use borrow.Author.Tests.{eqb-true, ltb-false}
-use Rattle.model.proofs.Tests.{and_left, and_right}
+use lib.Dec.{ltb}
+use Rattle.std.specs.Prelude.{Result, Err}
+use borrow.Author.Tests.{le-ltb, lt-ltb, ltb-false}
 use Rattle.differences.specs.declared.Difference.{Difference}
 use Rattle.differences.specs.declared.Compared.{Compared}
+use Rattle.differences.specs.declared.Refusal.{Refusal}
+use Rattle.differences.specs.declared.Refusal.TheVariants.{StoreSize}
 use Rattle.differences.specs.Differences.{differences}
-use Rattle.differences.specs.Answers.{ComparePromised, sized, refused_by, compared, list_after, nowhere}
+use Rattle.differences.specs.Answers.{ComparePromised, answer_of, sized, refused_by, compared, list_after, nowhere}
 
 -- ys after the first k stores of ds
 abbrev pub stores : ℕ → List Difference → List Difference → List Difference
@@ -45,29 +47,6 @@ take_all (d ∷ ds) = ap (λ (l : List Difference). d ∷ l) (take_all ds)
 abbrev answer : Bool → Bool → ℕ → Compared
 answer size short n = cond size (cond short (refused_by 18) (record { number = 0; count = n })) (refused_by 1)
 
-counts : (size short : Bool) (n k : ℕ) → k < (answer size short n).count → (size ≡ true) × ((short ≡ false) × (k < n))
-counts true true n k h = absurd (not-suc-le-zero h)
-counts true false n k h = (refl, (refl, h))
-counts false short n k h = absurd (not-suc-le-zero h)
-
--- what is known while records are left to write
-pub record Writes (a b : List ℕ) (room k : ℕ) : Type 0 where
-  pub first_size : length a ≡ 640
-  pub second_size : length b ≡ 640
-  pub listed : k < length (differences a b)
-  pub fits : k < room
-
-pub writes : (a b : List ℕ) (room k : ℕ) → k < (compared a b room).count → Writes a b room k
-unfolding compared sized
-writes a b room k h =
-    let known = counts (sized a b) (ltb room (length (differences a b))) (length (differences a b)) k h in
-    record {
-      first_size = eqb-true _ _ (and_left (eqb (length a) 640) (eqb (length b) 640) known.0);
-      second_size = eqb-true _ _ (and_right (eqb (length a) 640) (eqb (length b) 640) known.0);
-      listed = known.1.1;
-      fits = le_trans known.1.1 (ltb-false _ _ known.1.0);
-    }
-
 within : (size short : Bool) (n room : ℕ) → (short ≡ false → n ≤ room) → (answer size short n).count ≤ room
 within true true n room h = omega arith
 within true false n room h = h refl
@@ -79,12 +58,26 @@ unfolding compared
 at_most {a} {b} {list} h =
     subst (λ (z : Compared). z.count ≤ length list) (sym h.answer_is) (within (sized a b) (ltb (length list) (length (differences a b))) (length (differences a b)) (length list) (λ e. ltb-false _ _ e))
 
-leaves : (size short : Bool) (ds ys : List Difference) → (short ≡ false → length ds ≤ length ys)
-    → stores (answer size short (length ds)).count ds ys ≡ cond (eqb (answer size short (length ds)).number 0) (ds ++ drop (length ds) ys) ys
-leaves true true ds ys h = refl
-leaves true false ds ys h = stored (length ds) ds ys (le_refl _) (h refl) ∙ ap (λ (l : List Difference). l ++ drop (length ds) ys) (take_all ds)
-leaves false short ds ys h = refl
+abbrev counting : ℕ → Compared
+counting n = record { number = 0; count = n }
 
-pub all_stored : (a b : List ℕ) (ys : List Difference) → stores (compared a b (length ys)).count (differences a b) ys ≡ list_after a b ys
+-- the call refused for a screen's size, and for the list's
+pub refused_size : (a b : List ℕ) (ys : List Difference) → sized a b ≡ false → {r : Result ℕ Refusal} → r ≡ Err StoreSize → ComparePromised a b ys (answer_of r) ys
 unfolding compared list_after
-all_stored a b ys = leaves (sized a b) (ltb (length ys) (length (differences a b))) (differences a b) ys (λ e. ltb-false _ _ e)
+refused_size a b ys size e = record { answer_is = ap answer_of e ∙ simp size; list_is = simp size }
+
+pub refused_short : (a b : List ℕ) (ys : List Difference) → sized a b ≡ true → length ys < length (differences a b) → ComparePromised a b ys (refused_by 18) ys
+unfolding compared list_after
+refused_short a b ys size h =
+    let short = lt-ltb (length ys) (length (differences a b)) h in
+    record { answer_is = simp (size, short); list_is = simp (size, short) }
+
+-- the call served: all that were counted are stored
+pub all_stored : (a b : List ℕ) (ys : List Difference) {zs : List Difference} {n : ℕ} → sized a b ≡ true → length (differences a b) ≤ length ys → n ≡ length (differences a b) → zs ≡ stores n (differences a b) ys
+    → ComparePromised a b ys (record { number = 0; count = n }) zs
+unfolding compared list_after
+all_stored a b ys {zs} {n} size h e t =
+    let ds = differences a b in
+    let enough = le-ltb (length ys) (length ds) h in
+    let all : zs ≡ ds ++ drop (length ds) ys = t ∙ ap (λ (k : ℕ). stores k ds ys) e ∙ stored (length ds) ds ys (le_refl _) h ∙ ap (λ (l : List Difference). l ++ drop (length ds) ys) (take_all ds) in
+    record { answer_is = rw (size, enough) (ap counting e); list_is = all ∙ simp (size, enough) }

@@ -1,7 +1,6 @@
 -- Document 02, P4: what is claimed of the list of differences and of the first, beside their definitions.
-use Rattle.std.specs.Prelude.{◌≡◌, ℕ, ◌+◌, ◌-◌, ◌*◌, ◌<◌, List, length, get_or}
+use Rattle.std.specs.Prelude.{◌≡◌, ℕ, ◌+◌, ◌-◌, ◌*◌, ◌<◌, List, length, get_or, Some, None, Ok}
 use Rattle.differences.specs.declared.Difference.{Difference}
-use Rattle.differences.specs.declared.First.TheVariants.{At, Nothing}
 use Rattle.differences.specs.Differences.{record_at, differences}
 use Rattle.differences.specs.Answers.{nowhere, first_of}
 
@@ -21,10 +20,10 @@ pub record EachOnce (a b : List ℕ) : Type 0 where
 
 -- "only the first difference, or none exactly when the screens are equal": of two screens of 640 bytes
 pub record FirstOrNone (a b : List ℕ) : Type 0 where
-  pub none_of_equal : a ≡ b → first_of a b ≡ Nothing
-  pub equal_of_none : first_of a b ≡ Nothing → a ≡ b
-  pub first_is_head : 0 < length (differences a b) → first_of a b ≡ At (nth a b 0)
-  pub empty_is_none : length (differences a b) ≡ 0 → first_of a b ≡ Nothing
+  pub none_of_equal : a ≡ b → first_of a b ≡ Ok None
+  pub equal_of_none : first_of a b ≡ Ok None → a ≡ b
+  pub first_is_head : 0 < length (differences a b) → first_of a b ≡ Ok (Some (nth a b 0))
+  pub empty_is_none : length (differences a b) ≡ 0 → first_of a b ≡ Ok None
 
 -- both, of all screens
 abbrev pub Comparison : Type 0

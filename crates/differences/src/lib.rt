@@ -6,13 +6,13 @@
 mod search;
 
 ghost use Rattle.std.specs.Prelude.{◌≡◌, replicate};
-ghost use Rattle.differences.specs.Answers.{ComparePromised, FirstPromised, compared, refused_by, first_of, values_of, nowhere};
+ghost use Rattle.differences.specs.Answers.{ComparePromised, FirstPromised, answer_of, first_of, nowhere, number_of, values_of};
 
-use search::{count, record_at, seek};
+use search::Screens;
 
 // "row, column, first code, second code"; rows and columns from 1.
 #[repr(C)]
-#[derive(Clone, Copy)]
+#[derive(Clone, Copy, Default)]
 pub struct Difference {
     pub row: u8,
     pub column: u8,
@@ -28,22 +28,26 @@ pub struct Compared {
     pub count: usize,
 }
 
-// The first call's answer with its list, where the list went in by value.
-#[derive(Clone, Copy)]
-pub struct Listing {
-    pub answer: Compared,
-    pub list: [Difference; 640],
+// Why a call is refused, by the names of docs/REFUSALS.md.
+#[derive(Clone, Copy, Debug, PartialEq, Eq)]
+pub enum Refusal {
+    StoreSize,
+    ListTooShort,
 }
 
-// The second call's answer.
-#[derive(Clone, Copy)]
-pub enum First {
-    At(Difference),
-    Nothing,
-    Refused(u8),
+// The paper's number of each.
+impl From<Refusal> for u8 {
+    ghost from_gives = { λ refusal number. number ≡ number_of refusal };
+
+    fn from(refusal: Refusal) -> u8 {
+        match refusal {
+            Refusal::StoreSize => 1,
+            Refusal::ListTooShort => 18,
+        }
+    }
 }
 
-// The same in numbers: 0 or the refusal's, 1 where there is a difference, and its record (zeros where there is none).
+// The second call's answer in numbers: 0 or the refusal's, 1 where there is a difference, and its record (zeros where there is none).
 #[repr(C)]
 #[derive(Clone, Copy)]
 pub struct FirstValues {
@@ -52,128 +56,107 @@ pub struct FirstValues {
     pub difference: Difference,
 }
 
+// For callers that take no enum.
+impl From<Result<Option<Difference>, Refusal>> for FirstValues {
+    ghost from_gives = { λ answer values. values ≡ values_of answer };
+
+    fn from(answer: Result<Option<Difference>, Refusal>) -> FirstValues {
+        match answer {
+            Ok(Some(difference)) => FirstValues {
+                number: 0,
+                found: 1,
+                difference,
+            },
+            Ok(None) => FirstValues {
+                number: 0,
+                found: 0,
+                difference: Difference::default(),
+            },
+            Err(refusal) => FirstValues {
+                number: refusal.into(),
+                found: 0,
+                difference: Difference::default(),
+            },
+        }
+    }
+}
+
 // One record for each place that differs, by rows, from the list's start; the list beyond stays. A thin function over the search.
 pub fn compare(first: &[u8], second: &[u8], list: &mut [Difference]) -> Compared
     ensures { ComparePromised first.now second.now list.old result list.new }
 {
-    let answer = judge(first, second, list.len());
-    let n = answer.count;
-    let mut place: usize = 0;
-    let mut k: usize = 0;
-    while k < n {
-        place = seek(first, second, place);
-        list[k] = record_at(first, second, place);
-        place += 1;
-        k += 1;
+    match write_all(first, second, list) {
+        Ok(count) => Compared { number: 0, count },
+        Err(refusal) => Compared {
+            number: refusal.into(),
+            count: 0,
+        },
     }
-    answer
 }
 
-// The same with the list by value.
+// The first call's answer with its list, where the list went in by value.
+#[derive(Clone, Copy)]
+pub struct Listing {
+    pub answer: Compared,
+    pub list: [Difference; 640],
+}
+
+// The same with the list by value. It stays, with `blank` and `values`: docs/DECISIONS.md (P4.3) and docs/notes/P4.md name them.
 pub fn compare_in(first: &[u8], second: &[u8], list: [Difference; 640]) -> Listing
     ensures { ComparePromised first.now second.now list result.answer result.list }
 {
     let mut all = list;
     let answer = compare(first, second, &mut all);
-    together(answer, all)
-}
-
-fn together(answer: Compared, list: [Difference; 640]) -> Listing
-    ensures { (result.answer ≡ answer) × (result.list ≡ list) }
-{
-    Listing { answer, list }
-}
-
-fn no_record() -> Difference
-    ensures { result ≡ nowhere }
-{
-    Difference {
-        row: 0,
-        column: 0,
-        first: 0,
-        second: 0,
-    }
+    Listing { answer, list: all }
 }
 
 // A list of 640 records of zeros.
 pub fn blank() -> [Difference; 640]
     ensures { result ≡ replicate 640 nowhere }
 {
-    let record = no_record();
-    [record; 640]
+    [Difference::default(); 640]
 }
 
-// The answer for a list of `room` records.
-fn judge(first: &[u8], second: &[u8], room: usize) -> Compared
-    ensures { result ≡ compared first.now second.now room }
+// The records, written one by one; how many there are.
+fn write_all(first: &[u8], second: &[u8], list: &mut [Difference]) -> Result<usize, Refusal>
+    ensures { ComparePromised first.now second.now list.old (answer_of result) list.new }
 {
-    if first.len() != 640 {
-        return refused(1);
+    let screens = Screens::new(first, second)?;
+    let n = screens.count();
+    if list.len() < n {
+        return Err(Refusal::ListTooShort);
     }
-    if second.len() != 640 {
-        return refused(1);
+    let mut place = 0;
+    for k in 0..n {
+        place = screens.seek(place);
+        list[k] = screens.record_at(place);
+        place += 1;
     }
-    let n = count(first, second);
-    if room < n {
-        return refused(18);
-    }
-    Compared {
-        number: 0,
-        count: n,
-    }
+    Ok(n)
 }
 
-// A refused call counts nothing.
-fn refused(number: u8) -> Compared
-    ensures { result ≡ refused_by number }
-{
-    Compared { number, count: 0 }
-}
-
-// Only the first difference: "search row by row from the left and stop at the first". Promised by the enum, and by the paper's number and
+// Only the first difference (nested loops, left by a label: document 01's form): "search row by row from the left and stop at the first". Promised by the answer, and by the paper's number and
 // values for its cases.
-pub fn first_difference(first: &[u8], second: &[u8]) -> First
+pub fn first_difference(first: &[u8], second: &[u8]) -> Result<Option<Difference>, Refusal>
     ensures { (result ≡ first_of first.now second.now) × FirstPromised first.now second.now (values_of result) }
 {
-    if first.len() != 640 {
-        return First::Refused(1);
-    }
-    if second.len() != 640 {
-        return First::Refused(1);
-    }
-    let mut found = First::Nothing;
+    let screens = Screens::new(first, second)?;
+    let mut found = None;
     'rows: for row in 0..8usize {
         for column in 0..80usize {
             let place = row * 80 + column;
-            if first[place] != second[place] {
-                found = First::At(record_at(first, second, place));
+            if screens.differ(place) {
+                found = Some(screens.record_at(place));
                 break 'rows;
             }
         }
     }
-    found
+    Ok(found)
 }
 
-// The second call's answer in numbers, for callers that take no enum.
-pub fn values(first: First) -> FirstValues
+// Its values.
+pub fn values(first: Result<Option<Difference>, Refusal>) -> FirstValues
     ensures { result ≡ values_of first }
 {
-    let nowhere = no_record();
-    match first {
-        First::At(d) => FirstValues {
-            number: 0,
-            found: 1,
-            difference: d,
-        },
-        First::Nothing => FirstValues {
-            number: 0,
-            found: 0,
-            difference: nowhere,
-        },
-        First::Refused(n) => FirstValues {
-            number: n,
-            found: 0,
-            difference: nowhere,
-        },
-    }
+    first.into()
 }

@@ -46,14 +46,7 @@ pub extern "C" fn px8_compare_l2(
 pub extern "C" fn px8_first_difference_l2(answer: &mut FirstValues, first: &[u8], second: &[u8])
     ensures { FirstPromised first.now second.now answer.new }
 {
-    *answer = first_values(first, second);
-}
-
-fn first_values(first: &[u8], second: &[u8]) -> FirstValues
-    ensures { FirstPromised first.now second.now result }
-{
-    let found = differences::first_difference(first, second);
-    differences::values(found)
+    *answer = differences::first_difference(first, second).into();
 }
 
 // Document 02, P13: the codes that a trace of presses and releases sends.

@@ -15,7 +15,10 @@ use Rattle.model.proofs.SoundLaws.{sound_true}
 use Rattle.model.specs.Records.{all?, records_of, uncut?}
 use Rattle.traces.specs.Strokes.{rising?, stroke?, strokes_in}
 use Rattle.traces.specs.Codes.{Code, Held, codes_bytes, sent}
-use Rattle.traces.specs.Call.{RepeatsPromised, checks, fits?, listed, reasons, sent_in, traceable}
+use Rattle.traces.specs.Call.{RepeatsPromised, answer_of, checks, fits?, listed, number_of, reasons, sent_in, traceable}
+use Rattle.std.specs.Prelude.{Result, Err}
+use Rattle.traces.specs.declared.Refusal.{Refusal}
+use Rattle.traces.specs.declared.Refusal.TheVariants.{Unsound, TooLong, CutRecord, UnknownKind, FallingTick, OutputTooSmall}
 use Rattle.traces.specs.Claims.{Bytes}
 use Rattle.traces.specs.Stepping.{Whole, strokes_from}
 use Rattle.traces.proofs.Claimed.{all_held, strokes_four}
@@ -38,6 +41,15 @@ free true true true false e h = absurd (omega arith)
 free true true false d e h = absurd (omega arith)
 free true false c d e h = absurd (omega arith)
 free false b c d e h = absurd (omega arith)
+
+-- no refusal's number is 0
+numbered : (e : Refusal) → number_of e ≡ 0 → ⊥
+numbered Unsound h = omega arith
+numbered TooLong h = omega arith
+numbered CutRecord h = omega arith
+numbered UnknownKind h = omega arith
+numbered FallingTick h = omega arith
+numbered OutputTooSmall h = omega arith
 
 -- a reason that applies comes before what is checked later
 ahead : (rs qs : List Reason) → (first_of rs ≡ 0 → ⊥) → (first_of (rs ++ qs) ≡ first_of rs) × (all_free (rs ++ qs) ≡ false)
@@ -72,12 +84,12 @@ module _ (s : Settings) (trace : List ℕ) where
     abbrev room : ℕ
     room = length output
 
-    pub refused : {n : ℕ} → n ≡ first_of (checks s trace) → (n ≡ 0 → ⊥) → RepeatsPromised s trace output (record { number = n; count = 0 }) output
+    pub refused : {r : Result ℕ Refusal} {e : Refusal} → r ≡ Err e → number_of e ≡ first_of (checks s trace) → RepeatsPromised s trace output (answer_of r) output
     unfolding reasons listed written codes_bytes
-    refused {n} e h =
-        let z = ahead (checks s trace) (reason 25 (fits? (sent_in s trace) room) ∷ []) (λ f. h (e ∙ f)) in
+    refused {r} {e} is h =
+        let z = ahead (checks s trace) (reason 25 (fits? (sent_in s trace) room) ∷ []) (λ f. numbered e (h ∙ f)) in
         let none : listed s trace room ≡ [] = ap (λ (b : Bool). cond b (sent_in s trace) []) z.1 in
-        record { number_is = e ∙ sym z.0; count_is = ap length (sym none); output_is = ap (λ (cs : List Code). written (codes_bytes cs) output) (sym none); held = subst Held (sym none) tt }
+        rw is (record { number_is = h ∙ sym z.0; count_is = ap length (sym none); output_is = ap (λ (cs : List Code). written (codes_bytes cs) output) (sym none); held = subst Held (sym none) tt })
 
     -- with the checks passed, the outcome of the last
     last : first_of (checks s trace) ≡ 0 → {b : Bool} → fits? (sent_in s trace) room ≡ b → reasons s trace room ≡ by true true true true true ++ (reason 25 b ∷ [])

@@ -1,11 +1,13 @@
 -- Document 02, P13, the call: its number, how many codes it gives, and each byte of the output afterwards, on every input.
-use Rattle.std.specs.Prelude.{◌≡◌, ℕ, ◌*◌, Bool, cond, List, [], ◌∷◌, ◌++◌, length, leb}
+use Rattle.std.specs.Prelude.{◌≡◌, ℕ, ◌*◌, Bool, cond, List, [], ◌∷◌, ◌++◌, length, leb, Result, Ok, Err}
 use Rattle.model.specs.declared.Settings.{Settings}
 use Rattle.model.specs.Bytes.{written}
 use Rattle.model.specs.Sound.{sound?}
 use Rattle.calls.specs.Calls.{Reason, reason, first_of, all_free}
 use Rattle.model.specs.Records.{records_of, all?, uncut?}
 use Rattle.traces.specs.declared.Repeats.{Repeats}
+use Rattle.traces.specs.declared.Refusal.{Refusal}
+use Rattle.traces.specs.declared.Refusal.TheVariants.{Unsound, TooLong, CutRecord, UnknownKind, FallingTick, OutputTooSmall}
 use Rattle.traces.specs.Strokes.{strokes_in, stroke?, rising?}
 use Rattle.traces.specs.Codes.{Code, Held, sent, codes_bytes}
 
@@ -41,3 +43,17 @@ pub record RepeatsPromised (s : Settings) (trace output : List ℕ) (r : Repeats
   pub count_is : r.count ≡ length (listed s trace (length output))
   pub output_is : output' ≡ written (codes_bytes (listed s trace (length output))) output
   pub held : Held (listed s trace (length output))
+
+-- the paper's number of each refusal: "3, 19, 20, 21 (kind or body length), 24 falling tick, 25 output too small"
+abbrev pub number_of : Refusal → ℕ
+number_of Unsound = 3
+number_of TooLong = 19
+number_of CutRecord = 20
+number_of UnknownKind = 21
+number_of FallingTick = 24
+number_of OutputTooSmall = 25
+
+-- the paper's number and count for every case of what the call finds: how many codes it lists, or a refusal, which lists none
+abbrev pub answer_of : Result ℕ Refusal → Repeats
+answer_of (Ok n) = record { number = 0; count = n }
+answer_of (Err e) = record { number = number_of e; count = 0 }

@@ -6,7 +6,8 @@ mod codes;
 mod strokes;
 mod writing;
 
-ghost use Rattle.traces.specs.Call.{RepeatsPromised};
+ghost use Rattle.std.specs.Prelude.{◌≡◌};
+ghost use Rattle.traces.specs.Call.{RepeatsPromised, answer_of, number_of};
 
 use model::Settings;
 
@@ -26,23 +27,57 @@ pub struct Repeats {
     pub count: u64,
 }
 
+// Why a call is refused, by the names of docs/REFUSALS.md.
+#[derive(Clone, Copy, Debug, PartialEq, Eq)]
+pub enum Refusal {
+    Unsound,
+    TooLong,
+    CutRecord,
+    UnknownKind,
+    FallingTick,
+    OutputTooSmall,
+}
+
+// The paper's number of each.
+impl From<Refusal> for u8 {
+    ghost from_gives = { λ refusal number. number ≡ number_of refusal };
+
+    fn from(refusal: Refusal) -> u8 {
+        match refusal {
+            Refusal::Unsound => 3,
+            Refusal::TooLong => 19,
+            Refusal::CutRecord => 20,
+            Refusal::UnknownKind => 21,
+            Refusal::FallingTick => 24,
+            Refusal::OutputTooSmall => 25,
+        }
+    }
+}
+
 // "list the codes sent, in order, and return their number": tick and key, five bytes each, from the output's start. The codes are counted
 // before one is written, by a division a press, so that refusal 25 writes nothing and the time hangs on the trace and on what is written.
 pub fn key_repeats(settings: Settings, trace: &[u8], output: &mut [u8]) -> Repeats
     ensures { RepeatsPromised settings trace.now output.old result output.new }
 {
-    let number = strokes::call_number(settings, trace);
-    if number != 0 {
-        return Repeats { number, count: 0 };
+    match list(settings, trace, output) {
+        Ok(count) => Repeats { number: 0, count },
+        Err(refusal) => Repeats {
+            number: refusal.into(),
+            count: 0,
+        },
     }
+}
+
+// The codes, written; how many there are.
+fn list(settings: Settings, trace: &[u8], output: &mut [u8]) -> Result<u64, Refusal>
+    ensures { RepeatsPromised settings trace.now output.old (answer_of result) output.new }
+{
+    strokes::check(settings, trace)?;
     let keys = settings.keys;
     let count = codes::count_all(keys, trace);
     if count > (output.len() as u64) / 5 {
-        return Repeats {
-            number: 25,
-            count: 0,
-        };
+        return Err(Refusal::OutputTooSmall);
     }
     writing::write_all(keys, trace, output);
-    Repeats { number: 0, count }
+    Ok(count)
 }

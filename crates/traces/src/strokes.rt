@@ -1,12 +1,12 @@
 // The records of a trace, and what it is refused for before a code is counted.
-ghost use Rattle.std.specs.Prelude.{◌≡◌, true, ◌+◌, ◌<◌, ◌≤◌, length, drop};
+ghost use Rattle.std.specs.Prelude.{◌≡◌, true, ◌+◌, ◌<◌, ◌≤◌, length, drop, MatchResult};
 ghost use Rattle.calls.specs.Calls.{first_of};
 ghost use Rattle.model.specs.Records.{length_in, record_in, records_of, all?, uncut?};
 ghost use Rattle.traces.specs.Strokes.{stroke_of, strokes_in, stroke?, rising?};
-ghost use Rattle.traces.specs.Call.{checks};
+ghost use Rattle.traces.specs.Call.{checks, number_of};
 ghost use Rattle.traces.specs.Stepping.{Whole, Tested, StrokeRead};
 
-use crate::Stroke;
+use crate::{Refusal, Stroke};
 use model::Settings;
 
 // Whether the record at `at` is a stroke: "kind or body length".
@@ -77,24 +77,23 @@ fn rising(trace: &[u8]) -> bool
 }
 
 // "Refusals, in order over the whole trace", but for the output's.
-pub(crate) fn call_number(settings: Settings, trace: &[u8]) -> u8
-    ensures { result ≡ first_of (checks settings trace.now) }
+pub(crate) fn check(settings: Settings, trace: &[u8]) -> Result<(), Refusal>
+    ensures { MatchResult result (λ _. first_of (checks settings trace.now) ≡ 0) (λ e. number_of e ≡ first_of (checks settings trace.now)) }
 {
-    if soundness::sound(settings) {
-        if trace.len() <= 60000 {
-            if records::uncut(trace) {
-                if all_strokes(trace) {
-                    if rising(trace) { 0 } else { 24 }
-                } else {
-                    21
-                }
-            } else {
-                20
-            }
-        } else {
-            19
-        }
-    } else {
-        3
+    if !soundness::sound(settings) {
+        return Err(Refusal::Unsound);
     }
+    if trace.len() > 60000 {
+        return Err(Refusal::TooLong);
+    }
+    if !records::uncut(trace) {
+        return Err(Refusal::CutRecord);
+    }
+    if !all_strokes(trace) {
+        return Err(Refusal::UnknownKind);
+    }
+    if !rising(trace) {
+        return Err(Refusal::FallingTick);
+    }
+    Ok(())
 }

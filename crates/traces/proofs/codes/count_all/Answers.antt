@@ -1,5 +1,4 @@
 -- `count_all`: what was counted, with the codes that are left, is all; and no stroke sends more than 4,294,967,296.
-use Prim.Native.Nat.{◌-◌}
 use native.Mathlib.Omega.{arith}
 use Rattle.traces.proofs.Counting.{counted_all_lem}
 use Rattle.traces.proofs.codes.count_all.Goals as goal

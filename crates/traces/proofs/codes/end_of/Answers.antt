@@ -1,6 +1,5 @@
 -- `end_of`: from the tick last passed on, what is left ends the press where the strokes behind it do.
 use mathlib.Core.Path.{◌∙◌, refl, sym}
-use Prim.Native.Nat.{◌-◌}
 use native.Mathlib.Omega.{arith}
 use Rattle.traces.proofs.Counting.{end_here, end_last, end_on}
 use borrow.Author.Rules.{rules}

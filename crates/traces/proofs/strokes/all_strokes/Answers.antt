@@ -1,8 +1,6 @@
 -- `all_strokes`: what is left is all strokes exactly if the trace is.
 use mathlib.Core.Path.{◌∙◌, refl, sym}
-use Prim.Native.Nat.{◌-◌}
 use native.Mathlib.Omega.{arith}
-use mathlib.Core.Bool.{true}
 use Rattle.traces.proofs.Stepping.{all_end}
 use borrow.Author.Rules.{rules}
 use Rattle.traces.proofs.strokes.all_strokes.Goals as goal

@@ -1,6 +1,5 @@
 -- `rising`: from the last tick on, what is left never falls exactly if the trace never does.
 use mathlib.Core.Path.{◌∙◌, refl, sym}
-use Prim.Native.Nat.{◌-◌}
 use native.Mathlib.Omega.{arith}
 use Rattle.traces.proofs.Stepping.{rising_end, rising_not, rising_on}
 use borrow.Author.Rules.{rules}

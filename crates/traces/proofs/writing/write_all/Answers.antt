@@ -1,6 +1,5 @@
 -- `write_all`: what stands, with the codes of the strokes that are left put behind it, is the whole.
 use mathlib.Core.Path.{◌∙◌, refl, sym}
-use Prim.Native.Nat.{◌-◌}
 use native.Mathlib.Omega.{arith}
 use Rattle.traces.proofs.Laying.{all_written}
 use borrow.Author.Rules.{rules}
