@@ -1,21 +1,22 @@
 // Where the cursor stands on the glass.
-ghost use Rattle.std.specs.Prelude.{◌≡◌, ◌<◌};
+ghost use Rattle.std.specs.Prelude.{◌≡◌, ◌<◌, ◌≤◌, MatchOption};
 ghost use Rattle.glass.specs.Cursor.{cursor_at};
 ghost use Rattle.model.specs.Screens.{place_of};
 
-use model::{Place, Settings};
+use model::{Place, SHOWN, Settings};
 
-// The place that shows the cursor of the selected screen, or 640 for none: it is off, or its line is not in the window.
-pub(crate) fn place(settings: Settings) -> usize
-    ensures { result ≡ cursor_at settings }
+// The place that shows the cursor of the selected screen, or none: it is off, or its line is not in the window.
+pub(crate) fn place(settings: Settings) -> Option<usize>
+    ensures { MatchOption result (640 ≤ cursor_at settings) (λ p. (p ≡ cursor_at settings) × (p < 640)) }
 {
     if !soundness::sound(settings) {
-        return 640;
+        return None;
     }
     if settings.cursor == 0 {
-        return 640;
+        return None;
     }
-    cursor::shown(screen::frame_of(settings, false), here(settings))
+    let at = cursor::shown(screen::frame_of(settings, false), here(settings));
+    if at < SHOWN { Some(at) } else { None }
 }
 
 // The selected screen's place.
@@ -23,7 +24,5 @@ fn here(settings: Settings) -> Place
     requires { settings.selected < 2 }
     ensures { result ≡ place_of settings settings.selected }
 {
-    let places = settings.places;
-    let k = settings.selected as usize;
-    places[k]
+    settings.places[settings.selected as usize]
 }

@@ -8,8 +8,6 @@
 mod cursor_place;
 mod totals;
 
-ghost use Rattle.input.specs.Counts.{IsPrefixLen};
-
 use glass_drawing::{curve, drawing};
 use model::{Answer, CELLS, DOTS, LAYER, Outcome, SHOWN, Settings};
 use std::io::Read;
@@ -32,33 +30,33 @@ fn main(rt: HostRuntime) {
     let mut printer = [0u8; 128 * DOTS];
     let mut part = [0u8; 256];
     let mut stream = open(&rt, &mut cells, &mut layer, &mut shown, &mut dots);
-    let mut length = next_part(&mut from, stream.total.number, &mut part);
-    let mut turns = u64::MAX;
-    while turns > 0 && length > 0 {
+    for _ in 0..u64::MAX {
+        let Some(piece) = next_part(&mut from, stream.total.number, &mut part) else {
+            break;
+        };
         stream = take(
             &rt,
             stream,
-            &part[..length],
+            piece,
             &mut cells,
             &mut layer,
             &mut shown,
             &mut dots,
             &mut printer,
         );
-        length = next_part(&mut from, stream.total.number, &mut part);
-        turns -= 1;
     }
     close(&rt, stream, &mut cells, &mut layer, &mut shown, &mut dots);
 }
 
 // As much as one read gives: nothing at the input's end, where the read fails, and after a call that was refused by a number.
-fn next_part<R: Read>(from: &mut R, number: u8, part: &mut [u8]) -> usize
-    ensures { IsPrefixLen result part.new }
-{
+fn next_part<'a, R: Read>(from: &mut R, number: u8, part: &'a mut [u8]) -> Option<&'a [u8]> {
     if number != 0 {
-        return 0;
+        return None;
     }
-    input::read_once(from, part)
+    match input::read_once(from, part) {
+        0 => None,
+        length => Some(&part[..length]),
+    }
 }
 
 // A blank glass.
@@ -69,8 +67,7 @@ fn open(
     shown: &mut [u8; SHOWN],
     dots: &mut [u8],
 ) -> Stream {
-    let opened = terminal::opening(1, cells, layer, shown, dots);
-    let settings = opened.settings;
+    let settings = terminal::opening(1, cells, layer, shown, dots).settings;
     let total = totals::none();
     report::say(out, b"\x1b[H\x1b[2J");
     say_under(out, settings, total);
@@ -137,9 +134,7 @@ fn redrawn(
     let settings = outcome.settings;
     let total = totals::added(total, outcome.answer);
     let drawn = drawing::draw(before, shown);
-    let bytes = drawn.bytes;
-    let length = drawn.length;
-    report::say(out, &bytes[..length]);
+    report::say(out, drawn.as_slice());
     say_under(out, settings, total);
     Stream { settings, total }
 }
@@ -148,10 +143,9 @@ fn redrawn(
 fn say_under(out: &impl Print, settings: Settings, total: Answer) {
     report::say(out, b"\x1b[9;01H");
     report::say_answer(out, total);
-    report::say_byte(out, b" parameter ", total.parameter);
-    report::say(out, b"\x1b[K");
-    let place = cursor_place::place(settings);
-    if place < 640 {
+    let parameter = total.parameter;
+    let _ = print!(out; " parameter {parameter}\x1b[K");
+    if let Some(place) = cursor_place::place(settings) {
         report::say(out, &drawing::address(place));
     }
 }

@@ -16,22 +16,26 @@ pub(crate) fn none() -> Answer
 pub(crate) fn added(total: Answer, answer: Answer) -> Answer
     ensures { result ≡ added_up total answer }
 {
-    let mut a = answer;
-    a.taken = capped(total.taken, answer.taken);
-    a.accepted = capped(total.accepted, answer.accepted);
-    a.refused = capped(total.refused, answer.refused);
+    let counted = Answer {
+        taken: capped(total.taken, answer.taken),
+        accepted: capped(total.accepted, answer.accepted),
+        refused: capped(total.refused, answer.refused),
+        ..answer
+    };
     if total.refused == 0 {
-        return a;
+        return counted;
     }
-    a.first = total.first;
-    a.parameter = total.parameter;
-    a.offset = total.offset;
-    a
+    Answer {
+        first: total.first,
+        parameter: total.parameter,
+        offset: total.offset,
+        ..counted
+    }
 }
 
 // A sum, or the greatest number where it passes that: a stream has fewer bytes, so that no count does.
 fn capped(x: u32, y: u32) -> u32
     ensures { result ≡ sum_of x y }
 {
-    if y <= u32::MAX - x { x + y } else { u32::MAX }
+    x.saturating_add(y)
 }

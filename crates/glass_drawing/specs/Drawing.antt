@@ -1,10 +1,8 @@
 -- What is drawn of a shown screen in an ordinary terminal: the letters that changed since the one before it, by rows from the left, "only what
 -- changed". What is asked of the terminal is a list of strokes; the bytes are those of ECMA-48. What a terminal that reads them then shows is
 -- said in Seen, which knows nothing of strokes.
-use Rattle.std.specs.Prelude.{◌≡◌, ℕ, zero, suc, ◌+◌, ◌-◌, ◌/◌, ◌%◌, ◌≤◌, Bool, cond, not, ◌||◌, List, [], ◌∷◌, ◌++◌, get_or, take, eqb}
-use Rattle.input.specs.Counts.{IsPrefixLen}
+use Rattle.std.specs.Prelude.{◌≡◌, ℕ, zero, suc, ◌+◌, ◌-◌, ◌/◌, ◌%◌, Bool, cond, not, ◌||◌, List, [], ◌∷◌, ◌++◌, get_or, eqb}
 use Rattle.report.specs.Letters.{letter}
-use Rattle.glass_drawing.specs.declared.drawing.Drawn.{Drawn}
 use Rattle.glass_drawing.specs.Seen.{Redraws}
 
 -- another letter is to stand at place p, row r and column c being place 80(r−1)+c−1
@@ -43,13 +41,7 @@ bytes_of [] = []
 bytes_of (move p ∷ ss) = address_of p ++ bytes_of ss
 bytes_of (write c ∷ ss) = c ∷ bytes_of ss
 
--- what is drawn of a new screen over an old one: the first bytes of an array, and a terminal that showed the old one shows the new one by them
-pub record Draws (old new : List ℕ) (r : Drawn) : Type 0 where
-  pub bytes_are : take r.length r.bytes ≡ bytes_of (strokes old new)
-  pub seen : Redraws old new (take r.length r.bytes)
-  pub counts : IsPrefixLen r.length r.bytes
-
--- bytes that are put behind the first n of an array: the first r then, at most eight more
-pub record Struck (ys : List ℕ) (n : ℕ) (bytes : List ℕ) (r : ℕ) (bytes' : List ℕ) : Type 0 where
-  pub behind : take r bytes' ≡ take n bytes ++ ys
-  pub few : r ≤ n + 8
+-- what is drawn of a new screen over an old one: the bytes of its strokes, and a terminal that showed the old one shows the new one by them
+pub record Draws (old new r : List ℕ) : Type 0 where
+  pub bytes_are : r ≡ bytes_of (strokes old new)
+  pub seen : Redraws old new r

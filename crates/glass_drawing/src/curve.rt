@@ -10,12 +10,9 @@ pub fn say(out: &impl Print, dots: &[u8]) {
     if dots.len() != DOTS {
         return;
     }
-    let mut row: usize = 0;
-    while row < 8 {
-        report::say_number(out, b"\x1b[", row as u64 + 11);
-        report::say(out, b";01H");
+    for row in 0..8 {
+        let _ = print!(out; "\x1b[{};01H", row + 11);
         report::say(out, &row_of(dots, row));
-        row += 1;
     }
 }
 
@@ -25,11 +22,8 @@ fn row_of(dots: &[u8], row: usize) -> [u8; 240]
     ensures { result ≡ letters_to dots.now row 80 }
 {
     let mut bytes = [0u8; 240];
-    let mut column: usize = 0;
-    while column < 80 {
-        let pattern = pattern_of(dots, row, column);
-        put_letter(&mut bytes, 3 * column, pattern);
-        column += 1;
+    for column in 0..80 {
+        put_letter(&mut bytes, 3 * column, pattern_of(dots, row, column));
     }
     bytes
 }
@@ -70,11 +64,7 @@ fn point(dots: &[u8], j: usize, k: usize) -> u8
 {
     let v = 2 * j;
     let h = 3 * k;
-    if three(dots, v, h) + three(dots, v + 1, h) == 0 {
-        0
-    } else {
-        1
-    }
+    u8::from(three(dots, v, h) + three(dots, v + 1, h) != 0)
 }
 
 // How many of three dots of a row are on.

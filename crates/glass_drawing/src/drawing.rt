@@ -1,50 +1,90 @@
 // What changed between two shown screens, in the bytes that draw it in an ordinary terminal.
-ghost use Rattle.std.specs.Prelude.{◌≡◌, ◌+◌, ◌<◌, ◌≤◌, length};
-ghost use Rattle.glass_drawing.specs.Drawing.{Draws, Struck, address_of, apart, bytes_of, changed, strokes_at};
+ghost use Rattle.std.specs.Prelude.{◌≡◌, ◌+◌, ◌<◌, ◌≤◌, List, [], ◌∷◌, ◌++◌, length};
+ghost use Rattle.glass_drawing.specs.Drawing.{Draws, address_of, apart, bytes_of, changed, strokes_at};
 
 use model::SHOWN;
+use std::marker::Model;
 
 // A letter has one byte and an address before it seven.
 const MOST: usize = 8 * SHOWN;
 
-// The bytes are the first of the array.
-#[derive(Clone, Copy)]
+// Bytes one behind another, the first of an array; a contract sees the list of them.
+#[derive(Drop)]
 pub struct Drawn {
-    pub bytes: [u8; MOST],
-    pub length: usize,
+    bytes: [u8; MOST],
+    length: usize,
+}
+
+impl Model for Drawn {
+    ghost use Rattle.std.specs.Prelude.{List, ℕ, ◌≤◌, take};
+
+    ghost Value = { List ℕ };
+
+    ghost view = { λ s. take s.length s.bytes };
+
+    ghost invariant = { λ s. s.length ≤ 5120 };
+}
+
+impl Drawn {
+    fn nothing() -> Self
+        ensures { result ≡ [] }
+    {
+        Drawn {
+            bytes: [0; MOST],
+            length: 0,
+        }
+    }
+
+    fn push(&mut self, byte: u8)
+        requires { length self.old < 5120 }
+        ensures { self.new ≡ self.old ++ byte ∷ [] }
+    {
+        self.bytes[self.length] = byte;
+        self.length += 1;
+    }
+
+    fn extend(&mut self, bytes: &[u8])
+        requires { length self.old + length bytes.now ≤ 5120 }
+        ensures { self.new ≡ self.old ++ bytes.now }
+    {
+        for byte in bytes {
+            self.push(*byte);
+        }
+    }
+
+    pub fn as_slice(&self) -> &[u8]
+        ensures { result.now ≡ self.now }
+    {
+        &self.bytes[..self.length]
+    }
 }
 
 // The letters that changed, by rows from the left.
 pub fn draw(old: &[u8; SHOWN], new: &[u8; SHOWN]) -> Drawn
     ensures { Draws old.now new.now result }
 {
-    let mut bytes = [0u8; MOST];
-    let mut length: usize = 0;
-    let mut p: usize = 0;
-    while p < SHOWN {
-        length = stroke(old, new, p, &mut bytes, length);
-        p += 1;
+    let mut drawn = Drawn::nothing();
+    for p in 0..SHOWN {
+        stroke(old, new, p, &mut drawn);
     }
-    Drawn { bytes, length }
+    drawn
 }
 
-// What a place asks, behind so many bytes: nothing where its letter stays, else the letter, and its address where the cursor is elsewhere.
-fn stroke(old: &[u8; SHOWN], new: &[u8; SHOWN], p: usize, bytes: &mut [u8], at: usize) -> usize
-    requires { (p < 640) × (at + 8 ≤ length bytes.old) }
-    ensures { Struck (bytes_of (strokes_at old.now new.now p)) at bytes.old result bytes.new }
+// What a place asks, behind what is drawn: nothing where its letter stays, else the letter, and its address where the cursor is elsewhere.
+fn stroke(old: &[u8; SHOWN], new: &[u8; SHOWN], p: usize, drawn: &mut Drawn)
+    requires { (p < 640) × (length drawn.old + 8 ≤ 5120) }
+    ensures { (drawn.new ≡ drawn.old ++ bytes_of (strokes_at old.now new.now p)) × (length drawn.new ≤ length drawn.old + 8) }
 {
     if !changed(old, new, p) {
-        return at;
+        return;
     }
     let letter = report::letter_of(new[p]);
     if !apart(old, new, p) {
-        bytes[at] = letter;
-        return at + 1;
+        drawn.push(letter);
+        return;
     }
-    let head = address(p);
-    store::copy_in(bytes, at, &head, 0, 7);
-    bytes[at + 7] = letter;
-    at + 8
+    drawn.extend(&address(p));
+    drawn.push(letter);
 }
 
 // Whether another letter is to stand at a place.

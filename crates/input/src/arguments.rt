@@ -9,26 +9,14 @@ const PATH: usize = 4096;
 // Whether there are so many arguments.
 pub fn is_given(env: &impl Env, argument: usize) -> bool {
     let mut start = [0u8; 1];
-    match env.arg(argument, &mut start) {
-        Ok(_) => true,
-        Err(FillError::TooLong) => true,
-        Err(FillError::NotPresent) => false,
-    }
+    !matches!(env.arg(argument, &mut start), Err(FillError::NotPresent))
 }
 
 // The file that an argument names, opened for reading. None where there is no such argument, where it is no text or too long for a path, and where
 // the file cannot be opened.
 pub fn open_named<R: Env + Files>(rt: &R, argument: usize) -> Option<R::File> {
     let mut path = [0u8; PATH];
-    match rt.arg(argument, &mut path) {
-        Ok(length) => open_path(rt, &path[..length]),
-        Err(_) => None,
-    }
-}
-
-fn open_path<R: Files>(files: &R, path: &[u8]) -> Option<R::File> {
-    match str::from_utf8(path) {
-        Ok(text) => std::fs::open(files, text).ok(),
-        Err(_) => None,
-    }
+    let length = rt.arg(argument, &mut path).ok()?;
+    let text = str::from_utf8(&path[..length]).ok()?;
+    std::fs::open(rt, text).ok()
 }

@@ -14,13 +14,11 @@ use std::io::Read;
 pub fn read_once<R: Read>(from: &mut R, buf: &mut [u8]) -> usize
     ensures { IsPrefixLen result buf.new }
 {
-    match from.read(buf) {
-        Ok(count) => count,
-        Err(_) => 0,
-    }
+    from.read(buf).unwrap_or(0)
 }
 
-// Reads until `buf` is full, the end is reached or a read fails, and answers how many bytes stand at its start.
+// Reads until `buf` is full, the end is reached or a read fails, and answers how many bytes stand at its start. A `for` over the reads would be no plainer:
+// how many there are is not known before, and `done` says where the next begins.
 pub fn read_full<R: Read>(from: &mut R, buf: &mut [u8]) -> usize
     ensures { IsPrefixLen result buf.new }
 {

@@ -6,15 +6,11 @@ ghost use Rattle.std.specs.Prelude.{◌≡◌, cond, eqb};
 ghost use Rattle.tables.specs.Lengths.{length_of};
 
 fn main(rt: HostRuntime) {
-    let mut second: u16 = 0;
-    while second < 256 {
-        say_length(&rt, listed(second as u8));
-        second += 1;
+    for second in 0..=255u8 {
+        let _ = println!(rt; "{}", listed(second));
     }
-    let mut mode: u16 = 0;
-    while mode < 256 {
-        say_length(&rt, tables::length_of(208, mode as u8));
-        mode += 1;
+    for mode in 0..=255u8 {
+        let _ = println!(rt; "{}", tables::length_of(208, mode));
     }
 }
 
@@ -27,9 +23,4 @@ fn listed(second: u8) -> usize
     } else {
         tables::length_of(second, 0)
     }
-}
-
-fn say_length(out: &impl Print, length: usize) {
-    report::say_number(out, b"", length as u64);
-    report::say(out, b"\n");
 }

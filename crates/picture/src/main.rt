@@ -5,37 +5,24 @@
 use model::{CELLS, DOTS, LAYER, SHOWN};
 use record_input::MOST_ROOM;
 
-// A recording holds at most 1,000,000 bytes. A bad record ends it, and what stands is still written.
+// A bad record ends the recording, and what stands is still written.
 fn main(rt: HostRuntime) {
-    let mut from = rt.stdin();
     let mut cells = [0u8; CELLS];
     let mut layer = [0u8; LAYER];
     let mut shown = [0u8; SHOWN];
     let mut dots = [0u8; DOTS];
     let mut printer = [0u8; MOST_ROOM];
-    let mut body = [0u8; 65536];
-    let mut played = playing::open(&mut cells, &mut layer, &mut shown, &mut dots);
-    let mut left: usize = 1000000;
-    let mut next = record_input::next_call(&mut from, left, &mut body);
-    while next.size >= 4 {
-        let length = next.size - 4;
-        played = recording::play(
-            &rt,
-            0,
-            next.kind,
-            played,
-            &body[..length],
-            &mut cells,
-            &mut layer,
-            &mut shown,
-            &mut dots,
-            &mut printer,
-        );
-        left -= next.size;
-        next = record_input::next_call(&mut from, left, &mut body);
-    }
-    let settings = played.settings;
-    write_image(&rt, settings.mode, &shown, &dots);
+    let ended = recording::play_all(
+        &rt,
+        &mut rt.stdin(),
+        false,
+        &mut cells,
+        &mut layer,
+        &mut shown,
+        &mut dots,
+        &mut printer,
+    );
+    write_image(&rt, ended.played.settings.mode, &shown, &dots);
 }
 
 // The store as it is: the bitmap's leftmost dot is a byte's highest bit too.

@@ -11,7 +11,7 @@ use playing::{Played, say_pack, summed, told};
 // One message call, and its line.
 pub fn play_message(
     out: &impl Print,
-    number: u64,
+    number: Option<u64>,
     played: Played,
     message: &[u8],
     cells: &mut [u8],
@@ -22,15 +22,14 @@ pub fn play_message(
 ) -> Played
     ensures { Plays (Asked.message message.now) (terminal played.settings cells.old layer.old dots.old shown.old) printer.old played result (terminal result.settings cells.new layer.new dots.new shown.new) printer.new }
 {
-    let before = played.settings;
-    let outcome = terminal::message(before, message, cells, layer, shown, dots, printer);
+    let outcome = terminal::message(played.settings, message, cells, layer, shown, dots, printer);
     told(out, number, played, outcome, printer)
 }
 
 // One short message, and its line.
 pub fn play_short(
     out: &impl Print,
-    number: u64,
+    number: Option<u64>,
     played: Played,
     message: &[u8],
     cells: &mut [u8],
@@ -41,15 +40,22 @@ pub fn play_short(
 ) -> Played
     ensures { Plays (Asked.short message.now) (terminal played.settings cells.old layer.old dots.old shown.old) printer.old played result (terminal result.settings cells.new layer.new dots.new shown.new) printer.new }
 {
-    let before = played.settings;
-    let outcome = short::message_short(before, message, cells, layer, shown, dots, printer);
+    let outcome = short::message_short(
+        played.settings,
+        message,
+        cells,
+        layer,
+        shown,
+        dots,
+        printer,
+    );
     told(out, number, played, outcome, printer)
 }
 
 // One piece of a stream, and its line.
 pub fn play_piece(
     out: &impl Print,
-    number: u64,
+    number: Option<u64>,
     played: Played,
     piece: &[u8],
     cells: &mut [u8],
@@ -60,15 +66,14 @@ pub fn play_piece(
 ) -> Played
     ensures { Plays (Asked.piece piece.now) (terminal played.settings cells.old layer.old dots.old shown.old) printer.old played result (terminal result.settings cells.new layer.new dots.new shown.new) printer.new }
 {
-    let before = played.settings;
-    let outcome = stream_piece::piece(before, piece, cells, layer, shown, dots, printer);
+    let outcome = stream_piece::piece(played.settings, piece, cells, layer, shown, dots, printer);
     told(out, number, played, outcome, printer)
 }
 
 // One pack of messages, and its line: a message's, and the record of the first refusal.
 pub fn play_pack(
     out: &impl Print,
-    number: u64,
+    number: Option<u64>,
     played: Played,
     pack: &[u8],
     cells: &mut [u8],
@@ -79,8 +84,7 @@ pub fn play_pack(
 ) -> Played
     ensures { Plays (Asked.pack pack.now) (terminal played.settings cells.old layer.old dots.old shown.old) printer.old played result (terminal result.settings cells.new layer.new dots.new shown.new) printer.new }
 {
-    let before = played.settings;
-    let packed = packs::pack(before, pack, cells, layer, shown, dots, printer);
+    let packed = packs::pack(played.settings, pack, cells, layer, shown, dots, printer);
     let settings = packed.settings;
     let answer = packed.answer;
     say_pack(out, number, answer, packed.record);
@@ -90,7 +94,7 @@ pub fn play_pack(
 // The closing of a stream, and its line. It is lent no printer buffer.
 pub fn play_closing(
     out: &impl Print,
-    number: u64,
+    number: Option<u64>,
     played: Played,
     cells: &mut [u8],
     layer: &mut [u8],
@@ -99,8 +103,6 @@ pub fn play_closing(
 ) -> Played
     ensures { Plays Asked.closing (terminal played.settings cells.old layer.old dots.old shown.old) [] played result (terminal result.settings cells.new layer.new dots.new shown.new) [] }
 {
-    let before = played.settings;
-    let outcome = stream_closing::closing(before, cells, layer, shown, dots);
-    let none = [0u8; 0];
-    told(out, number, played, outcome, &none)
+    let outcome = stream_closing::closing(played.settings, cells, layer, shown, dots);
+    told(out, number, played, outcome, &[])
 }

@@ -1,116 +1,120 @@
 // Recordings of calls, read record by record: body length and kind, two bytes each, little-endian, then the body.
 #![tactic(auto)]
 
-ghost use Rattle.std.specs.Prelude.{◌≡◌, ◌+◌, ◌*◌, ◌≤◌};
+ghost use Rattle.std.specs.Prelude.{◌≡◌, ◌+◌, ◌<◌, ◌≤◌, IfOk, IfSome, length};
 
 use input::read_full;
 use std::io::Read;
 
-// What stands next in a recording: its end, a record that is cut, or a whole record, whose body is in the caller's buffer.
-#[derive(Clone, Copy)]
-pub enum Record {
-    End,
-    Cut,
-    Whole { kind: u16, length: u16 },
+// Why a recording ends before its end: a record that is cut, passes the limit or asks for nothing.
+#[derive(Clone, Copy, Debug, PartialEq, Eq, Drop)]
+pub struct BadRecord;
+
+// A record as it stands in a recording.
+#[derive(Clone, Copy, Drop)]
+pub struct Record<'a> {
+    pub kind: u16,
+    pub body: &'a [u8],
+}
+
+// What a record asks for, each kind with its body: a message, a piece of a stream, its closing, a key's number and text, a pack, a short message, an opening's
+// rule, the printer room of the calls behind it.
+#[derive(Clone, Copy, Drop)]
+pub enum Call<'a> {
+    Message(&'a [u8]),
+    Piece(&'a [u8]),
+    Closing,
+    KeyText(u8, &'a [u8]),
+    Pack(&'a [u8]),
+    Short(&'a [u8]),
+    Opening(u8),
+    Room(usize),
 }
 
 // The most printer room that a record can ask for.
 pub const MOST_ROOM: usize = 8192;
 
-// The kind of the next record, and its size with its head of four bytes; size 0 where the recording ends, by a record that is bad or not.
-#[derive(Clone, Copy)]
-pub struct Next {
-    pub kind: u16,
-    pub size: usize,
-    pub bad: bool,
-}
-
-// The next record; the start of `body` is its body. Callers lend 65,536 bytes, in which every body fits. It only reads: what comes in
-// is not for a contract to say.
-pub fn next_record<R: Read>(from: &mut R, body: &mut [u8]) -> Record {
+// The next record, none at the end. Callers lend 65,536 bytes, in which every body fits. It only reads: what comes in is not for a contract to say, but for
+// the length that a head can give.
+pub fn next_record<'a, R: Read>(
+    from: &mut R,
+    buffer: &'a mut [u8],
+) -> Result<Option<Record<'a>>, BadRecord>
+    ensures { IfOk result (λ o. IfSome o (λ r. length r.body.now < 65536)) }
+{
     let mut head = [0u8; 4];
-    let came = read_full(from, &mut head);
-    if came == 0 {
-        return Record::End;
+    match read_full(from, &mut head) {
+        0 => Ok(None),
+        4 => {
+            let [l, m, k, n] = head;
+            let body = next_body(from, buffer, usize::from(u16::from_le_bytes([l, m])))?;
+            Ok(Some(Record {
+                kind: u16::from_le_bytes([k, n]),
+                body,
+            }))
+        }
+        _ => Err(BadRecord),
     }
-    if came < 4 {
-        return Record::Cut;
-    }
-    let length = little(head[0], head[1]);
-    let kind = little(head[2], head[3]);
-    let start: usize = 0;
-    let end = length as usize;
-    if end > body.len() {
-        return Record::Cut;
-    }
-    let filled = read_full(from, &mut body[start..end]);
-    if filled < end {
-        return Record::Cut;
-    }
-    Record::Whole { kind, length }
 }
 
-// Two bytes, little-endian.
-pub fn little(low: u8, high: u8) -> u16
-    ensures { result ≡ low + 256 * high }
+// A body of that length.
+fn next_body<'a, R: Read>(
+    from: &mut R,
+    buffer: &'a mut [u8],
+    size: usize,
+) -> Result<&'a [u8], BadRecord>
+    ensures { IfOk result (λ b. length b.now ≡ size) }
 {
-    (high as u16) * 256 + low as u16
+    let body = buffer.get_mut(..size).ok_or(BadRecord)?;
+    if read_full(from, body) < size {
+        return Err(BadRecord);
+    }
+    Ok(body)
 }
 
-// The next record, or the recording's end: after its last byte, or at a record that is cut, passes the limit or asks for nothing.
-pub fn next_call<R: Read>(from: &mut R, left: usize, body: &mut [u8]) -> Next
-    ensures { (result.size ≤ left) × (result.size ≤ 65539) }
+// The next call, none at the recording's end. `left` are the bytes that the recording may still have; those of the record are taken off.
+pub fn next_call<'a, R: Read>(
+    from: &mut R,
+    left: &mut usize,
+    buffer: &'a mut [u8],
+) -> Result<Option<Call<'a>>, BadRecord>
+    ensures { (left.new ≤ left.old) × (left.old ≤ left.new + 65539) }
 {
-    match next_record(from, body) {
-        Record::End => ended(false),
-        Record::Cut => ended(true),
-        Record::Whole { kind, length } => {
-            let size = length as usize + 4;
-            if !asks(kind, length) {
-                return ended(true);
-            }
-            if kind == 8 && room_of(body) > MOST_ROOM {
-                return ended(true);
-            }
-            if size > left {
-                return ended(true);
-            }
-            Next {
-                kind,
-                size,
-                bad: false,
-            }
+    let Some(record) = next_record(from, buffer)? else {
+        return Ok(None);
+    };
+    let call = Call::try_from(record)?;
+    let size = record.body.len() + 4;
+    if size > *left {
+        return Err(BadRecord);
+    }
+    *left -= size;
+    Ok(Some(call))
+}
+
+// A closing has no body, a key text a byte at least, an opening one byte, a printer room two.
+impl<'a> TryFrom<Record<'a>> for Call<'a> {
+    type Error = BadRecord;
+
+    fn try_from(record: Record<'a>) -> Result<Call<'a>, BadRecord> {
+        let body = record.body;
+        match (record.kind, body) {
+            (1, _) => Ok(Call::Message(body)),
+            (2, _) => Ok(Call::Piece(body)),
+            (3, []) => Ok(Call::Closing),
+            (4, [key, text @ ..]) => Ok(Call::KeyText(*key, text)),
+            (5, _) => Ok(Call::Pack(body)),
+            (6, _) => Ok(Call::Short(body)),
+            (7, [rule]) => Ok(Call::Opening(*rule)),
+            (8, [low, high]) => room(u16::from_le_bytes([*low, *high])),
+            _ => Err(BadRecord),
         }
     }
 }
 
-fn ended(bad: bool) -> Next
-    ensures { result.size ≤ 0 }
-{
-    Next {
-        kind: 0,
-        size: 0,
-        bad,
+fn room<'a>(bytes: u16) -> Result<Call<'a>, BadRecord> {
+    match usize::from(bytes) {
+        room @ 0..=MOST_ROOM => Ok(Call::Room(room)),
+        _ => Err(BadRecord),
     }
-}
-
-// Whether a record of this kind and length of body asks for something: a closing has no body, a key text a byte at least, an opening one byte, a
-// printer room two.
-fn asks(kind: u16, length: u16) -> bool {
-    match kind {
-        1 | 2 | 5 | 6 => true,
-        3 => length == 0,
-        4 => length >= 1,
-        7 => length == 1,
-        8 => length == 2,
-        _ => false,
-    }
-}
-
-// The two bytes of a printer room; 0 where they are not there.
-pub fn room_of(body: &[u8]) -> usize {
-    if body.len() < 2 {
-        return 0;
-    }
-    little(body[0], body[1]) as usize
 }

@@ -1,68 +1,102 @@
-// What each record of a recording asks for. Kind 1 is a message, 2 a piece of a stream, 3 its closing, 4 a key text: the key's number, then the text; 5 is a pack
-// of messages, 6 a short message; 7 an opening, whose body is the rule; 8 the printer room of the calls behind it, two bytes.
+// A recording played: its records from an opening by rule 1, and what each of them asks for.
 #![tactic(auto)]
 
-use playing::{Played, play_key_record, play_opening_record, play_room};
+use playing::{Played, play_key, play_opening, play_room};
 use playing_messages::{play_closing, play_message, play_pack, play_piece, play_short};
+use record_input::{BadRecord, Call, next_call};
+use std::io::Read;
 
-// What a record asks for, its line with that number; with number 0 it is done with no word. Other kinds than these eight never come here, nor a body
-// that is too short for its kind.
+// A recording holds at most 1,000,000 bytes.
+const MOST: usize = 1000000;
+
+// What a recording left: what its records left, and the number of a bad one, which ended it.
+#[derive(Clone, Copy)]
+pub struct Ended {
+    pub played: Played,
+    pub bad: Option<u64>,
+}
+
+// All records of a recording, each with its line where they are told.
+pub fn play_all<R: Read>(
+    out: &impl Print,
+    from: &mut R,
+    is_told: bool,
+    cells: &mut [u8],
+    layer: &mut [u8],
+    shown: &mut [u8],
+    dots: &mut [u8],
+    printer: &mut [u8],
+) -> Ended {
+    let mut body = [0u8; 65536];
+    let mut left = MOST;
+    let mut played = playing::open(cells, layer, shown, dots);
+    for number in 1..u64::MAX {
+        match next_call(from, &mut left, &mut body) {
+            Ok(Some(call)) => {
+                let told = is_told.then_some(number);
+                played = play(out, told, call, played, cells, layer, shown, dots, printer);
+            }
+            Ok(None) => break,
+            Err(BadRecord) => {
+                return Ended {
+                    played,
+                    bad: Some(number),
+                };
+            }
+        }
+    }
+    Ended { played, bad: None }
+}
+
+// What a record asks for, its line with that number; without one it is done with no word.
 pub fn play(
     out: &impl Print,
-    number: u64,
-    kind: u16,
+    number: Option<u64>,
+    call: Call,
     played: Played,
-    body: &[u8],
     cells: &mut [u8],
     layer: &mut [u8],
     shown: &mut [u8],
     dots: &mut [u8],
     printer: &mut [u8],
 ) -> Played {
-    match kind {
-        3 => play_closing(out, number, played, cells, layer, shown, dots),
-        4 => play_key_record(out, number, played, body),
-        7 => play_opening_record(out, number, played, body, cells, layer, shown, dots),
-        8 => play_room(out, number, played, body),
-        _ => {
-            let start: usize = 0;
-            let end = played.room;
-            if end > printer.len() {
-                return played;
-            }
-            let room = &mut printer[start..end];
-            play_sent(
-                out, number, kind, played, body, cells, layer, shown, dots, room,
-            )
-        }
+    match call {
+        Call::Closing => play_closing(out, number, played, cells, layer, shown, dots),
+        Call::KeyText(key, text) => play_key(out, number, played, key, text),
+        Call::Opening(rule) => play_opening(out, number, played, rule, cells, layer, shown, dots),
+        Call::Room(room) => play_room(out, number, played, room),
+        _ => match printer.get_mut(..played.room) {
+            Some(room) => play_sent(out, number, call, played, cells, layer, shown, dots, room),
+            None => played,
+        },
     }
 }
 
 // A call that is lent a printer buffer.
 fn play_sent(
     out: &impl Print,
-    number: u64,
-    kind: u16,
+    number: Option<u64>,
+    call: Call,
     played: Played,
-    body: &[u8],
     cells: &mut [u8],
     layer: &mut [u8],
     shown: &mut [u8],
     dots: &mut [u8],
     printer: &mut [u8],
 ) -> Played {
-    match kind {
-        2 => play_piece(
-            out, number, played, body, cells, layer, shown, dots, printer,
+    match call {
+        Call::Message(message) => play_message(
+            out, number, played, message, cells, layer, shown, dots, printer,
         ),
-        5 => play_pack(
-            out, number, played, body, cells, layer, shown, dots, printer,
+        Call::Piece(piece) => play_piece(
+            out, number, played, piece, cells, layer, shown, dots, printer,
         ),
-        6 => play_short(
-            out, number, played, body, cells, layer, shown, dots, printer,
+        Call::Pack(pack) => play_pack(
+            out, number, played, pack, cells, layer, shown, dots, printer,
         ),
-        _ => play_message(
-            out, number, played, body, cells, layer, shown, dots, printer,
+        Call::Short(message) => play_short(
+            out, number, played, message, cells, layer, shown, dots, printer,
         ),
+        _ => played,
     }
 }

@@ -7,10 +7,8 @@ pub fn adler32(sum: u32, bytes: &[u8]) -> u32
     ensures { result ≡ adler_from sum bytes.now }
 {
     let mut reached = sum;
-    let mut i = 0;
-    while i < bytes.len() {
-        reached = with_byte(reached, bytes[i]);
-        i += 1;
+    for byte in bytes {
+        reached = with_byte(reached, *byte);
     }
     reached
 }
@@ -18,7 +16,7 @@ pub fn adler32(sum: u32, bytes: &[u8]) -> u32
 fn with_byte(sum: u32, byte: u8) -> u32
     ensures { result ≡ with_byte sum byte }
 {
-    let low = (sum % 65536 + byte as u32) % 65521;
+    let low = (sum % 65536 + u32::from(byte)) % 65521;
     let high = (sum / 65536 + low) % 65521;
     high * 65536 + low
 }

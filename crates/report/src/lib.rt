@@ -24,15 +24,21 @@ pub fn say_number(out: &impl Print, words: &[u8], number: u64) {
 
 // The same for a byte.
 pub fn say_byte(out: &impl Print, words: &[u8], byte: u8) {
-    say_number(out, words, byte as u64);
+    say_number(out, words, u64::from(byte));
 }
 
 // An answer as `show` prints it, with no line end.
 pub fn say_answer(out: &impl Print, answer: Answer) {
-    say_byte(out, b"answer ", answer.number);
-    say_number(out, b" taken ", answer.taken as u64);
-    say_number(out, b" accepted ", answer.accepted as u64);
-    say_number(out, b" refused ", answer.refused as u64);
-    say_byte(out, b" first ", answer.first);
-    say_number(out, b" at ", answer.offset as u64);
+    let Answer {
+        number,
+        taken,
+        accepted,
+        refused,
+        first,
+        offset,
+        ..
+    } = answer;
+    let _ = print!(out;
+        "answer {number} taken {taken} accepted {accepted} refused {refused} first {first} at {offset}"
+    );
 }

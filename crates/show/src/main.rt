@@ -13,9 +13,8 @@ fn main(rt: HostRuntime) {
     let mut dots = [0u8; DOTS];
     let mut printer = [0u8; COPY];
     let opened = terminal::opening(1, &mut cells, &mut layer, &mut shown, &mut dots);
-    let settings = opened.settings;
     let outcome = terminal::message(
-        settings,
+        opened.settings,
         &message[..length],
         &mut cells,
         &mut layer,
@@ -23,8 +22,7 @@ fn main(rt: HostRuntime) {
         &mut dots,
         &mut printer,
     );
-    let answer = outcome.answer;
-    report::say_answer(&rt, answer);
-    report::say(&rt, b"\n");
+    report::say_answer(&rt, outcome.answer);
+    let _ = println!(rt);
     report::say_rows(&rt, &shown);
 }

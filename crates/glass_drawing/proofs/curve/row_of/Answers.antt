@@ -12,17 +12,17 @@ use Rattle.glass_drawing.proofs.curve.row_of.Goals as goal
 pub loop-column-init : goal.loop-column-init
 unfolding letters_to
 loop-column-init c =
-    (omega arith, length-replicate {A = ℕ} 240 0, length-replicate {A = ℕ} 240 0, sym (put-none 0 _))
+    (length-replicate {A = ℕ} 240 0, length-replicate {A = ℕ} 240 0, sym (put-none 0 _))
 
 pub loop-column-preserved : goal.loop-column-preserved
 loop-column-preserved c =
     let l = c.loop-column in
     let a = c.args in
-    (omega arith, l.invariant.1, search rules, one_more a.dots.now a.row l.column _ l.invariant.3 c.pattern_of-pattern.ensures c.put_letter.ensures c.loop-column-test.true l.invariant.1)
+    (l.invariant.0, search rules, one_more a.dots.now a.row l.column _ l.invariant.2 c.pattern_of.ensures c.put_letter.ensures (omega arith) l.invariant.0)
 
 pub returns : goal.returns
 returns c =
     let l = c.loop-column in
     let a = c.args in
     let end : l.column ≡ 80 = omega arith in
-    l.invariant.3 ∙ rw end (put_all (letters_to a.dots.now a.row 80) _ (omega (arith, length-letters a.dots.now a.row 80)))
+    l.invariant.2 ∙ rw end (put_all (letters_to a.dots.now a.row 80) _ (omega (arith, length-letters a.dots.now a.row 80)))

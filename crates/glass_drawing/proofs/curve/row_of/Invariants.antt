@@ -1,13 +1,9 @@
 -- `row_of`: in each turn the first letters stand, and behind the last of them nothing is left of what stood at first.
 use mathlib.Core.Path.{◌≡◌}
-use Prim.Native.Nat.{◌-◌, ◌≤◌}
 use lib.ListN.{length}
 use Rattle.model.specs.Bytes.{put}
 use Rattle.glass_drawing.specs.Curve.{letters_to}
 use Rattle.glass_drawing.proofs.curve.row_of.Given as goal
 
 abbrev pub invariant-loop-column : goal.invariant-loop-column
-invariant-loop-column l = (l.column ≤ 80) × (length l.initial.bytes ≡ 240) × (length l.bytes ≡ 240) × (l.bytes ≡ put 0 (letters_to l.dots l.row l.column) l.initial.bytes)
-
-abbrev pub decreases-loop-column : goal.decreases-loop-column
-decreases-loop-column l = 80 - l.column
+invariant-loop-column l = (length l.initial.bytes ≡ 240) × (length l.bytes ≡ 240) × (l.bytes ≡ put 0 (letters_to l.dots l.row l.column) l.initial.bytes)

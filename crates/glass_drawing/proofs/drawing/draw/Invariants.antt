@@ -3,12 +3,9 @@
 use mathlib.Core.Path.{◌≡◌}
 use Prim.Native.Nat.{◌*◌, ◌-◌, ◌≤◌}
 use mathlib.Core.List.{◌++◌}
-use lib.ListN.{length, take}
+use lib.ListN.{length}
 use Rattle.glass_drawing.specs.Drawing.{bytes_of, strokes, strokes_from}
 use Rattle.glass_drawing.proofs.drawing.draw.Given as goal
 
 abbrev pub invariant-loop-p : goal.invariant-loop-p
-invariant-loop-p l = (l.p ≤ 640) × (l.length ≤ 8 * l.p) × (length l.bytes ≡ 5120) × (take l.length l.bytes ++ bytes_of (strokes_from l.old l.new l.p (640 - l.p)) ≡ bytes_of (strokes l.old l.new))
-
-abbrev pub decreases-loop-p : goal.decreases-loop-p
-decreases-loop-p l = 640 - l.p
+invariant-loop-p l = (length l.drawn ≤ 8 * l.p) × (l.drawn ++ bytes_of (strokes_from l.old l.new l.p (640 - l.p)) ≡ bytes_of (strokes l.old l.new))

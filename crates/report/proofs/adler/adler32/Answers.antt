@@ -2,23 +2,21 @@
 use mathlib.Core.Path.{◌≡◌, ◌∙◌, refl, sym}
 use native.Mathlib.Omega.{arith}
 use lib.ListN.{length}
-use borrow.Author.Rules.{rules}
 use Rattle.report.proofs.Sums.{adler_end, adler_next}
 use Rattle.report.proofs.adler.adler32.Goals as goal
 
-pub loop-i-init : goal.loop-i-init
-loop-i-init c =
-    (search rules, refl)
+pub loop-byte-init : goal.loop-byte-init
+loop-byte-init c =
+    refl
 
-pub loop-i-preserved : goal.loop-i-preserved
-loop-i-preserved c =
-    let a = c.args in
-    let at = c.loop-i in
-    (search rules, rw c.with_byte-reached.ensures (adler_next at.reached a.bytes.now at.i (omega arith) ∙ at.invariant.1))
+pub loop-byte-preserved : goal.loop-byte-preserved
+loop-byte-preserved c =
+    let at = c.loop-byte in
+    rw c.with_byte-reached.ensures (adler_next at.reached c.args.bytes.now at.byte-index (omega arith) ∙ at.invariant)
 
 pub returns : goal.returns
 returns c =
     let a = c.args in
-    let at = c.loop-i in
-    let end : at.i ≡ length a.bytes.now = omega arith in
-    sym (adler_end at.reached a.bytes.now) ∙ rw end at at.invariant.1
+    let at = c.loop-byte in
+    let end : at.byte-index ≡ length a.bytes.now = omega arith in
+    sym (adler_end at.reached a.bytes.now) ∙ rw end at at.invariant

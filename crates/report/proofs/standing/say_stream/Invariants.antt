@@ -1,9 +1,0 @@
--- `say_stream` is safe and ends: an index below 12.
-use Rattle.std.proofs.Common.{◌-◌, ◌≤◌}
-use Rattle.report.proofs.standing.say_stream.Given as goal
-
-abbrev pub invariant-loop-i : goal.invariant-loop-i
-invariant-loop-i g l = l.i ≤ 12
-
-abbrev pub decreases-loop-i : goal.decreases-loop-i
-decreases-loop-i g l = 12 - l.i
