@@ -24,3 +24,4 @@ pub mod ParameterLaws
 pub mod AnswerLaws
 pub mod HiddenLaws
 pub mod SingleItems
+pub mod RefusalLaws

@@ -21,3 +21,4 @@ pub mod Kept
 pub mod Dot
 pub mod Strokes
 pub mod SingleItems
+pub mod Refusals
