@@ -12,7 +12,7 @@ ghost use Rattle.serving.specs.Serves.{Runs, Servable, Serves};
 use applying::apply;
 use applying::places::{placed, selected_place};
 use counting::{Counts, answer_of, count, no_counts};
-use model::{Answer, Outcome, Place, Settings};
+use model::{Answer, CELLS, DOTS, LAYER, Outcome, Place, SHOWN, Settings};
 use obeying::{bare_after, obey_item, read_at, stays, wipe_after};
 
 // "An accepted message is read into items; each in turn changes what stands as its rule says"; "it always ends by painting".
@@ -47,6 +47,32 @@ pub fn serve_from(
     layer: &mut [u8],
     shown: &mut [u8],
     dots: &mut [u8],
+    printer: &mut [u8],
+) -> Outcome
+    requires servable { Servable settings message.now cells.old layer.old dots.old shown.old }
+    requires from_in_bounds { (from ≤ length message.now) × ((before.accepted + before.refused ≤ from) × (before.printed ≡ 0)) }
+    ensures { (Runs message.now from before (state settings cells.old layer.old dots.old) printer.old result cells.new layer.new dots.new printer.new) × (shown.new ≡ cond paints (painting (state result.settings cells.new layer.new dots.new)) shown.old) }
+{
+    let cells = cells.as_mut_array().unwrap();
+    let layer = layer.as_mut_array().unwrap();
+    let shown = shown.as_mut_array().unwrap();
+    let dots = dots.as_mut_array().unwrap();
+    serve_items(
+        settings, message, from, before, paints, cells, layer, shown, dots, printer,
+    )
+}
+
+// The same, the stores as arrays of their sizes.
+fn serve_items(
+    settings: Settings,
+    message: &[u8],
+    from: usize,
+    before: Counts,
+    paints: bool,
+    cells: &mut [u8; CELLS],
+    layer: &mut [u8; LAYER],
+    shown: &mut [u8; SHOWN],
+    dots: &mut [u8; DOTS],
     printer: &mut [u8],
 ) -> Outcome
     requires servable { Servable settings message.now cells.old layer.old dots.old shown.old }
@@ -102,9 +128,9 @@ fn finish(
     bare: bool,
     paints: bool,
     answer: Answer,
-    cells: &[u8],
-    layer: &[u8],
-    shown: &mut [u8],
+    cells: &[u8; CELLS],
+    layer: &[u8; LAYER],
+    shown: &mut [u8; SHOWN],
 ) -> Outcome
     requires { (Visible (with_place settings place) cells.now layer.now) × ((bare ≡ true → layer.now ≡ replicate 1280 0) × (length shown.old ≡ 640)) }
     ensures { (result.settings ≡ with_place settings place) × ((result.answer ≡ answer) × ((dots : List ℕ) → shown.new ≡ cond paints (painting (state (with_place settings place) cells.now layer.now dots)) shown.old)) }

@@ -52,7 +52,13 @@ pub fn message_short(
     );
     let places = placed(settings, next);
     settings.places = places;
-    paint::paint_row_8(settings, next.top, cells, layer, shown);
+    paint::paint_row_8(
+        settings,
+        next.top,
+        cells.as_array().unwrap(),
+        layer.as_array().unwrap(),
+        shown.as_mut_array().unwrap(),
+    );
     let answer = answer_of(no_counts(), count);
     Outcome { settings, answer }
 }

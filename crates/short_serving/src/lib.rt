@@ -13,7 +13,7 @@ ghost use Rattle.short_serving.specs.ServesShort.{ServesShort};
 use applying::apply;
 use applying::places::{placed, selected_place};
 use counting::{answer_of, count, no_counts};
-use model::{Answer, Outcome, Place, Settings};
+use model::{Answer, CELLS, DOTS, LAYER, Outcome, Place, SHOWN, Settings};
 use obeying::{bare_after, read_at, stays, wipe_after};
 use short_obeying::obey_item;
 
@@ -25,6 +25,26 @@ pub fn serve(
     layer: &mut [u8],
     shown: &mut [u8],
     dots: &mut [u8],
+    printer: &mut [u8],
+) -> Outcome
+    requires { Servable settings message.now cells.old layer.old dots.old shown.old }
+    ensures { ServesShort message.now (state settings cells.old layer.old dots.old) printer.old shown.old result cells.new layer.new dots.new shown.new printer.new }
+{
+    let cells = cells.as_mut_array().unwrap();
+    let layer = layer.as_mut_array().unwrap();
+    let shown = shown.as_mut_array().unwrap();
+    let dots = dots.as_mut_array().unwrap();
+    serve_items(settings, message, cells, layer, shown, dots, printer)
+}
+
+// The same, the stores as arrays of their sizes.
+fn serve_items(
+    settings: Settings,
+    message: &[u8],
+    cells: &mut [u8; CELLS],
+    layer: &mut [u8; LAYER],
+    shown: &mut [u8; SHOWN],
+    dots: &mut [u8; DOTS],
     printer: &mut [u8],
 ) -> Outcome
     requires { Servable settings message.now cells.old layer.old dots.old shown.old }
@@ -83,9 +103,9 @@ fn finish(
     wide: bool,
     bare: bool,
     answer: Answer,
-    cells: &[u8],
-    layer: &[u8],
-    shown: &mut [u8],
+    cells: &[u8; CELLS],
+    layer: &[u8; LAYER],
+    shown: &mut [u8; SHOWN],
 ) -> Outcome
     requires { (Visible (with_place settings place) cells.now layer.now) × ((bare ≡ true → layer.now ≡ replicate 1280 0) × (length shown.old ≡ 640)) }
     ensures { (result.settings ≡ with_place settings place) × ((result.answer ≡ answer) × ((dots : List ℕ) → let st = state (with_place settings place) cells.now layer.now dots in shown.new ≡ cond wide (painting st) (painted 560 80 (picture st) shown.old))) }

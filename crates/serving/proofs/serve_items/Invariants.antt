@@ -3,7 +3,7 @@
 use Prim.Native.Nat.{◌-◌}
 use lib.ListN.{length}
 use Rattle.serving.proofs.Turns.{Loop}
-use Rattle.serving.proofs.serve_from.Given as goal
+use Rattle.serving.proofs.serve_items.Given as goal
 
 abbrev pub invariant-loop-at : goal.invariant-loop-at
 invariant-loop-at l = Loop l.message l.from l.initial.counts l.initial.cells l.initial.layer l.initial.dots l.initial.printer l.initial.s l.cells l.layer l.dots l.printer l.s l.place l.marks l.frame l.counts l.at

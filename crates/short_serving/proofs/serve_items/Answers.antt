@@ -7,7 +7,7 @@ use borrow.Author.Rules.{rules}
 use Rattle.model.proofs.Keep.{chosen}
 use Rattle.serving.proofs.Turns.{applying, countable, further, good, marks_are, offered}
 use Rattle.short_serving.proofs.Watching.{watch_away, watch_ends, watch_first, watch_stays}
-use Rattle.short_serving.proofs.serve.Goals as goal
+use Rattle.short_serving.proofs.serve_items.Goals as goal
 
 pub selected_place-place-requires : goal.selected_place-place-requires
 selected_place-place-requires c =

@@ -3,7 +3,7 @@
 use Prim.Native.Nat.{◌-◌}
 use lib.ListN.{length}
 use Rattle.short_serving.proofs.Watching.{Watch}
-use Rattle.short_serving.proofs.serve.Given as goal
+use Rattle.short_serving.proofs.serve_items.Given as goal
 
 abbrev pub invariant-loop-at : goal.invariant-loop-at
 invariant-loop-at l = Watch l.message l.initial.cells l.initial.layer l.initial.dots l.initial.printer l.initial.shown l.initial.s l.cells l.layer l.dots l.printer l.shown l.s l.place l.marks l.frame l.counts l.wide l.at

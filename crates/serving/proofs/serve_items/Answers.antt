@@ -10,7 +10,7 @@ use Rattle.model.specs.State.{state}
 use Rattle.model.specs.Picture.{painting}
 use Rattle.model.proofs.Keep.{chosen}
 use Rattle.serving.proofs.Turns.{acted, applying, begin, changed, countable, end, further, good, marks_are, offered}
-use Rattle.serving.proofs.serve_from.Goals as goal
+use Rattle.serving.proofs.serve_items.Goals as goal
 
 pub selected_place-place-requires : goal.selected_place-place-requires
 selected_place-place-requires c =
