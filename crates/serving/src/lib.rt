@@ -5,7 +5,7 @@
 ghost use Rattle.std.specs.Prelude.{◌≡◌, cond, true, length, replicate, ℕ, ◌+◌, ◌≤◌, List};
 ghost use Rattle.model.specs.State.{state};
 ghost use Rattle.model.specs.Picture.{painting};
-ghost use Rattle.paint.specs.Shown.{Visible};
+ghost use Rattle.model.specs.Sound.{Sound};
 ghost use Rattle.ground.specs.Acts.{with_place};
 ghost use Rattle.serving.specs.Serves.{Runs, Servable, Serves};
 
@@ -132,7 +132,8 @@ fn finish(
     layer: &[u8; LAYER],
     shown: &mut [u8; SHOWN],
 ) -> Outcome
-    requires { (Visible (with_place settings place) cells.now layer.now) × ((bare ≡ true → layer.now ≡ replicate 1280 0) × (length shown.old ≡ 640)) }
+    requires sound { Sound (with_place settings place) }
+    requires bare_is { bare ≡ true → layer.now ≡ replicate 1280 0 }
     ensures { (result.settings ≡ with_place settings place) × ((result.answer ≡ answer) × ((dots : List ℕ) → shown.new ≡ cond paints (painting (state (with_place settings place) cells.now layer.now dots)) shown.old)) }
 {
     let mut s = settings;

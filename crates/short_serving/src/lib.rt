@@ -4,7 +4,7 @@
 ghost use Rattle.std.specs.Prelude.{◌≡◌, cond, true, List, ℕ, length, replicate};
 ghost use Rattle.model.specs.State.{state};
 ghost use Rattle.model.specs.Picture.{painting, picture};
-ghost use Rattle.paint.specs.Shown.{Visible};
+ghost use Rattle.model.specs.Sound.{Sound};
 ghost use Rattle.views.specs.Painted.{painted};
 ghost use Rattle.ground.specs.Acts.{with_place};
 ghost use Rattle.serving.specs.Serves.{Servable};
@@ -107,7 +107,8 @@ fn finish(
     layer: &[u8; LAYER],
     shown: &mut [u8; SHOWN],
 ) -> Outcome
-    requires { (Visible (with_place settings place) cells.now layer.now) × ((bare ≡ true → layer.now ≡ replicate 1280 0) × (length shown.old ≡ 640)) }
+    requires sound { Sound (with_place settings place) }
+    requires bare_is { bare ≡ true → layer.now ≡ replicate 1280 0 }
     ensures { (result.settings ≡ with_place settings place) × ((result.answer ≡ answer) × ((dots : List ℕ) → let st = state (with_place settings place) cells.now layer.now dots in shown.new ≡ cond wide (painting st) (painted 560 80 (picture st) shown.old))) }
 {
     let mut s = settings;

@@ -21,16 +21,6 @@ held n at from src h dst up down fits =
     let size : length ys ≡ n = simp (length-take, length-drop) (omega arith) in
     down ∙ ap (λ (zs : List ℕ). put from zs dst) (ap (take n) up ∙ take_at ys (drop (0 + length ys) h) n size)
 
--- n bytes of src laid down at once over as many that were lent
-pub laid : (from at n : ℕ) (src dst : List ℕ) {ys : List ℕ} → ys ≡ take (at + n - at) (drop at src) → at + n ≤ length src → from + n ≤ length dst
-    → take from dst ++ (ys ++ drop (from + n - from) (drop from dst)) ≡ put from (take n (drop at src)) dst
-unfolding put on_part
-laid from at n src dst e fits room =
-    let same : at + n - at ≡ n = omega arith in
-    let size : length (take n (drop at src)) ≡ n = simp (length-take, length-drop) (omega arith) in
-    let one : from + n - from ≡ n = omega arith in
-    rw (e, same, size, one, drop-drop n from dst)
-
 -- the first i bytes of part of src stand in dst; n from its byte b on are laid over their end
 pub block : (from at i b n : ℕ) (src dst : List ℕ) {l l' : List ℕ} → l ≡ put from (take i (drop at src)) dst → l' ≡ put (from + b) (take n (drop (at + b) src)) l
     → b ≤ i → i ≤ b + n → at + (b + n) ≤ length src → from + (b + n) ≤ length dst → l' ≡ put from (take (b + n) (drop at src)) dst

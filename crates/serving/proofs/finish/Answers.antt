@@ -11,21 +11,21 @@ use Rattle.model.specs.Sound.{array_ranges}
 use Rattle.model.specs.State.{nowhere, state, with_places}
 use Rattle.model.specs.Picture.{painting}
 use Rattle.model.proofs.Keep.{chosen}
-use Rattle.paint.specs.Shown.{Visible}
+use Rattle.model.specs.Sound.{Sound}
 use Rattle.ground.specs.Acts.{with_place}
 use Rattle.serving.proofs.finish.Goals as goal
 
 pub placed-places-requires : goal.placed-places-requires
 placed-places-requires c =
-    chosen _ c.requires.0.sound
+    chosen _ c.requires.sound
 
 pub paint-requires : goal.paint-requires
 unfolding place_of array_ranges
 paint-requires c =
     let a = c.args in
     let s = a.settings in
-    let there = get_or-set_same s.places s.selected a.place nowhere (omega (arith, length-set s.places s.selected a.place, c.requires.0.sound.arrays.0, chosen _ c.requires.0.sound)) in
-    record { visible = subst (λ (ps : List Place). (Visible (with_places s ps) a.cells.now a.layer.now) × (a.place.top ≡ (place_of (with_places s ps) s.selected).top)) (sym c.placed-places.ensures) (c.requires.0, ap (λ (p : Place). p.top) (sym there)); layer_value = c.requires.1 }
+    let there = get_or-set_same s.places s.selected a.place nowhere (omega (arith, length-set s.places s.selected a.place, c.requires.sound.arrays.0, chosen _ c.requires.sound)) in
+    record { visible = subst (λ (ps : List Place). (Sound (with_places s ps)) × (a.place.top ≡ (place_of (with_places s ps) s.selected).top)) (sym c.placed-places.ensures) (c.requires.sound, ap (λ (p : Place). p.top) (sym there)); layer_value = c.requires.bare_is }
 
 pub returns-then-paints : goal.returns-then-paints
 returns-then-paints c =

@@ -1,7 +1,7 @@
 -- The loop's invariant (proofs/Turns): what is left of the message gives the same end, and the frame and the place are those of what
 -- stands. Each way through the loop is one turn of it.
 use mathlib.Core.Path.{◌∙◌, ap, sym}
-use Prim.Native.Nat.{◌-◌, ◌<◌}
+use Prim.Native.Nat.{◌<◌}
 use native.Mathlib.Omega.{arith}
 use mathlib.Core.Bool.{cond}
 use borrow.Author.Rules.{rules}
@@ -97,16 +97,7 @@ answer_of-answer-requires c =
 pub finish-requires : goal.finish-requires
 finish-requires c =
     let g = c.loop-at.invariant.going.good in
-    (record { sound = g.sound; cells_are = g.cells_are; layer_are = g.layer_are }, (c.loop-at.invariant.ready.layer_are.empty, c.requires.servable.shown_are))
-
-pub shape_of-cells : goal.shape_of-cells
-shape_of-cells c = c.loop-at.invariant.going.good.cells_are ∙ sym c.requires.servable.good.cells_are
-
-pub shape_of-layer : goal.shape_of-layer
-shape_of-layer c = c.loop-at.invariant.going.good.layer_are ∙ sym c.requires.servable.good.layer_are
-
-pub shape_of-dots : goal.shape_of-dots
-shape_of-dots c = c.loop-at.invariant.going.good.dots_are ∙ sym c.requires.servable.good.dots_are
+    record { sound = g.sound; bare_is = c.loop-at.invariant.ready.layer_are.empty }
 
 pub shape_of-printer : goal.shape_of-printer
 shape_of-printer c =

@@ -55,7 +55,7 @@ paint_row_8-requires c =
     let a = c.args in
     let able = servable a.settings a.message.now a.cells.now a.layer.now a.dots.now a.shown.now (sym c.call_number-number.ensures ∙ omega arith) in
     let seen = line_visible a.settings a.message.now a.cells.now a.layer.now a.dots.now a.shown.now a.printer.now able c.frame_of-frame.ensures c.selected_place-place.ensures (c.in_line.ensures c.if-not-in_line.false) c.print_line-next.ensures in
-    record { visible = visible a.settings c.print_line-next.result seen.0 c.placed-places.ensures; shown_len = seen.1 }
+    record { sound = visible a.settings c.print_line-next.result seen.0.sound c.placed-places.ensures; sizes = (seen.0.cells_are, (seen.0.layer_are, seen.1)) }
 
 pub answer_of-answer-requires : goal.answer_of-answer-requires
 answer_of-answer-requires c =

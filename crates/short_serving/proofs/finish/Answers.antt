@@ -13,10 +13,10 @@ use Rattle.short_serving.proofs.finish.Goals as goal
 
 pub placed-places-requires : goal.placed-places-requires
 placed-places-requires c =
-    chosen _ c.requires.0.sound
+    chosen _ c.requires.sound
 
 pub paint-requires : goal.paint-requires
-paint-requires c = record { visible = visible c.args.settings c.args.place c.requires.0 c.placed-places.ensures; layer_value = c.requires.1 }
+paint-requires c = record { visible = visible c.args.settings c.args.place c.requires.sound c.placed-places.ensures; layer_value = c.requires.bare_is }
 
 pub returns-then-wide : goal.returns-then-wide
 returns-then-wide c =
@@ -32,7 +32,7 @@ returns-then-wide c =
     )
 
 pub paint_row_8-requires : goal.paint_row_8-requires
-paint_row_8-requires c = record { visible = visible c.args.settings c.args.place c.requires.0 c.placed-places.ensures; shown_len = c.requires.1.1 }
+paint_row_8-requires c = record { visible = visible c.args.settings c.args.place c.requires.sound c.placed-places.ensures }
 
 pub returns : goal.returns
 returns c =

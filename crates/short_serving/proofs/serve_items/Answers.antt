@@ -95,21 +95,7 @@ answer_of-answer-requires c =
 pub finish-requires : goal.finish-requires
 finish-requires c =
     let g = c.loop-at.invariant.loop.going.good in
-    (record { sound = g.sound; cells_are = g.cells_are; layer_are = g.layer_are }, (c.loop-at.invariant.loop.ready.layer_are.empty, c.loop-at.invariant.still.size))
-
-pub shape_of-cells : goal.shape_of-cells
-shape_of-cells c = c.loop-at.invariant.loop.going.good.cells_are ∙ sym c.requires.good.cells_are
-
-pub shape_of-layer : goal.shape_of-layer
-shape_of-layer c = c.loop-at.invariant.loop.going.good.layer_are ∙ sym c.requires.good.layer_are
-
-pub shape_of-shown : goal.shape_of-shown
-shape_of-shown c =
-    let same = c.loop-at.invariant.still.size ∙ sym c.requires.shown_are in
-    search (rules, same)
-
-pub shape_of-dots : goal.shape_of-dots
-shape_of-dots c = c.loop-at.invariant.loop.going.good.dots_are ∙ sym c.requires.good.dots_are
+    record { sound = g.sound; bare_is = c.loop-at.invariant.loop.ready.layer_are.empty }
 
 pub shape_of-printer : goal.shape_of-printer
 shape_of-printer c =
