@@ -26,7 +26,7 @@ fn main(rt: HostRuntime) {
 }
 
 // Reads the file that the argument names, and answers how many bytes it has: 0 if it cannot be read, or has more than a screen, or if there are
-// not two arguments.
+// not two arguments. (No Option: either is refused by 1, as a screen of no bytes is.)
 fn read_named<R: Env + Files>(rt: &R, argument: usize, screen: &mut [u8]) -> usize
     ensures { IsPrefixLen result screen.new }
 {

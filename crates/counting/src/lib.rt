@@ -88,7 +88,7 @@ fn refuse(counts: Counts, number: u8, parameter: u8, at: u32) -> Counts
     }
 }
 
-// The answer when all bytes are taken.
+// The answer when all bytes are taken. (A `From` of both, in a pair, would be no plainer.)
 pub fn answer_of(counts: Counts, taken: usize) -> Answer
     requires { taken < 5000 }
     ensures { result ≡ answer_at taken counts }

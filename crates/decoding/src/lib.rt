@@ -53,7 +53,7 @@ fn mode(own: &[u8]) -> Item
     }
 }
 
-// The 22 sequences of two bytes; others are looked for further down the list.
+// The 22 sequences of two bytes; others are looked for further down the list. (One `match` of 47 arms would be over 40 lines.)
 fn two_bytes(own: &[u8], at: usize, second: u8) -> Item
     requires { at ≤ 4096 }
     ensures { result ≡ (kind_from 0 second).made (sent own.now) (at + 2) }

@@ -20,7 +20,7 @@ pub struct Difference {
     pub second: u8,
 }
 
-// The first call's answer: 0 and the number of records written, or 1 or 18 and none.
+// The first call's answer: 0 and the number of records written, or 1 or 18 and none. (Numbers, for C reads it.)
 #[repr(C)]
 #[derive(Clone, Copy)]
 pub struct Compared {
@@ -48,6 +48,7 @@ impl From<Refusal> for u8 {
 }
 
 // The second call's answer in numbers: 0 or the refusal's, 1 where there is a difference, and its record (zeros where there is none).
+// (Numbers, for C reads it.)
 #[repr(C)]
 #[derive(Clone, Copy)]
 pub struct FirstValues {
@@ -135,8 +136,8 @@ fn write_all(first: &[u8], second: &[u8], list: &mut [Difference]) -> Result<usi
     Ok(n)
 }
 
-// Only the first difference (nested loops, left by a label: document 01's form): "search row by row from the left and stop at the first". Promised by the answer, and by the paper's number and
-// values for its cases.
+// Only the first difference (nested loops, left by a label: document 01's form): "search row by row from the left and stop at the first". Promised
+// by the answer, and by the paper's number and values for its cases.
 pub fn first_difference(first: &[u8], second: &[u8]) -> Result<Option<Difference>, Refusal>
     ensures { (result ≡ first_of first.now second.now) × FirstPromised first.now second.now (values_of result) }
 {

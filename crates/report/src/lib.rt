@@ -22,7 +22,7 @@ pub fn say_number(out: &impl Print, words: &[u8], number: u64) {
     let _ = out.print(number);
 }
 
-// The same for a byte.
+// The same for a byte. (Over any `Display` both would be one, but the programs' lines that are one print! need neither.)
 pub fn say_byte(out: &impl Print, words: &[u8], byte: u8) {
     say_number(out, words, u64::from(byte));
 }

@@ -83,7 +83,7 @@ pub fn copy_many(dst: &mut [u8], from: usize, src: &[u8], at: usize, count: usiz
     copy_bytes(dst, from, &held, 0, count);
 }
 
-// A block of 16.
+// A block of 16, through an array: see the head of this file.
 fn copy_block(dst: &mut [u8], from: usize, src: &[u8], at: usize)
     requires { (from + 16 ≤ length dst.old) × (at + 16 ≤ length src.now) }
     ensures { dst.new ≡ put from (take 16 (drop at src.now)) dst.old }

@@ -16,6 +16,7 @@ use model::{Sequence, Settings};
 use spelling::spell;
 
 // The answer of a call that writes: the place reached in the buffer, 0 or the number of the refusal, and with 11 the parameter that it names.
+// (Numbers, for C reads it; a refusal has its place too, so that no `From<Result<..>>` makes it.)
 #[repr(C)]
 #[derive(Clone, Copy)]
 pub struct Reached {

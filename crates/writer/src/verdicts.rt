@@ -47,7 +47,7 @@ pub fn judge(settings: Settings, spelled: &Spelled) -> Result<(), Refusal>
     }
 }
 
-// More parameters than any sequence has: 10, after 3.
+// More parameters than any sequence has: 10, after 3. (A Result would be made into the same answer a line further up.)
 pub fn too_long(settings: Settings, place: usize) -> Reached
     ensures { result ≡ record { place = place; number = cond (sound? settings) 10 3; parameter = 0 } }
 {
