@@ -1,12 +1,12 @@
 -- Stepping over a trace, nine bytes a stroke: one that is not cut is all strokes exactly if nothing is left behind the nines and the head of
 -- each of them says so; then they are its strokes.
 use mathlib.Core.Path.{◌∙◌, ◌≡◌, ap, refl, sym}
-use Prim.Native.Nat.{◌+◌, ◌*◌, ◌/◌, ◌%◌, ◌<◌, ◌≤◌, suc, zero, ℕ}
+use Prim.Native.Nat.{◌+◌, ◌*◌, ◌-◌, ◌/◌, ◌%◌, ◌<◌, ◌≤◌, suc, zero, ℕ}
 use native.Mathlib.Omega.{arith}
 use mathlib.Core.Bool.{Bool, ◌&&◌, ◌||◌, and-false, false, true}
 use mathlib.Core.List.{List, [], ◌∷◌}
 use lib.ListN.{drop, drop_of_length-le, get_or, length, length-drop, take}
-use lib.Seq.{get_or-drop}
+use lib.Seq.{get_or-drop, take-length}
 use lib.Dec.{eqb}
 use borrow.Author.Tests.{eqb-true, le-leb, lt-leb, ne_eqb}
 use Rattle.std.proofs.lemmas.List.{drop_more}
@@ -134,18 +134,14 @@ module _ (trace : List ℕ) (uncut : uncut? trace ≡ true) (bytes : List (List 
     nine_each = omega (arith, many);
   }
 
--- the first of some strokes, and none
-pub first_read : {left bs : List (List ℕ)} {b : List ℕ} {s : Stroke} → left ≡ b ∷ bs → s ≡ stroke_read b → strokes_read left ≡ s ∷ strokes_read bs
-first_read e f = rw (e, f)
-
-pub none_read : (left : List (List ℕ)) → length left ≡ 0 → strokes_read left ≡ []
-none_read [] e = refl
-none_read (b ∷ bs) e = absurd (omega arith)
-
 -- those that are left from an index on
 module _ (bytes : List (List ℕ)) (i : ℕ) where
   pub next_read : i < length bytes → {s : Stroke} → s ≡ stroke_read (get_or bytes i []) → strokes_read (drop i bytes) ≡ s ∷ strokes_read (drop (i + 1) bytes)
-  next_read h e = first_read (drop_more bytes i [] h) e
+  next_read h e = rw (drop_more bytes i [] h, e)
+
+  -- the slice of those behind it has them all
+  pub behind_all : take (length bytes - (i + 1)) (drop (i + 1) bytes) ≡ drop (i + 1) bytes
+  behind_all = ap (λ (n : ℕ). take n (drop (i + 1) bytes)) (sym (length-drop (i + 1) bytes)) ∙ take-length (drop (i + 1) bytes)
 
   pub end_read : length bytes ≤ i → strokes_read (drop i bytes) ≡ []
   end_read h = ap strokes_read (drop_of_length-le bytes {i = i} h)

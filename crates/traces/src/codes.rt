@@ -78,10 +78,8 @@ pub(crate) fn count_all(repeating: Repeating, strokes: &[[u8; 9]]) -> u64
     ensures { result ≡ length (sent repeating.keys (strokes_read strokes.now)) }
 {
     let mut count = 0;
-    let mut left = strokes;
-    while let Some((first, behind)) = left.split_first() {
-        count += count_at(repeating, first.into(), behind);
-        left = behind;
+    for (i, bytes) in strokes.iter().enumerate() {
+        count += count_at(repeating, bytes.into(), &strokes[i + 1..]);
     }
     count
 }

@@ -88,9 +88,7 @@ pub(crate) fn write_all(repeating: Repeating, strokes: &[[u8; 9]], output: &mut 
     ensures { output.new ≡ put 0 (codes_bytes (sent repeating.keys (strokes_read strokes.now))) output.old }
 {
     let mut place = 0;
-    let mut left = strokes;
-    while let Some((first, behind)) = left.split_first() {
-        place = write_at(repeating, first.into(), behind, output, place);
-        left = behind;
+    for (i, bytes) in strokes.iter().enumerate() {
+        place = write_at(repeating, bytes.into(), &strokes[i + 1..], output, place);
     }
 }
