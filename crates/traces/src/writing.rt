@@ -1,4 +1,5 @@
-// The codes, written one behind the other.
+// The codes, written one behind the other. The output goes on whole, with the place of the next code: what is promised is said of the whole
+// (`put`), so that slices of what is left would be no plainer.
 ghost use Rattle.std.specs.Prelude.{◌≡◌, ◌+◌, ◌*◌, ◌≤◌, length, [], ◌∷◌};
 ghost use Rattle.model.specs.Bytes.{put};
 ghost use Rattle.traces.specs.Codes.{code, codes_bytes, every_from, sent_by, sent_at, sent};

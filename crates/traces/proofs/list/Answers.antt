@@ -33,10 +33,6 @@ returns-then-count-output c =
     let all = rw (← passed.1.is) at c.count_all-count.ensures in
     too_small_lem a.settings a.trace.now a.output.now passed.0 (room_short (sent_in a.settings a.trace.now) (length a.output.now) all (omega (arith, c.if-count-output.true)))
 
-pub write_all-requires : goal.write_all-requires
-write_all-requires c =
-    omega (arith, c.count_all-count.ensures, c.if-count-output.false)
-
 pub returns : goal.returns
 unfolding sent_in
 returns c =

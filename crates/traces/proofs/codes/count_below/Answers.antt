@@ -3,10 +3,6 @@ use native.Mathlib.Omega.{arith}
 use Rattle.traces.proofs.Counting.{few_below, none_below, some_below}
 use Rattle.traces.proofs.codes.count_below.Goals as goal
 
-pub overflow_add-result : goal.overflow_add-result
-overflow_add-result c = let a =
-    c.args in omega (arith, few_below a.first a.repeating.keys.interval a.end c.if-first-bound.true)
-
 pub returns-then-first-bound : goal.returns-then-first-bound
 returns-then-first-bound c =
     let a = c.args in
