@@ -21,7 +21,7 @@ pub struct Stroke {
     pub key: u8,
 }
 
-// What the call returns: its number, and how many codes were sent. A number and no Result: the C interface hands it on as it stands.
+// What the call returns: its number, and how many codes were sent. A number and no Result: so px8_key_repeats gives it to C.
 #[repr(C)]
 #[derive(Clone, Copy)]
 pub struct Repeats {
