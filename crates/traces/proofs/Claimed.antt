@@ -100,8 +100,8 @@ end_held key last [] h f = h
 end_held key last (s ∷ ss) h f = cond_at (λ (n : ℕ). n < 4294967296) (ends? key s) s.tick (end_of key s.tick ss) (λ t. f.0) (λ t. end_held key s.tick ss f.0 f.1)
 
 -- ticks of four bytes, without the first of them
-pub held_on : (tick interval n : ℕ) → 1 ≤ n → EachHeld tick interval n → EachHeld (tick + interval) interval (n - 1)
-held_on tick interval n some each = λ j l. omega (arith, each (suc j) (omega arith), suc-mul j interval)
+pub held_on : (tick interval : ℕ) {n m : ℕ} → n ≡ m + 1 → EachHeld tick interval n → EachHeld (tick + interval) interval m
+held_on tick interval is each = λ j l. omega (arith, each (suc j) (omega arith), suc-mul j interval)
 
 -- the repeats of a press that a record of four bytes ends
 pub repeats_held : (k : Keys) → 1 ≤ k.interval → (tick end : ℕ) → end < 4294967296 → EachHeld (first_repeat k tick) k.interval (repeat_count k tick end)

@@ -20,7 +20,6 @@ use Rattle.std.specs.Prelude.{Result, Err}
 use Rattle.traces.specs.declared.Refusal.{Refusal}
 use Rattle.traces.specs.declared.Refusal.TheVariants.{Unsound, TooLong, CutRecord, UnknownKind, FallingTick, OutputTooSmall}
 use Rattle.traces.specs.Claims.{Bytes}
-use Rattle.traces.specs.Stepping.{Whole, strokes_from}
 use Rattle.traces.proofs.Claimed.{all_held, strokes_four}
 
 -- the checks, by their outcomes
@@ -69,9 +68,6 @@ module _ (s : Settings) (trace : List ℕ) where
   tests h = free (sound? s) (traceable trace) (uncut? trace) (all? stroke? (records_of trace)) (rising? 0 (strokes_in trace)) h
 
   -- what the code behind the checks asks
-  pub whole : first_of (checks s trace) ≡ 0 → Whole trace 0
-  whole h = let t = tests h in record { inside = omega arith; uncut = t.2; strokes = t.3 }
-
   pub at_most : first_of (checks s trace) ≡ 0 → length trace ≤ 60000
   at_most h = leb-true (length trace) 60000 (tests h).1
 
@@ -103,8 +99,8 @@ module _ (s : Settings) (trace : List ℕ) where
         let none : listed s trace room ≡ [] = ap (λ (rs : List Reason). cond (all_free rs) (sent_in s trace) []) z in
         record { number_is = ap first_of (sym z); count_is = ap length (sym none); output_is = ap (λ (cs : List Code). written (codes_bytes cs) output) (sym none); held = subst Held (sym none) tt }
 
-    pub served : Bytes trace → first_of (checks s trace) ≡ 0 → {n : ℕ} {output' : List ℕ} → n ≡ length (sent s.keys (strokes_from trace 0)) → fits? (sent_in s trace) room ≡ true
-        → output' ≡ put 0 (codes_bytes (sent s.keys (strokes_from trace 0))) output → RepeatsPromised s trace output (record { number = 0; count = n }) output'
+    pub served : Bytes trace → first_of (checks s trace) ≡ 0 → {n : ℕ} {output' : List ℕ} → n ≡ length (sent s.keys (strokes_in trace)) → fits? (sent_in s trace) room ≡ true
+        → output' ≡ put 0 (codes_bytes (sent s.keys (strokes_in trace))) output → RepeatsPromised s trace output (record { number = 0; count = n }) output'
     unfolding listed sent_in written put on_part first_of all_free
     served bytes h e f g =
         let z = last h f in

@@ -3,12 +3,14 @@
 #![tactic(auto)]
 
 mod codes;
+mod repeating;
 mod strokes;
 mod writing;
 
 ghost use Rattle.std.specs.Prelude.{◌≡◌};
 ghost use Rattle.traces.specs.Call.{RepeatsPromised, answer_of, number_of};
 
+use crate::repeating::Repeating;
 use model::Settings;
 
 // A record of a trace: a press, or else a release; its tick of 1/256 second and its key.
@@ -19,7 +21,7 @@ pub struct Stroke {
     pub key: u8,
 }
 
-// What the call returns: its number, and how many codes were sent.
+// What the call returns: its number, and how many codes were sent. A number and no Result: so px8_key_repeats gives it to C.
 #[repr(C)]
 #[derive(Clone, Copy)]
 pub struct Repeats {
@@ -72,12 +74,14 @@ pub fn key_repeats(settings: Settings, trace: &[u8], output: &mut [u8]) -> Repea
 fn list(settings: Settings, trace: &[u8], output: &mut [u8]) -> Result<u64, Refusal>
     ensures { RepeatsPromised settings trace.now output.old (answer_of result) output.new }
 {
-    strokes::check(settings, trace)?;
-    let keys = settings.keys;
-    let count = codes::count_all(keys, trace);
+    let strokes = strokes::check(settings, trace)?;
+    let repeating = Repeating {
+        keys: settings.keys,
+    };
+    let count = codes::count_all(repeating, strokes);
     if count > (output.len() as u64) / 5 {
         return Err(Refusal::OutputTooSmall);
     }
-    writing::write_all(keys, trace, output);
+    writing::write_all(repeating, strokes, output);
     Ok(count)
 }

@@ -1,84 +1,75 @@
 // The records of a trace, and what it is refused for before a code is counted.
-ghost use Rattle.std.specs.Prelude.{◌≡◌, true, ◌+◌, ◌<◌, ◌≤◌, length, drop, MatchResult};
+ghost use Rattle.std.specs.Prelude.{◌≡◌, true, false, MatchOption, MatchResult};
+ghost use Rattle.std.specs.List.{list_all};
 ghost use Rattle.calls.specs.Calls.{first_of};
-ghost use Rattle.model.specs.Records.{length_in, record_in, records_of, all?, uncut?};
-ghost use Rattle.traces.specs.Strokes.{stroke_of, strokes_in, stroke?, rising?};
+ghost use Rattle.model.specs.Records.{records_of, all?, uncut?};
+ghost use Rattle.traces.specs.Strokes.{stroke?, rising?};
 ghost use Rattle.traces.specs.Call.{checks, number_of};
-ghost use Rattle.traces.specs.Stepping.{Whole, Tested, StrokeRead};
+ghost use Rattle.traces.specs.Stepping.{stroke_bytes?, stroke_read, strokes_read, AreStrokesOf};
 
 use crate::{Refusal, Stroke};
 use model::Settings;
 
-// Whether the record at `at` is a stroke: "kind or body length".
-fn is_stroke(trace: &[u8], at: usize) -> bool
-    requires { (at < length trace.now) × (uncut? (drop at trace.now) ≡ true) }
-    ensures { Tested trace.now at result }
+// Whether nine bytes are a stroke: "kind or body length".
+fn is_stroke(bytes: &[u8; 9]) -> bool
+    ensures { result ≡ stroke_bytes? bytes.now }
 {
-    let kind = records::kind_at(trace, at);
-    let length = records::length_at(trace, at);
+    let kind = records::kind_at(bytes, 0);
+    let length = records::length_at(bytes, 0);
     ((kind == 1) | (kind == 2)) & (length == 5)
 }
 
-// 21: whether all records are; each that is has nine bytes.
-fn all_strokes(trace: &[u8]) -> bool
-    requires { uncut? trace.now ≡ true }
-    ensures { result ≡ all? stroke? (records_of trace.now) }
+// Whether all of them are.
+fn all_strokes(strokes: &[[u8; 9]]) -> bool
+    ensures { result ≡ list_all stroke_bytes? strokes.now }
 {
-    let mut at = 0;
-    while at < trace.len() {
-        if is_stroke(trace, at) {
-            at += 9;
-        } else {
-            return false;
-        }
+    strokes.iter().all(is_stroke)
+}
+
+// 21: the strokes of a trace, nine bytes each; none where a record is no stroke.
+fn strokes_of(trace: &[u8]) -> Option<&[[u8; 9]]>
+    requires { uncut? trace.now ≡ true }
+    ensures { MatchOption result (all? stroke? (records_of trace.now) ≡ false) (λ strokes. (all? stroke? (records_of trace.now) ≡ true) × AreStrokesOf trace.now strokes.now) }
+{
+    let (strokes, rest) = trace.as_chunks::<9>();
+    if rest.is_empty() && all_strokes(strokes) {
+        Some(strokes)
+    } else {
+        None
     }
-    true
 }
 
 // What the nine bytes of a stroke hold.
-fn read_stroke(trace: &[u8], at: usize) -> Stroke
-    requires { (at + 9 ≤ length trace.now) × (length_in (drop at trace.now) ≡ 5) }
-    ensures { result ≡ stroke_of (record_in (drop at trace.now)) }
-{
-    let kind = records::kind_at(trace, at);
-    let low = records::little(trace[at + 4], trace[at + 5]);
-    let high = records::little(trace[at + 6], trace[at + 7]);
-    Stroke {
-        press: kind == 1,
-        tick: low as u32 + 65536 * (high as u32),
-        key: trace[at + 8],
+impl From<&[u8; 9]> for Stroke {
+    ghost from_gives = { λ bytes stroke. stroke ≡ stroke_read bytes.now };
+
+    fn from(bytes: &[u8; 9]) -> Stroke {
+        Stroke {
+            press: records::kind_at(bytes, 0) == 1,
+            tick: u32::from_le_bytes([bytes[4], bytes[5], bytes[6], bytes[7]]),
+            key: bytes[8],
+        }
     }
 }
 
-// The stroke at `at`, behind which the next begins.
-pub(crate) fn stroke_at(trace: &[u8], at: usize) -> Stroke
-    requires { (at < length trace.now) × Whole trace.now at }
-    ensures { StrokeRead trace.now at result }
-{
-    read_stroke(trace, at)
-}
-
 // 24: whether no tick falls.
-fn rising(trace: &[u8]) -> bool
-    requires { Whole trace.now 0 }
-    ensures { result ≡ rising? 0 (strokes_in trace.now) }
+fn rising(strokes: &[[u8; 9]]) -> bool
+    ensures { result ≡ rising? 0 (strokes_read strokes.now) }
 {
     let mut last = 0;
-    let mut at = 0;
-    while at < trace.len() {
-        let stroke = stroke_at(trace, at);
+    for bytes in strokes {
+        let stroke = Stroke::from(bytes);
         if stroke.tick < last {
             return false;
         }
         last = stroke.tick;
-        at += 9;
     }
     true
 }
 
-// "Refusals, in order over the whole trace", but for the output's.
-pub(crate) fn check(settings: Settings, trace: &[u8]) -> Result<(), Refusal>
-    ensures { MatchResult result (λ _. first_of (checks settings trace.now) ≡ 0) (λ e. number_of e ≡ first_of (checks settings trace.now)) }
+// "Refusals, in order over the whole trace", but for the output's; else the trace's strokes, nine bytes each.
+pub(crate) fn check(settings: Settings, trace: &[u8]) -> Result<&[[u8; 9]], Refusal>
+    ensures { MatchResult result (λ strokes. (first_of (checks settings trace.now) ≡ 0) × AreStrokesOf trace.now strokes.now) (λ e. number_of e ≡ first_of (checks settings trace.now)) }
 {
     if !soundness::sound(settings) {
         return Err(Refusal::Unsound);
@@ -89,11 +80,11 @@ pub(crate) fn check(settings: Settings, trace: &[u8]) -> Result<(), Refusal>
     if !records::uncut(trace) {
         return Err(Refusal::CutRecord);
     }
-    if !all_strokes(trace) {
+    let Some(strokes) = strokes_of(trace) else {
         return Err(Refusal::UnknownKind);
-    }
-    if !rising(trace) {
+    };
+    if !rising(strokes) {
         return Err(Refusal::FallingTick);
     }
-    Ok(())
+    Ok(strokes)
 }

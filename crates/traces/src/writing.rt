@@ -1,26 +1,20 @@
-// The codes, written one behind the other.
-ghost use Rattle.std.specs.Prelude.{◌≡◌, ◌+◌, ◌*◌, ◌≤◌, ◌<◌, length, [], ◌∷◌};
+// The codes, written one behind the other. The output goes on whole, with the place of the next code: what is promised is said of the whole
+// (`put`), so that slices of what is left would be no plainer.
+ghost use Rattle.std.specs.Prelude.{◌≡◌, ◌+◌, ◌*◌, ◌≤◌, length, [], ◌∷◌};
 ghost use Rattle.model.specs.Bytes.{put};
-ghost use Rattle.traces.specs.Codes.{code, codes_bytes, every_from, sent_by, sent};
-ghost use Rattle.traces.specs.Stepping.{strokes_from, EachHeld, Whole, Written};
+ghost use Rattle.traces.specs.Codes.{code, codes_bytes, every_from, sent_by, sent_at, sent};
+ghost use Rattle.traces.specs.Stepping.{EachHeld, strokes_read};
 
 use crate::Stroke;
 use crate::codes::{end_of, first_repeat, repeat_count};
-use crate::strokes::stroke_at;
-use model::Keys;
+use crate::repeating::Repeating;
 
-// "tick and key as in a body, five bytes each": one code, from `place` on, its tick one that four bytes hold.
-fn lay(output: &mut [u8], place: usize, tick: u64, key: u8)
-    requires { (tick < 4294967296) × (place + 5 ≤ length output.old) }
+// "tick and key as in a body, five bytes each": one code, from `place` on.
+fn lay(output: &mut [u8], place: usize, tick: u32, key: u8)
+    requires { place + 5 ≤ length output.old }
     ensures { output.new ≡ put place (codes_bytes (code tick key ∷ [])) output.old }
 {
-    let second = tick / 256;
-    let third = second / 256;
-    let fourth = third / 256;
-    output[place] = (tick % 256) as u8;
-    output[place + 1] = (second % 256) as u8;
-    output[place + 2] = (third % 256) as u8;
-    output[place + 3] = fourth as u8;
+    output[place..place + 4].copy_from_slice(&tick.to_le_bytes());
     output[place + 4] = key;
 }
 
@@ -38,50 +32,64 @@ fn lay_every(
 {
     let mut tick = first;
     let mut at = place;
-    let mut left = count;
-    while left > 0 {
-        lay(output, at, tick, key);
+    for _ in 0..count {
+        lay(output, at, tick as u32, key);
         tick += interval as u64;
         at += 5;
-        left -= 1;
     }
     at
 }
 
 // What a press sends, its end known; the place behind it.
-fn write_press(keys: Keys, stroke: Stroke, end: u32, output: &mut [u8], place: usize) -> usize
-    requires { (1 ≤ keys.interval) × (place + 5 * length (sent_by keys stroke end) ≤ length output.old) }
-    ensures { (output.new ≡ put place (codes_bytes (sent_by keys stroke end)) output.old) × (result ≡ place + 5 * length (sent_by keys stroke end)) }
+fn write_press(
+    repeating: Repeating,
+    stroke: Stroke,
+    end: u32,
+    output: &mut [u8],
+    place: usize,
+) -> usize
+    requires { place + 5 * length (sent_by repeating.keys stroke end) ≤ length output.old }
+    ensures { (output.new ≡ put place (codes_bytes (sent_by repeating.keys stroke end)) output.old) × (result ≡ place + 5 * length (sent_by repeating.keys stroke end)) }
 {
-    let count = repeat_count(keys, stroke.tick, end);
-    let first = first_repeat(keys, stroke.tick);
-    lay(output, place, stroke.tick as u64, stroke.key);
-    lay_every(output, place + 5, stroke.key, keys.interval, first, count)
+    let count = repeat_count(repeating, stroke.tick, end);
+    let first = first_repeat(repeating, stroke.tick);
+    lay(output, place, stroke.tick, stroke.key);
+    lay_every(
+        output,
+        place + 5,
+        stroke.key,
+        repeating.keys.interval,
+        first,
+        count,
+    )
 }
 
-// What the stroke at `at` sends, written from `place` on; the place behind it.
-fn write_at(keys: Keys, trace: &[u8], at: usize, output: &mut [u8], place: usize) -> usize
-    requires { (at < length trace.now) × ((1 ≤ keys.interval) × (Whole trace.now at × (place + 5 * length (sent keys (strokes_from trace.now at)) ≤ length output.old))) }
-    ensures { Written keys trace.now at place result output.old output.new }
+// What a stroke sends, with the strokes behind it, written from `place` on; the place behind it.
+fn write_at(
+    repeating: Repeating,
+    stroke: Stroke,
+    behind: &[[u8; 9]],
+    output: &mut [u8],
+    place: usize,
+) -> usize
+    requires { place + 5 * length (sent_at repeating.keys stroke (strokes_read behind.now)) ≤ length output.old }
+    ensures { (output.new ≡ put place (codes_bytes (sent_at repeating.keys stroke (strokes_read behind.now))) output.old) × (result ≡ place + 5 * length (sent_at repeating.keys stroke (strokes_read behind.now))) }
 {
-    let stroke = stroke_at(trace, at);
     if stroke.press {
-        let end = end_of(trace, at + 9, stroke.key, stroke.tick);
-        write_press(keys, stroke, end, output, place)
+        let end = end_of(behind, stroke.key, stroke.tick);
+        write_press(repeating, stroke, end, output, place)
     } else {
         place
     }
 }
 
 // All codes, from the output's start.
-pub(crate) fn write_all(keys: Keys, trace: &[u8], output: &mut [u8])
-    requires { (1 ≤ keys.interval) × (Whole trace.now 0 × (5 * length (sent keys (strokes_from trace.now 0)) ≤ length output.old)) }
-    ensures { output.new ≡ put 0 (codes_bytes (sent keys (strokes_from trace.now 0))) output.old }
+pub(crate) fn write_all(repeating: Repeating, strokes: &[[u8; 9]], output: &mut [u8])
+    requires { 5 * length (sent repeating.keys (strokes_read strokes.now)) ≤ length output.old }
+    ensures { output.new ≡ put 0 (codes_bytes (sent repeating.keys (strokes_read strokes.now))) output.old }
 {
     let mut place = 0;
-    let mut at = 0;
-    while at < trace.len() {
-        place = write_at(keys, trace, at, output, place);
-        at += 9;
+    for (i, bytes) in strokes.iter().enumerate() {
+        place = write_at(repeating, bytes.into(), &strokes[i + 1..], output, place);
     }
 }

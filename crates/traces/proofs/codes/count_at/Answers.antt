@@ -1,13 +1,17 @@
 -- `count_at`: the press and its repeats, or nothing for a release.
-use Rattle.traces.proofs.Counting.{counted_press, counted_release}
+use native.Mathlib.Omega.{arith}
+use mathlib.Core.Path.{ap, sym}
+use lib.ListN.{length}
+use Rattle.traces.proofs.Counting.{at_press, at_release, by_length}
 use Rattle.traces.proofs.codes.count_at.Goals as goal
 
 pub returns-then-stroke : goal.returns-then-stroke
 returns-then-stroke c =
     let a = c.args in
-    counted_press a.keys a.trace.now a.at c.stroke_at-stroke.ensures c.if-stroke.true c.end_of-end.ensures c.repeat_count.ensures
+    let n = c.repeat_count.ensures in
+    (omega (arith, ap length (at_press a.repeating.keys a.stroke _ c.if-stroke.true c.end_of-end.ensures), by_length a.repeating.keys a.stroke _ n.0), omega (arith, n.1))
 
 pub returns-else-stroke : goal.returns-else-stroke
 returns-else-stroke c =
     let a = c.args in
-    counted_release a.keys a.trace.now a.at c.stroke_at-stroke.ensures c.if-stroke.false
+    (sym (ap length (at_release a.repeating.keys a.stroke _ c.if-stroke.false)), omega arith)

@@ -3,15 +3,11 @@ use native.Mathlib.Omega.{arith}
 use Rattle.traces.proofs.Counting.{few_below, none_below, some_below}
 use Rattle.traces.proofs.codes.count_below.Goals as goal
 
-pub overflow_add-result : goal.overflow_add-result
-overflow_add-result c = let a =
-    c.args in omega (arith, few_below a.first a.interval a.end c.if-first-bound.true)
-
 pub returns-then-first-bound : goal.returns-then-first-bound
 returns-then-first-bound c =
     let a = c.args in
-    (some_below a.first a.interval a.end c.if-first-bound.true, omega (arith, few_below a.first a.interval a.end c.if-first-bound.true))
+    (some_below a.first a.repeating.keys.interval a.end c.if-first-bound.true, omega (arith, few_below a.first a.repeating.keys.interval a.end c.if-first-bound.true))
 
 pub returns-else-first-bound : goal.returns-else-first-bound
 returns-else-first-bound c = let a =
-    c.args in (none_below a.first a.interval a.end c.if-first-bound.false, omega arith)
+    c.args in (none_below a.first a.repeating.keys.interval a.end c.if-first-bound.false, omega arith)

@@ -1,22 +1,20 @@
 -- `rising`: from the last tick on, what is left never falls exactly if the trace never does.
-use mathlib.Core.Path.{◌∙◌, refl, sym}
+use mathlib.Core.Path.{◌∙◌, sym}
 use native.Mathlib.Omega.{arith}
-use Rattle.traces.proofs.Stepping.{rising_end, rising_not, rising_on}
-use borrow.Author.Rules.{rules}
+use Rattle.traces.proofs.Stepping.{end_read, next_read, rising_end, rising_not, rising_on}
 use Rattle.traces.proofs.strokes.rising.Goals as goal
-
-pub loop-at-init : goal.loop-at-init
-loop-at-init c =
-    (search rules, refl)
 
 pub returns-then-stroke-last : goal.returns-then-stroke-last
 returns-then-stroke-last c =
-    sym (c.loop-at.invariant.1 ∙ rising_not c.stroke_at-stroke.ensures.is (omega (arith, c.if-stroke-last.true)))
+    let l = c.loop-bytes in
+    sym (l.invariant ∙ rising_not (next_read c.args.strokes.now l.bytes-index c.loop-bytes-test.true c.from-stroke.ensures) (omega (arith, c.if-stroke-last.true)))
 
-pub loop-at-preserved : goal.loop-at-preserved
-loop-at-preserved c =
-    (c.stroke_at-stroke.ensures.next, c.loop-at.invariant.1 ∙ rising_on c.stroke_at-stroke.ensures.is (omega (arith, c.if-stroke-last.false)))
+pub loop-bytes-preserved : goal.loop-bytes-preserved
+loop-bytes-preserved c =
+    let l = c.loop-bytes in
+    l.invariant ∙ rising_on (next_read c.args.strokes.now l.bytes-index c.loop-bytes-test.true c.from-stroke.ensures) (omega (arith, c.if-stroke-last.false))
 
 pub returns : goal.returns
 returns c =
-    sym (c.loop-at.invariant.1 ∙ rising_end c.loop-at.last c.args.trace.now c.loop-at.at (omega arith))
+    let l = c.loop-bytes in
+    sym (l.invariant ∙ rising_end l.last (end_read c.args.strokes.now l.bytes-index c.loop-bytes-test.false))

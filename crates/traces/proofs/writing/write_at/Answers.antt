@@ -1,20 +1,22 @@
 -- `write_at`: what a press sends, or nothing for a release.
 use native.Mathlib.Omega.{arith}
-use Rattle.traces.proofs.Counting.{press_length}
-use Rattle.traces.proofs.Laying.{press_written, release_written}
+use mathlib.Core.Path.{ap, sym}
+use lib.ListN.{length}
+use Rattle.traces.proofs.Counting.{at_press, at_release}
+use Rattle.traces.proofs.Laying.{no_codes}
 use Rattle.traces.proofs.writing.write_at.Goals as goal
 
 pub write_press-requires : goal.write_press-requires
 write_press-requires c =
     let a = c.args in
-    (c.requires.1.0, omega (arith, press_length a.keys a.trace.now a.at c.stroke_at-stroke.ensures c.if-stroke.true c.end_of-end.ensures, c.requires.1.1.1))
+    omega (arith, ap length (at_press a.repeating.keys a.stroke _ c.if-stroke.true c.end_of-end.ensures), c.requires)
 
 pub returns-then-stroke : goal.returns-then-stroke
 returns-then-stroke c =
     let a = c.args in
-    press_written a.keys a.trace.now a.at c.stroke_at-stroke.ensures a.place a.output.now c.if-stroke.true c.requires.1.1.1 c.end_of-end.ensures c.write_press.ensures
+    rw (at_press a.repeating.keys a.stroke _ c.if-stroke.true c.end_of-end.ensures) c.write_press.ensures
 
 pub returns-else-stroke : goal.returns-else-stroke
 returns-else-stroke c =
     let a = c.args in
-    release_written a.keys a.trace.now a.at c.stroke_at-stroke.ensures a.place a.output.now c.if-stroke.false
+    rw (at_release a.repeating.keys a.stroke _ c.if-stroke.false) (sym (no_codes a.place a.output.now), omega arith)
