@@ -9,7 +9,7 @@ use model::Answer;
 pub(crate) fn none() -> Answer
     ensures { result ≡ blank_answer 0 0 }
 {
-    numbers::refusal(0)
+    Answer::default()
 }
 
 // Of one call more.

@@ -2,3 +2,5 @@ pub mod Sizes
 pub mod OpeningTests
 pub mod MessageTests
 pub mod KeyTests
+pub mod StoreTests
+pub mod Blanks

@@ -6,11 +6,14 @@ use mathlib.Core.Bool.{Bool, cond, false, true}
 use mathlib.Core.List.{List, [], ◌∷◌}
 use lib.ListN.{length}
 use lib.Dec.{eqb}
-use borrow.Author.Tests.{leb-true}
+use borrow.Author.Tests.{leb-true, ne_eqb}
 use Rattle.model.specs.Records.{uncut?}
 use Rattle.model.specs.declared.Answer.{Answer}
+use Rattle.model.specs.declared.Refusal.{Refusal}
+use Rattle.model.specs.Refusals.{refusal_number}
 use Rattle.model.specs.Items.{blank_answer}
 use Rattle.calls.specs.Calls.{Promised, Reason, Terminal, first_of, known_in, none_waits, number_of, pack, pack_called, packable, reason, reasons, request, sendable_in, sized, sound_in}
+use Rattle.model.proofs.RefusalLaws.{not_0}
 use Rattle.calls.proofs.CallLaws.{refused_number}
 use Rattle.calls.proofs.Promises.{promised_none}
 use Rattle.packs.specs.Bytes.{of_bytes}
@@ -46,6 +49,10 @@ pack_numbered t p {a} {b} {c} {n} e f g h =
     go true true false k s b c = refl
     go true false u k s b c = refl
     go false l u k s b c = refl
+
+-- where its bytes are refused
+pub bytes_refused : (t : Terminal) (p : List ℕ) (r : Refusal) → sized t ≡ true → refusal_number r ≡ first_of (of_bytes p) → refusal_number r ≡ first_of (reasons t (pack p))
+bytes_refused t p r e f = sym (pack_numbered t p e (sym f) refl refl ∙ rw (ne_eqb (refusal_number r) 0 (not_0 r)))
 
 -- and number 0 tells of its bytes that they are not too many, and no record is cut
 pub whole-pack : (t : Terminal) (p : List ℕ) → first_of (reasons t (pack p)) ≡ 0 → (length p ≤ 60000) × (uncut? p ≡ true)

@@ -1,22 +1,24 @@
-// The number of a pack call: "The whole pack is checked for each number before the next."
+// What a pack call is refused by: "The whole pack is checked for each number before the next."
 ghost use Rattle.std.specs.Prelude.{◌≡◌};
+ghost use Rattle.model.specs.Refusals.{check_number};
 ghost use Rattle.calls.specs.Calls.{Asked, first_of, reasons, terminal};
 ghost use Rattle.packs.specs.Bytes.{of_bytes};
 
-use model::{MESSAGE, PACK, Settings};
-use numbers::stores_sized;
+use model::{MESSAGE, PACK, Refusal, Settings};
+use numbers::check_stores;
 use records::{kind_at, length_at};
 
-// "Refusals, after 1: 19 too long, 20 cut record, 21 unknown kind, then 2": what its bytes are refused by, or 0. Its records are walked over twice: none is
-// looked at before it is known that none is cut.
-fn bytes_number(pack: &[u8]) -> u8
-    ensures { result ≡ first_of (of_bytes pack.now) }
+// "Refusals, after 1: 19 too long, 20 cut record, 21 unknown kind, then 2": what its bytes are refused by. Its records are walked over twice: none is
+// looked at before it is known that none is cut. `at` goes by the length that each record gives, as no range does; an iterator of records would be a type with
+// laws of its own, more than the two loops that would use it.
+fn check_bytes(pack: &[u8]) -> Result<(), Refusal>
+    ensures { check_number result ≡ first_of (of_bytes pack.now) }
 {
     if pack.len() > PACK {
-        return 19;
+        return Err(Refusal::PackTooLong);
     }
     if !records::uncut(pack) {
-        return 20;
+        return Err(Refusal::CutRecord);
     }
     let mut known = true;
     let mut few = true;
@@ -28,31 +30,32 @@ fn bytes_number(pack: &[u8]) -> u8
         at += size + 4;
     }
     if !known {
-        return 21;
+        return Err(Refusal::UnknownRecord);
     }
-    if few { 0 } else { 2 }
+    if !few {
+        return Err(Refusal::TooLong);
+    }
+    Ok(())
 }
 
 // "then 2 and 3, with 16 from P1 after 3"
-pub(crate) fn pack_number(
+pub(crate) fn check_pack(
     settings: Settings,
     pack: &[u8],
     cells: &[u8],
     layer: &[u8],
     shown: &[u8],
     dots: &[u8],
-) -> u8
-    ensures { result ≡ first_of (reasons (terminal settings cells.now layer.now dots.now shown.now) (Asked.pack pack.now)) }
+) -> Result<(), Refusal>
+    ensures { check_number result ≡ first_of (reasons (terminal settings cells.now layer.now dots.now shown.now) (Asked.pack pack.now)) }
 {
-    if !stores_sized(cells, layer, shown, dots) {
-        return 1;
-    }
-    let number = bytes_number(pack);
-    if number != 0 {
-        return number;
-    }
+    check_stores(cells, layer, shown, dots)?;
+    check_bytes(pack)?;
     if !soundness::sound(settings) {
-        return 3;
+        return Err(Refusal::Unsound);
     }
-    if settings.held == 0 { 0 } else { 16 }
+    if settings.held != 0 {
+        return Err(Refusal::BytesWait);
+    }
+    Ok(())
 }

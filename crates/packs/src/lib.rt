@@ -6,9 +6,9 @@ mod sending;
 
 ghost use Rattle.calls.specs.Calls.{PackPromised};
 
-use checking::pack_number;
+use checking::check_pack;
 use model::{PackOutcome, Settings};
-use numbers::refusal;
+use numbers::refused;
 use sending::send_each;
 
 // "One call on a pack up to 60,000 bytes must equal its messages sent one by one": each in the printer room that those before left over; or refused by 1, 19,
@@ -24,9 +24,8 @@ pub fn pack(
 ) -> PackOutcome
     ensures { PackPromised settings pack.now cells.old layer.old dots.old shown.old printer.old result cells.new layer.new dots.new shown.new printer.new }
 {
-    let number = pack_number(settings, pack, cells, layer, shown, dots);
-    if number != 0 {
-        let answer = refusal(number);
+    if let Err(refusal) = check_pack(settings, pack, cells, layer, shown, dots) {
+        let answer = refused(refusal);
         return PackOutcome {
             settings,
             answer,

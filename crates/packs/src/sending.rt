@@ -1,26 +1,23 @@
 // The messages of a pack that was judged, one after the other.
-ghost use Rattle.std.specs.Prelude.{◌≡◌, cond, eqb};
+ghost use Rattle.std.specs.Prelude.{◌≡◌, cond, eqb, is_some, None, Some};
 ghost use Rattle.calls.specs.Calls.{Asked, PackPromised, first_of, reasons, terminal};
 
 use counting::no_counts;
-use model::{PackOutcome, Settings};
-use numbers::refusal;
+use model::{Answer, PackOutcome, Settings};
 use records::length_at;
 use serving::serve_from;
 use stream_parts::together;
 
-// "the first refusal with its record": the record found so far, after message `number` with so many refusals, those before having so many.
-fn record_then(before: u32, own: u32, number: u32, found: u32) -> u32
-    ensures { result ≡ cond (eqb before 0) (cond (eqb own 0) found number) found }
+// "the first refusal with its record": the record found so far, after message `number` with so many refusals.
+fn record_then(own: u32, number: u32, found: Option<u32>) -> Option<u32>
+    ensures { result ≡ cond (is_some found) found (cond (eqb own 0) None (Some number)) }
 {
-    if before != 0 {
-        return found;
-    }
-    if own == 0 { found } else { number }
+    found.or((own != 0).then_some(number))
 }
 
 // "the printer bytes of each following those before, each having the room left over": each body is served with what is left of the printer buffer. None is
 // judged again: what a message leaves is sound, and nothing waits. Only the last paints: nobody sees the glass inside a call.
+// From record to record as in checking.
 pub(crate) fn send_each(
     settings: Settings,
     pack: &[u8],
@@ -34,8 +31,8 @@ pub(crate) fn send_each(
     ensures { PackPromised settings pack.now cells.old layer.old dots.old shown.old printer.old result cells.new layer.new dots.new shown.new printer.new }
 {
     let mut s = settings;
-    let mut answer = refusal(0);
-    let mut found = 0;
+    let mut answer = Answer::default();
+    let mut found = None;
     let mut number = 0;
     let mut at = 0;
     while at < pack.len() {
@@ -56,7 +53,7 @@ pub(crate) fn send_each(
             &mut printer[used..],
         );
         number += 1;
-        found = record_then(answer.refused, out.answer.refused, number, found);
+        found = record_then(out.answer.refused, number, found);
         answer = together(answer, out.answer, 0);
         s = out.settings;
         at = end;
@@ -64,6 +61,6 @@ pub(crate) fn send_each(
     PackOutcome {
         settings: s,
         answer,
-        record: found,
+        record: found.unwrap_or(0),
     }
 }

@@ -16,7 +16,7 @@ use applying::places::{placed, selected_place};
 use counting::{answer_of, no_counts};
 use ground::Frame;
 use model::{Item, Outcome, Place, Settings};
-use numbers::{call_number, refusal};
+use numbers::{check_message, refused};
 use short_printing::print_line;
 use short_serving::serve;
 
@@ -33,9 +33,10 @@ pub fn message_short(
 ) -> Outcome
     ensures { ShortPromised message.now (terminal settings cells.old layer.old dots.old shown.old) printer.old result.answer (terminal result.settings cells.new layer.new dots.new shown.new) printer.new }
 {
-    let number = call_number(settings, message, cells, layer, shown, dots);
-    if number != 0 {
-        let answer = refusal(number);
+    // a copy is judged: lent to the check, the settings that are served would lie in memory (320 instructions a call)
+    let given = settings;
+    if let Err(refusal) = check_message(&given, message, cells, layer, shown, dots) {
+        let answer = refused(refusal);
         return Outcome { settings, answer };
     }
     let place = selected_place(settings);

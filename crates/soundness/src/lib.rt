@@ -119,8 +119,8 @@ fn alone(kind: u8, display: u8, p: Place) -> bool
 }
 
 // screen 2: a cursor and a window, or in mode 3 the place of none; `less` is H less one
-fn second(settings: Settings, less: u8) -> bool
-    ensures { less + 1 ≡ height settings → result ≡ second? settings }
+fn second(settings: &Settings, less: u8) -> bool
+    ensures { less + 1 ≡ height settings.now → result ≡ second? settings.now }
 {
     let place = settings.places[1];
     if settings.mode == 3 {
@@ -179,8 +179,8 @@ fn keys_in_range(kind: u8, keys: Keys) -> bool
 }
 
 // the modes' table, asked of settings
-pub fn shaped(settings: Settings) -> bool
-    ensures { result ≡ in_ranges? (shape_ranges settings.mode settings.lines1 settings.lines2 settings.columns1 settings.columns2) }
+pub fn shaped(settings: &Settings) -> bool
+    ensures { result ≡ in_ranges? (shape_ranges settings.now.mode settings.now.lines1 settings.now.lines2 settings.now.columns1 settings.now.columns2) }
 {
     shape(
         settings.mode,
@@ -192,8 +192,8 @@ pub fn shaped(settings: Settings) -> bool
 }
 
 // "cursors and windows are inside their screens, and step is 1 to H"; and the selection
-pub fn placed(settings: Settings) -> bool
-    ensures { result ≡ (in_ranges? (other_ranges (screens settings) settings.selected settings.step (height settings)) && (inside? settings 0 && second? settings)) }
+pub fn placed(settings: &Settings) -> bool
+    ensures { result ≡ (in_ranges? (other_ranges (screens settings.now) settings.now.selected settings.now.step (height settings.now)) && (inside? settings.now 0 && second? settings.now)) }
 {
     let height = tables::height_of(settings.mode, settings.display);
     let less = height - 1;
@@ -211,7 +211,8 @@ pub fn placed(settings: Settings) -> bool
     other & (one & two)
 }
 
-// every setting whose range depends on no other; the arrays' lengths are those of their types
+// every setting whose range depends on no other; the arrays' lengths are those of their types. By value: of settings lent a proof does not know the length of
+// `places`, so the second clause does not close.
 pub fn stored(settings: Settings) -> bool
     ensures { (result ≡ in_ranges? (plain_ranges settings)) × (in_ranges? (array_ranges settings) ≡ true) }
 {
@@ -242,8 +243,8 @@ fn marked_in(lines: u8, number: u64) -> bool
 }
 
 // the marks of both screens
-pub fn marked(settings: Settings) -> bool
-    ensures { result ≡ (marks? settings 0 && marks? settings 1) }
+pub fn marked(settings: &Settings) -> bool
+    ensures { result ≡ (marks? settings.now 0 && marks? settings.now 1) }
 {
     let first = settings.marks[0];
     let second = settings.marks[1];
@@ -256,11 +257,11 @@ pub fn marked(settings: Settings) -> bool
 pub fn sound(settings: Settings) -> bool
     ensures { result ≡ sound? settings }
 {
-    let shaped = shaped(settings);
-    let placed = placed(settings);
+    let shaped = shaped(&settings);
+    let placed = placed(&settings);
     let stored = stored(settings);
     let waiting = settings.waiting;
     let lined = unfinished::sound(waiting, settings.held, settings.count);
-    let marked = marked(settings);
+    let marked = marked(&settings);
     shaped & (placed & stored & marked & lined)
 }

@@ -4,8 +4,8 @@
 ghost use Rattle.calls.specs.Calls.{Promised, closed, terminal};
 
 use model::{Outcome, Settings};
-use numbers::refusal;
-use stream_parts::{closing_number, counted_from, lined, quieted};
+use numbers::refused;
+use stream_parts::{check_closing, counted_from, lined, quieted};
 use terminal::message;
 
 // The closing: a message call of the bytes that waited, which then are forgotten, and the count. None of them is an ESC P: it needs no room.
@@ -18,9 +18,8 @@ pub fn closing(
 ) -> Outcome
     ensures { Promised (closed (terminal settings cells.old layer.old dots.old shown.old) result.answer (terminal result.settings cells.new layer.new dots.new shown.new)) }
 {
-    let number = closing_number(settings, cells, layer, shown, dots);
-    if number != 0 {
-        let answer = refusal(number);
+    if let Err(refusal) = check_closing(settings, cells, layer, shown, dots) {
+        let answer = refused(refusal);
         return Outcome { settings, answer };
     }
     let held = settings.held as usize;
@@ -35,6 +34,7 @@ pub fn closing(
         dots,
         &mut none,
     );
+    // by its number: an answer is the C interface's struct, which carries no Result
     if one.answer.number != 0 {
         let answer = one.answer;
         return Outcome { settings, answer };

@@ -36,6 +36,7 @@ pub fn divided(
         dots,
         printer,
     );
+    // by its number: an answer is the C interface's struct, which carries no Result
     if one.answer.number != 0 {
         let answer = one.answer;
         return Outcome { settings, answer };

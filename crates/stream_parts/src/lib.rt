@@ -3,12 +3,13 @@
 
 ghost use Rattle.std.specs.Prelude.{◌≡◌, true, ◌+◌, ◌^◌, ◌<◌, ◌≤◌, leb, length, replicate};
 ghost use Rattle.calls.specs.Calls.{terminal};
+ghost use Rattle.model.specs.Refusals.{check_number};
 ghost use Rattle.model.specs.Line.{padded};
 ghost use Rattle.model.specs.State.{with_line};
 ghost use Rattle.stream_parts.specs.Parts.{Addable, both_of, closing_number, counted_from, line_number};
 
-use model::{Answer, Settings};
-use numbers::stores_sized;
+use model::{Answer, MESSAGE, Refusal, Settings};
+use numbers::check_stores;
 
 // Whether a piece can be read at once: none waits, it is not too long, and the count stays below its limit whatever its length.
 pub fn plain(held: u8, length: usize, count: u32) -> bool
@@ -17,31 +18,33 @@ pub fn plain(held: u8, length: usize, count: u32) -> bool
     (held == 0) & (length <= 4096) & (count <= 999995904)
 }
 
-// What a piece is refused by; 0 where only the rest of its settings can still be at fault, which a message call judges.
-pub fn line_number(
+// What a piece is refused by; nothing where only the rest of its settings can still be at fault, which a message call judges.
+pub fn check_line(
     settings: Settings,
     piece: &[u8],
     cells: &[u8],
     layer: &[u8],
     shown: &[u8],
     dots: &[u8],
-) -> u8
-    ensures { result ≡ line_number (terminal settings cells.now layer.now dots.now shown.now) piece.now }
+) -> Result<(), Refusal>
+    ensures { check_number result ≡ line_number (terminal settings cells.now layer.now dots.now shown.now) piece.now }
 {
-    if !stores_sized(cells, layer, shown, dots) {
-        return 1;
-    }
-    if piece.len() > 4096 {
-        return 2;
+    check_stores(cells, layer, shown, dots)?;
+    if piece.len() > MESSAGE {
+        return Err(Refusal::TooLong);
     }
     let waiting = settings.waiting;
     if !unfinished::sound(waiting, settings.held, settings.count) {
-        return 3;
+        return Err(Refusal::Unsound);
     }
     if in_count(settings.count, piece.len()) {
-        return 0;
+        return Ok(());
     }
-    if soundness::sound(settings) { 15 } else { 3 }
+    if soundness::sound(settings) {
+        Err(Refusal::StreamTooLong)
+    } else {
+        Err(Refusal::Unsound)
+    }
 }
 
 // Whether so many bytes more are in the stream's limit.
@@ -53,23 +56,21 @@ fn in_count(count: u32, size: usize) -> bool
 }
 
 // And the closing.
-pub fn closing_number(
+pub fn check_closing(
     settings: Settings,
     cells: &[u8],
     layer: &[u8],
     shown: &[u8],
     dots: &[u8],
-) -> u8
-    ensures { result ≡ closing_number (terminal settings cells.now layer.now dots.now shown.now) }
+) -> Result<(), Refusal>
+    ensures { check_number result ≡ closing_number (terminal settings cells.now layer.now dots.now shown.now) }
 {
-    if !stores_sized(cells, layer, shown, dots) {
-        return 1;
-    }
+    check_stores(cells, layer, shown, dots)?;
     let waiting = settings.waiting;
     if unfinished::sound(waiting, settings.held, settings.count) {
-        0
+        Ok(())
     } else {
-        3
+        Err(Refusal::Unsound)
     }
 }
 

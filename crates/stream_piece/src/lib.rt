@@ -4,10 +4,10 @@
 ghost use Rattle.calls.specs.Calls.{PiecePromised};
 
 use model::{Outcome, Settings};
-use numbers::refusal;
+use numbers::refused;
 use stream_divided::divided;
 use stream_joined::joined;
-use stream_parts::{counted_from, line_number, lined, plain};
+use stream_parts::{check_line, counted_from, lined, plain};
 use terminal::message;
 
 // A piece of a stream: the first of its items is joined with the bytes that waited, and what it does not finish waits.
@@ -27,6 +27,7 @@ pub fn piece(
     }
     let end = unfinished::whole_end(piece);
     let mut out = message(settings, &piece[..end], cells, layer, shown, dots, printer);
+    // by its number: an answer is the C interface's struct, which carries no Result
     if out.answer.number != 0 {
         return out;
     }
@@ -57,9 +58,8 @@ fn behind(
 ) -> Outcome
     ensures { PiecePromised settings piece.now cells.old layer.old dots.old shown.old printer.old result cells.new layer.new dots.new shown.new printer.new }
 {
-    let number = line_number(settings, piece, cells, layer, shown, dots);
-    if number != 0 {
-        let answer = refusal(number);
+    if let Err(refusal) = check_line(settings, piece, cells, layer, shown, dots) {
+        let answer = refused(refusal);
         return Outcome { settings, answer };
     }
     if piece.len() <= 52 {

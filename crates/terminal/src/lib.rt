@@ -6,8 +6,8 @@ mod opened;
 ghost use Rattle.calls.specs.Calls.{KeyPromised, Promised, called, terminal};
 ghost use Rattle.calls.specs.Opening.{OpeningPromised, PartPromised};
 
-use model::{Opened, Outcome, Settings};
-use numbers::{call_number, key_number, opening_number, refusal};
+use model::{Answer, Opened, Outcome, Settings};
+use numbers::{check_key, check_message, check_opening, refused};
 use opened::opened_settings;
 
 // "It blanks (32) all cells and the shown screen, and zeroes the layer", P11: and the dots; P9: it "takes the rule". Or it is refused by 1 or 23, and nothing is
@@ -21,22 +21,19 @@ pub fn opening(
 ) -> Opened
     ensures { OpeningPromised rule cells.old layer.old dots.old shown.old result.settings result.number cells.new layer.new dots.new shown.new }
 {
-    let refused = opening_number(rule, cells, layer, shown, dots);
-    if refused == 0 {
-        store::fill(cells, 32);
-        store::fill(layer, 0);
-        store::fill(shown, 32);
-        dots::wipe(dots);
-        let settings = opened_settings(rule as u8);
+    if let Err(refusal) = check_opening(rule, cells, layer, shown, dots) {
         return Opened {
-            settings,
-            number: refused,
+            settings: opened_settings(1),
+            number: refusal.into(),
         };
     }
-    let settings = opened_settings(1);
+    store::fill(cells, 32);
+    store::fill(layer, 0);
+    store::fill(shown, 32);
+    dots::wipe(dots);
     Opened {
-        settings,
-        number: refused,
+        settings: opened_settings(rule as u8),
+        number: 0,
     }
 }
 
@@ -52,12 +49,12 @@ pub fn message(
 ) -> Outcome
     ensures { Promised (called message.now (terminal settings cells.old layer.old dots.old shown.old) printer.old result.answer (terminal result.settings cells.new layer.new dots.new shown.new) printer.new) }
 {
-    let number = call_number(settings, message, cells, layer, shown, dots);
-    if number == 0 {
-        serving::serve(settings, message, cells, layer, shown, dots, printer)
-    } else {
-        let answer = refusal(number);
-        Outcome { settings, answer }
+    match check_message(&settings, message, cells, layer, shown, dots) {
+        Ok(()) => serving::serve(settings, message, cells, layer, shown, dots, printer),
+        Err(refusal) => {
+            let answer = refused(refusal);
+            Outcome { settings, answer }
+        }
     }
 }
 
@@ -66,9 +63,8 @@ pub fn message(
 pub fn key(settings: Settings, number: usize, text: &[u8]) -> Outcome
     ensures { KeyPromised number text.now settings result.answer result.settings }
 {
-    let refused = key_number(settings, number, text);
-    let answer = refusal(refused);
-    if refused != 0 {
+    if let Err(refusal) = check_key(settings, number, text) {
+        let answer = refused(refusal);
         return Outcome { settings, answer };
     }
     let mut texts = settings.texts;
@@ -77,7 +73,7 @@ pub fn key(settings: Settings, number: usize, text: &[u8]) -> Outcome
     s.texts = texts;
     Outcome {
         settings: s,
-        answer,
+        answer: Answer::default(),
     }
 }
 

@@ -1,7 +1,8 @@
--- Any number but 0: nothing altered. A message within the line is one run, printed at once; any other goes through the loop.
+-- Refused: nothing altered. A message within the line is one run, printed at once; any other goes through the loop.
 use mathlib.Core.Path.{◌∙◌, ap, sym}
 use native.Mathlib.Omega.{arith}
 use lib.ListN.{length}
+use Rattle.model.proofs.RefusalLaws.{not_0}
 use Rattle.model.proofs.Keep.{chosen}
 use Rattle.counting.specs.Counting.{answer_at}
 use Rattle.terminal.proofs.Answers.{servable}
@@ -9,64 +10,64 @@ use Rattle.short_serving.proofs.Ends.{visible}
 use Rattle.short.proofs.Promises.{line_first, line_served, line_visible, short_refused, short_served}
 use Rattle.short.proofs.message_short.Goals as goal
 
-pub returns-then-number-ne0 : goal.returns-then-number-ne0
-returns-then-number-ne0 c =
+pub returns-in-Err : goal.returns-in-Err
+returns-in-Err c =
     let a = c.args in
-    short_refused a.settings a.message.now a.cells.now a.layer.now a.dots.now a.shown.now a.printer.now c.call_number-number.result _ c.call_number-number.ensures (λ e. omega (arith, e)) c.refusal-answer.ensures
+    short_refused a.settings a.message.now a.cells.now a.layer.now a.dots.now a.shown.now a.printer.now _ _ c.in-Err.ensures (not_0 _) c.refused-answer.ensures
 
 pub selected_place-place-requires : goal.selected_place-place-requires
 selected_place-place-requires c =
     let a = c.args in
-    let able = servable a.settings a.message.now a.cells.now a.layer.now a.dots.now a.shown.now (sym c.call_number-number.ensures ∙ omega arith) in
+    let able = servable a.settings a.message.now a.cells.now a.layer.now a.dots.now a.shown.now (sym c.in_default.ensures) in
     chosen _ able.good.sound
 
 pub frame_of-frame-requires : goal.frame_of-frame-requires
 frame_of-frame-requires c =
     let a = c.args in
-    let able = servable a.settings a.message.now a.cells.now a.layer.now a.dots.now a.shown.now (sym c.call_number-number.ensures ∙ omega arith) in
+    let able = servable a.settings a.message.now a.cells.now a.layer.now a.dots.now a.shown.now (sym c.in_default.ensures) in
     able.good.sound
 
 pub in_line-requires : goal.in_line-requires
 in_line-requires c =
     let a = c.args in
-    let able = servable a.settings a.message.now a.cells.now a.layer.now a.dots.now a.shown.now (sym c.call_number-number.ensures ∙ omega arith) in
+    let able = servable a.settings a.message.now a.cells.now a.layer.now a.dots.now a.shown.now (sym c.in_default.ensures) in
     (line_first a.settings a.message.now a.cells.now a.layer.now a.dots.now a.shown.now a.printer.now able c.frame_of-frame.ensures c.selected_place-place.ensures).loop.ready.stands
 
 pub serve-requires : goal.serve-requires
 serve-requires c =
     let a = c.args in
-    servable a.settings a.message.now a.cells.now a.layer.now a.dots.now a.shown.now (sym c.call_number-number.ensures ∙ omega arith)
+    servable a.settings a.message.now a.cells.now a.layer.now a.dots.now a.shown.now (sym c.in_default.ensures)
 
 pub returns-then-not-in_line : goal.returns-then-not-in_line
 returns-then-not-in_line c =
     let a = c.args in
-    short_served a.settings a.message.now a.cells.now a.layer.now a.dots.now a.shown.now a.printer.now c.serve.result _ _ _ _ _ (sym c.call_number-number.ensures ∙ omega arith) c.serve.ensures
+    short_served a.settings a.message.now a.cells.now a.layer.now a.dots.now a.shown.now a.printer.now c.serve.result _ _ _ _ _ (sym c.in_default.ensures) c.serve.ensures
 
 -- within the line
 pub print_line-next-requires : goal.print_line-next-requires
 print_line-next-requires c =
     let a = c.args in
-    let able = servable a.settings a.message.now a.cells.now a.layer.now a.dots.now a.shown.now (sym c.call_number-number.ensures ∙ omega arith) in
+    let able = servable a.settings a.message.now a.cells.now a.layer.now a.dots.now a.shown.now (sym c.in_default.ensures) in
     let l = c.in_line.ensures c.if-not-in_line.false in
     record { ready = (line_first a.settings a.message.now a.cells.now a.layer.now a.dots.now a.shown.now a.printer.now able c.frame_of-frame.ensures c.selected_place-place.ensures).loop.ready; reads = l.seen; le_count = (l.some, (l.room, omega arith)); shown_len = able.shown_are }
 
 pub paint_row_8-requires : goal.paint_row_8-requires
 paint_row_8-requires c =
     let a = c.args in
-    let able = servable a.settings a.message.now a.cells.now a.layer.now a.dots.now a.shown.now (sym c.call_number-number.ensures ∙ omega arith) in
+    let able = servable a.settings a.message.now a.cells.now a.layer.now a.dots.now a.shown.now (sym c.in_default.ensures) in
     let seen = line_visible a.settings a.message.now a.cells.now a.layer.now a.dots.now a.shown.now a.printer.now able c.frame_of-frame.ensures c.selected_place-place.ensures (c.in_line.ensures c.if-not-in_line.false) c.print_line-next.ensures in
     record { sound = visible a.settings c.print_line-next.result seen.0.sound c.placed-places.ensures; sizes = (seen.0.cells_are, (seen.0.layer_are, seen.1)) }
 
 pub answer_of-answer-requires : goal.answer_of-answer-requires
 answer_of-answer-requires c =
     let a = c.args in
-    let able = servable a.settings a.message.now a.cells.now a.layer.now a.dots.now a.shown.now (sym c.call_number-number.ensures ∙ omega arith) in
+    let able = servable a.settings a.message.now a.cells.now a.layer.now a.dots.now a.shown.now (sym c.in_default.ensures) in
     omega (arith, able.sendable)
 
 pub returns : goal.returns
 returns c =
     let a = c.args in
-    let able = servable a.settings a.message.now a.cells.now a.layer.now a.dots.now a.shown.now (sym c.call_number-number.ensures ∙ omega arith) in
-    short_served a.settings a.message.now a.cells.now a.layer.now a.dots.now a.shown.now a.printer.now _ _ _ _ _ _ (sym c.call_number-number.ensures ∙ omega arith)
+    let able = servable a.settings a.message.now a.cells.now a.layer.now a.dots.now a.shown.now (sym c.in_default.ensures) in
+    short_served a.settings a.message.now a.cells.now a.layer.now a.dots.now a.shown.now a.printer.now _ _ _ _ _ _ (sym c.in_default.ensures)
     (line_served a.settings a.message.now a.cells.now a.layer.now a.dots.now a.shown.now a.printer.now able c.frame_of-frame.ensures c.selected_place-place.ensures (c.in_line.ensures c.if-not-in_line.false) c.print_line-next.ensures c.placed-places.ensures
     (c.answer_of-answer.ensures ∙ ap (answer_at (length a.message.now)) c.no_counts.ensures) c.paint_row_8.ensures)

@@ -8,11 +8,11 @@ use Rattle.soundness.proofs.placed.Goals as goal
 
 pub overflow_sub-less : goal.overflow_sub-less
 overflow_sub-less c =
-    let s = c.args.settings in omega (arith, height_low s, c.height_of-height.ensures s refl refl)
+    let s = c.args.settings.now in omega (arith, height_low s, c.height_of-height.ensures s refl refl)
 
 pub returns : goal.returns
 returns c =
-    let s = c.args.settings in
+    let s = c.args.settings.now in
     let n = c.height_of-height.result in
     let e = c.height_of-height.ensures s refl refl in
     λ i. (c.chosen-other.ensures ∙ step_of s n e (c.screens_of-screens.ensures s refl)) i && ((c.inside-one.ensures ∙ first_of_lem s n e) i && c.second-two.ensures (tall s n e) i)

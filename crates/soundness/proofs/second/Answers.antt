@@ -5,8 +5,8 @@ use Rattle.soundness.proofs.second.Goals as goal
 
 pub returns-then-settings-eq3 : goal.returns-then-settings-eq3
 returns-then-settings-eq3 c e =
-    c.alone.ensures ∙ second_alone c.args.settings c.if-settings-eq3.true
+    c.alone.ensures ∙ second_alone c.args.settings.now c.if-settings-eq3.true
 
 pub returns : goal.returns
 returns c e =
-    c.inside.ensures ∙ second_of c.args.settings _ e c.if-settings-eq3.false
+    c.inside.ensures ∙ second_of c.args.settings.now _ e c.if-settings-eq3.false

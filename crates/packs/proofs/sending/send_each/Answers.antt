@@ -1,15 +1,16 @@
 -- The loop's invariant (proofs/Turns): what was sent and what is left are together the whole call. A turn is one message more.
 use mathlib.Core.Path.{ap, refl, subst, sym}
-use Prim.Native.Nat.{◌+◌, ◌-◌, ◌≤◌}
+use Prim.Native.Nat.{◌+◌, ◌≤◌}
 use native.Mathlib.Omega.{arith}
 use Rattle.counting.specs.declared.Counts.{Counts}
 use Rattle.calls.proofs.Printing.{buffer_length}
+use Rattle.numbers.proofs.Blanks.{blank}
 use Rattle.packs.proofs.Turns.{addable, again, begin, end, going_length, numbers, record_fits, servable}
 use Rattle.packs.proofs.sending.send_each.Goals as goal
 
 pub loop-at-init : goal.loop-at-init
 loop-at-init c =
-    begin _ _ _ _ _ _ _ c.requires c.refusal-answer.ensures
+    begin _ _ _ _ _ _ _ c.requires (blank c.default-answer.result c.default-answer.ensures)
 
 -- where a record begins: all of it is there
 pub overflow_add-start : goal.overflow_add-start
@@ -78,7 +79,7 @@ shape_of-dots c = let h =
 -- the end
 pub returns : goal.returns
 returns c =
-    end _ _ _ _ _ _ _ c.loop-at.invariant c.loop-at-test.false
+    rw c.unwrap_or.ensures (end _ _ _ _ _ _ _ c.loop-at.invariant c.loop-at-test.false)
 
 pub shape_of-printer : goal.shape_of-printer
 shape_of-printer c =

@@ -1,8 +1,6 @@
--- `bytes_number`: each test of the whole pack is what was found so far and the same test of what is left (proofs/Walking); then by the four tests, in their order.
+-- `check_bytes`: each test of the whole pack is what was found so far and the same test of what is left (proofs/Walking); then by the four tests, in their order.
 use mathlib.Core.Path.{◌∙◌, refl, sym}
-use Prim.Native.Nat.{◌-◌}
 use native.Mathlib.Omega.{arith}
-use mathlib.Core.Bool.{true}
 use lib.ListN.{length}
 use borrow.Author.Tests.{le-leb, lt-leb}
 use Rattle.model.specs.Records.{Record}
@@ -10,7 +8,7 @@ use Rattle.calls.specs.Packs.{known?}
 use Rattle.calls.specs.Calls.{known_in, packable, sendable, sendable_in}
 use Rattle.packs.proofs.Walking.{behind, fits, known_on, over, sendable_on}
 use Rattle.packs.proofs.Numbers.{bytes_numbered}
-use Rattle.packs.proofs.checking.bytes_number.Goals as goal
+use Rattle.packs.proofs.checking.check_bytes.Goals as goal
 
 pub returns-then-pack-gt-PACK : goal.returns-then-pack-gt-PACK
 unfolding packable
@@ -67,20 +65,20 @@ returns-then-not-known c =
     (c.loop-at.invariant.1.0 ∙ over p c.loop-at.at known? c.loop-at.known past) (c.loop-at.invariant.1.1 ∙ over p c.loop-at.at (λ (r : Record). sendable r.body) c.loop-at.few past) in
     sym (walked ∙ rw c.if-not-known.true)
 
-pub returns-then-few : goal.returns-then-few
+pub returns-then-not-few : goal.returns-then-not-few
 unfolding packable
-returns-then-few c =
+returns-then-not-few c =
     let p = c.args.pack.now in
     let past = c.loop-at-test.false in
     let walked = bytes_numbered p (le-leb (length p) 60000 (omega arith)) (sym c.uncut.ensures ∙ c.if-not-uncut.false)
     (c.loop-at.invariant.1.0 ∙ over p c.loop-at.at known? c.loop-at.known past) (c.loop-at.invariant.1.1 ∙ over p c.loop-at.at (λ (r : Record). sendable r.body) c.loop-at.few past) in
-    sym (walked ∙ rw (c.if-not-known.false, c.if-few.true))
+    sym (walked ∙ rw (c.if-not-known.false, c.if-not-few.true))
 
-pub returns-else-few : goal.returns-else-few
+pub returns : goal.returns
 unfolding packable
-returns-else-few c =
+returns c =
     let p = c.args.pack.now in
     let past = c.loop-at-test.false in
     let walked = bytes_numbered p (le-leb (length p) 60000 (omega arith)) (sym c.uncut.ensures ∙ c.if-not-uncut.false)
     (c.loop-at.invariant.1.0 ∙ over p c.loop-at.at known? c.loop-at.known past) (c.loop-at.invariant.1.1 ∙ over p c.loop-at.at (λ (r : Record). sendable r.body) c.loop-at.few past) in
-    sym (walked ∙ rw (c.if-not-known.false, c.if-few.false))
+    sym (walked ∙ rw (c.if-not-known.false, c.if-not-few.false))
