@@ -8,8 +8,6 @@ pub mod places;
 
 ghost use Rattle.std.specs.Prelude.{◌≡◌, ◌*◌, ◌<◌};
 
-use store::sizes::as_size;
-
 // Of the selected screen: its first cell, which screen it is (0 or 1), its lines and columns; the rows of the shown screen that show text and the window's height H; by
 // how many columns the picture shows it further right (mode 2, screen 2); the step of the window, whether it tracks the cursor, the rule of the last column, and
 // the mode, which no function here asks.
@@ -30,9 +28,16 @@ pub struct Frame {
     pub bare: bool,
 }
 
+// Which way lines move.
+#[derive(Clone, Copy)]
+pub enum Way {
+    Up,
+    Down,
+}
+
 // As many lines of so many columns as cells.
 pub fn times(x: u8, y: u8) -> usize
     ensures { (result ≡ x * y) × (result < 65536) }
 {
-    as_size(x) * as_size(y)
+    usize::from(x) * usize::from(y)
 }

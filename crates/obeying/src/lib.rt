@@ -52,10 +52,9 @@ pub fn obey_item(
     size: usize,
     cells: &mut [u8],
     layer: &mut [u8],
-    marks: &mut [u64],
+    marks: &mut [u64; 2],
 ) -> Run
     requires ready { Ready frame place cells.old layer.old }
-    requires marks_len { length marks.old ≡ 2 }
     requires offered { Offered message.now at size item (limits_in frame) }
     ensures { Moves message.now at size item frame place result cells.old layer.old marks.old cells.new layer.new marks.new }
 {

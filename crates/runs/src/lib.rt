@@ -10,7 +10,6 @@ ghost use Rattle.runs.specs.Run.{Fitting, Part, Ran, WholeRun, all_print?, print
 use cursor::window;
 use ground::{Frame, lines, places};
 use model::Place;
-use store::sizes::{as_size, lesser};
 
 // Printable bytes are looked for in blocks of so many, and behind one that prints in long blocks.
 const BLOCK: usize = 16;
@@ -101,7 +100,7 @@ fn fitting(frame: Frame, place: Place, count: usize) -> usize
     if window::misses(frame, place) {
         1
     } else {
-        lesser(count, as_size(frame.columns - place.column) + 1)
+        count.min(usize::from(frame.columns - place.column) + 1)
     }
 }
 
@@ -115,10 +114,9 @@ fn print_line(
     end: usize,
     cells: &mut [u8],
     layer: &mut [u8],
-    marks: &mut [u64],
+    marks: &mut [u64; 2],
 ) -> Run
     requires ready { Ready frame place cells.old layer.old }
-    requires marks_len { length marks.old ≡ 2 }
     requires at_lt_end { (at < end) × (end ≤ length message.now) }
     ensures { Part message.now at end frame place result cells.old layer.old marks.old cells.new layer.new marks.new }
 {
@@ -146,15 +144,14 @@ fn print_part(
     end: usize,
     cells: &mut [u8],
     layer: &mut [u8],
-    marks: &mut [u64],
+    marks: &mut [u64; 2],
 ) -> Run
     requires ready { Ready frame place cells.old layer.old }
-    requires marks_len { length marks.old ≡ 2 }
     requires at_lt_end { (at < end) × (end ≤ length message.now) }
     ensures { Part message.now at end frame place result cells.old layer.old marks.old cells.new layer.new marks.new }
 {
     let count = end - at;
-    if (as_size(frame.columns - place.column) < count) | window::misses(frame, place) {
+    if (usize::from(frame.columns - place.column) < count) | window::misses(frame, place) {
         print_line(frame, place, message, at, end, cells, layer, marks)
     } else {
         let next = print_chunk(frame, place, message, at, count, cells, layer);
@@ -173,10 +170,9 @@ pub fn print_run(
     at: usize,
     cells: &mut [u8],
     layer: &mut [u8],
-    marks: &mut [u64],
+    marks: &mut [u64; 2],
 ) -> Run
     requires ready { Ready frame place cells.old layer.old }
-    requires marks_len { length marks.old ≡ 2 }
     requires at_value { prints? message.now at ≡ true }
     ensures { Ran message.now at frame place result cells.old layer.old marks.old cells.new layer.new marks.new }
 {

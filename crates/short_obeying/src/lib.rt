@@ -80,10 +80,10 @@ pub fn obey_item(
     cells: &mut [u8],
     layer: &mut [u8],
     shown: &mut [u8],
-    marks: &mut [u64],
+    marks: &mut [u64; 2],
 ) -> Seen
     requires ready { Ready frame place cells.old layer.old }
-    requires marks_len { (length marks.old ≡ 2) × (length shown.old ≡ 640) }
+    requires shown_len { length shown.old ≡ 640 }
     requires offered { Offered message.now at size item (limits_in frame) }
     ensures { (Moves message.now at size item frame place (run_of result) cells.old layer.old marks.old cells.new layer.new marks.new) × (Watches message.now at item frame place secret result cells.old layer.old marks.old shown.old shown.new) }
 {
@@ -116,10 +116,9 @@ fn obey(
     size: usize,
     cells: &mut [u8],
     layer: &mut [u8],
-    marks: &mut [u64],
+    marks: &mut [u64; 2],
 ) -> Seen
     requires ready { Ready frame place cells.old layer.old }
-    requires marks_len { length marks.old ≡ 2 }
     requires offered { (Offered message.now at size item (limits_in frame)) × (printing? item ≡ false) }
     ensures { (Moves message.now at size item frame place (run_of result) cells.old layer.old marks.old cells.new layer.new marks.new) × ((secret : ℕ) (shown : List ℕ) → length shown ≡ 640 → SeesItem item frame place secret result.wide cells.old layer.old marks.old shown shown) }
 {

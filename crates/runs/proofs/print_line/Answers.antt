@@ -47,7 +47,7 @@ right-right-requires c =
     let a = c.args in
     let w = c.late_step-first.ensures in
     let laid = line_laid w a.message.now a.at a.end c.fitting-count.result c.fitting-count.ensures c.requires.at_lt_end.1 c.cell-from.ensures c.copy_in.ensures c.uncover.ensures c.further-last.ensures in
-    record { ready = laid.ready; marks_len = w.marks_are }
+    record { ready = laid.ready }
 
 pub track-next-requires : goal.track-next-requires
 track-next-requires c =
@@ -65,10 +65,6 @@ pub shape_of-layer : goal.shape_of-layer
 shape_of-layer c =
     let after = c.track-next.ensures c.args.cells.now c.requires.ready.cells_are in
     search (rules, after.ready.layer_are.size, c.requires.ready.layer_are.size)
-
-pub shape_of-marks : goal.shape_of-marks
-shape_of-marks c =
-    search (rules, c.right-right.ensures.marks_are, c.requires.marks_len)
 
 pub returns : goal.returns
 returns c =

@@ -3,6 +3,7 @@
 use mathlib.Core.Path.{ap}
 use mathlib.Core.Bool.{Bool, ◌&&◌, not}
 use lib.Dec.{eqb, ltb}
+use borrow.Author.Rules.{rules}
 use Rattle.model.specs.Rules.{printed}
 use Rattle.ground.proofs.Carried.{then_with}
 use Rattle.short_printing.proofs.Seeing.{sees_one}
@@ -15,7 +16,7 @@ returns c =
     let first = c.late_step-first in
     let next = c.print_here-next in (
       then_with first.ensures next.ensures,
-      sees_one first.ensures next.ensures c.requires.marks_len.1
+      sees_one first.ensures next.ensures c.requires.shown_len
           (ap (λ (b : Bool). eqb c.args.place.late 1 && b) c.lowest.ensures)
           (ap (λ (b : Bool). not (ltb first.result.column f.columns) && (not (eqb f.rule 2) && b)) c.lowest-2.ensures) c.shown.ensures c.paint_code.ensures,
     )
