@@ -13,7 +13,7 @@ ghost use Rattle.cursor.specs.Uncovers.{Uncovers};
 use ground::{Frame, lines, logical, marks, places};
 use model::{Place, SHOWN};
 
-// The place that shows the cursor's cell, or 640 for none. Only in mode 1 is the window taller than the rows: the lines behind
+// The place that shows the cursor's cell, or 640 for none, as the rules say it (`shown_at`). Only in mode 1 is the window taller than the rows: the lines behind
 // those stand in the right half.
 pub fn shown(frame: Frame, place: Place) -> usize
     requires { Stands frame place }

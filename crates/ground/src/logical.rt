@@ -102,7 +102,7 @@ fn runs(frame: Frame, line: u8, marks: &[u64; 2]) -> bool
     (line < frame.lines) & ((number >> (line - 1)) % 2 != 0)
 }
 
-// "The first unmarked line at or after" a line.
+// "The first unmarked line at or after" a line. A `for` was tried: mixed-200 took 1.05 of its time.
 pub(crate) fn end_of(frame: Frame, line: u8, marks: &[u64; 2]) -> u8
     requires le_line { (1 ≤ line) × ((line ≤ frame.lines) × (frame.lines ≤ 48)) }
     requires screen_bound { frame.screen < 2 }

@@ -27,11 +27,7 @@ pub struct Run {
 fn prints(message: &[u8], at: usize) -> bool
     ensures { result ≡ prints? message.now at }
 {
-    if at < message.len() {
-        message[at] >= 32
-    } else {
-        false
-    }
+    message.get(at).copied().unwrap_or(0) >= 32
 }
 
 // Whether so many bytes are there, and all print. The loop never stops early, so that a compiler tests them all at once.
@@ -43,15 +39,13 @@ fn block_prints(message: &[u8], at: usize, size: usize) -> bool
         return false;
     }
     let mut all = true;
-    let mut k = 0;
-    while k < size {
+    for k in 0..size {
         all = all & (message[at + k] >= 32);
-        k += 1;
     }
     all
 }
 
-// Where the run that begins at an offset ends: at the first byte that does not print, or behind the last of the message.
+// Where the run that begins at an offset ends: at the first byte that does not print, or behind the last of the message. No range gives its steps of 16, 128 and 1.
 pub fn run_end(message: &[u8], at: usize) -> usize
     requires { prints? message.now at ≡ true }
     ensures { WholeRun message.now at result }

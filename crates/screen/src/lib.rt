@@ -163,21 +163,21 @@ pub fn obey_sequence(
 pub fn on_screen(q: Sequence) -> bool
     ensures { result ≡ on_screen? q }
 {
-    match q {
-        Sequence::PrintCode(_) => true,
-        Sequence::Clear => true,
-        Sequence::Put { line: _, column: _ } => true,
-        Sequence::EraseLine => true,
-        Sequence::EraseRest => true,
-        Sequence::LinesUp { from: _, count: _ } => true,
-        Sequence::LinesDown { from: _, count: _ } => true,
-        Sequence::WindowUp => true,
-        Sequence::WindowDown => true,
-        Sequence::WindowTop => true,
-        Sequence::WindowBottom => true,
-        Sequence::WindowCursor => true,
-        _ => false,
-    }
+    matches!(
+        q,
+        Sequence::PrintCode(_)
+            | Sequence::Clear
+            | Sequence::Put { .. }
+            | Sequence::EraseLine
+            | Sequence::EraseRest
+            | Sequence::LinesUp { .. }
+            | Sequence::LinesDown { .. }
+            | Sequence::WindowUp
+            | Sequence::WindowDown
+            | Sequence::WindowTop
+            | Sequence::WindowBottom
+            | Sequence::WindowCursor
+    )
 }
 
 // 61: "bytes m+31, n+31".

@@ -1,7 +1,6 @@
 -- `print_line` meets its contract: behind the step that waited as many bytes as the line has room for are laid down, and then comes the rest of
 -- the last one's rule.
 use mathlib.Core.Path.{refl}
-use Prim.Native.Nat.{◌-◌}
 use native.Mathlib.Omega.{arith}
 use borrow.Author.Rules.{rules}
 use Rattle.ground.proofs.Cells.{cell_room}

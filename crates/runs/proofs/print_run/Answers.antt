@@ -1,5 +1,4 @@
 -- `print_run`: the bytes from `at` up to i were printed, part by part.
-use Prim.Native.Nat.{◌-◌}
 use native.Mathlib.Omega.{arith}
 use borrow.Author.Rules.{rules}
 use Rattle.runs.proofs.Runs.{along_all, along_none, along_part}

@@ -1,10 +1,9 @@
 -- The loop's invariant (proofs/Turns): what is left of the message gives the same end, and the frame and the place are those of what
 -- stands. Each way through the loop is one turn of it.
 use mathlib.Core.Path.{◌∙◌, ap, sym}
-use Prim.Native.Nat.{◌-◌, ◌<◌}
+use Prim.Native.Nat.{◌<◌}
 use native.Mathlib.Omega.{arith}
 use mathlib.Core.Bool.{cond}
-use borrow.Author.Rules.{rules}
 use Rattle.model.specs.declared.Settings.{Settings}
 use Rattle.model.specs.State.{state}
 use Rattle.model.specs.Picture.{painting}

@@ -6,7 +6,6 @@ use native.Mathlib.Omega.{arith}
 use mathlib.Core.List.{List, [], ◌∷◌}
 use lib.Dec.{eqb}
 use borrow.Enum.Refused.{opened}
-use borrow.Author.Rules.{rules}
 use Rattle.model.specs.declared.Item.{Item}
 use Rattle.model.proofs.Cases.{none_passes}
 use Rattle.ground.specs.Frame.{limits_in}

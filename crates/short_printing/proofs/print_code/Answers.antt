@@ -3,7 +3,6 @@
 use mathlib.Core.Path.{ap}
 use mathlib.Core.Bool.{Bool, ◌&&◌, not}
 use lib.Dec.{eqb, ltb}
-use borrow.Author.Rules.{rules}
 use Rattle.model.specs.Rules.{printed}
 use Rattle.ground.proofs.Carried.{then_with}
 use Rattle.short_printing.proofs.Seeing.{sees_one}

@@ -1,6 +1,5 @@
 -- `lines::erase_line` meets its contract: the line where it ends is the first unmarked one, which is one of the screen's.
 use native.Mathlib.Omega.{arith}
-use borrow.Author.Rules.{rules}
 use Rattle.model.proofs.MarkLaws.{end_high, end_low}
 use Rattle.ground.proofs.Regions.{erased_line}
 use Rattle.ground.proofs.lines.erase_line.Goals as goal
