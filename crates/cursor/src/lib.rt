@@ -3,7 +3,7 @@
 
 pub mod window;
 
-ghost use Rattle.std.specs.Prelude.{◌≡◌, length, ◌-◌, ◌≤◌, max};
+ghost use Rattle.std.specs.Prelude.{◌≡◌, ◌-◌, ◌≤◌, max};
 ghost use Rattle.model.specs.Rules.{late_step, stored, down, onward, right};
 ghost use Rattle.ground.specs.Frame.{LayerOf, Ready, Stands};
 ghost use Rattle.ground.specs.Acts.{Acts, ActsWith, Reads};
@@ -12,9 +12,8 @@ ghost use Rattle.cursor.specs.Uncovers.{Uncovers};
 
 use ground::{Frame, lines, logical, marks, places};
 use model::{Place, SHOWN};
-use store::sizes::as_size;
 
-// The place that shows the cursor's cell, or 640 for none. Only in mode 1 is the window taller than the rows: the lines behind
+// The place that shows the cursor's cell, or 640 for none, as the rules say it (`shown_at`). Only in mode 1 is the window taller than the rows: the lines behind
 // those stand in the right half.
 pub fn shown(frame: Frame, place: Place) -> usize
     requires { Stands frame place }
@@ -25,10 +24,10 @@ pub fn shown(frame: Frame, place: Place) -> usize
     }
     let row = place.line - place.top;
     if row < frame.rows {
-        return as_size(row) * 80 + as_size(place.column - 1) + as_size(frame.shift);
+        return usize::from(row) * 80 + usize::from(place.column - 1) + usize::from(frame.shift);
     }
     if row < frame.height {
-        return as_size(row - frame.rows) * 80 + as_size(place.column) + 40;
+        return usize::from(row - frame.rows) * 80 + usize::from(place.column) + 40;
     }
     SHOWN
 }
@@ -59,7 +58,7 @@ pub fn store(frame: Frame, place: Place, code: u8, cells: &mut [u8], layer: &mut
 pub fn before(column: u8) -> u8
     ensures { result ≡ max 1 (column - 1) }
 {
-    if 1 < column { column - 1 } else { 1 }
+    column.saturating_sub(1).max(1)
 }
 
 // "One line down"; below the last line the screen is lifted. Either way the cursor is put anew and is not late, and there is a line above
@@ -69,10 +68,9 @@ pub fn down(
     place: Place,
     cells: &mut [u8],
     layer: &mut [u8],
-    marks: &mut [u64],
+    marks: &mut [u64; 2],
 ) -> Place
     requires ready { Ready frame place cells.old layer.old }
-    requires marks_len { length marks.old ≡ 2 }
     ensures { (ActsWith down frame place result cells.old layer.old marks.old cells.new layer.new marks.new) × (2 ≤ result.line) }
 {
     if place.line < frame.lines {
@@ -89,10 +87,9 @@ pub fn right(
     place: Place,
     cells: &mut [u8],
     layer: &mut [u8],
-    marks: &mut [u64],
+    marks: &mut [u64; 2],
 ) -> Place
     requires ready { Ready frame place cells.old layer.old }
-    requires marks_len { length marks.old ≡ 2 }
     ensures { ActsWith right frame place result cells.old layer.old marks.old cells.new layer.new marks.new }
 {
     if place.column < frame.columns {
@@ -110,10 +107,9 @@ pub fn late_step(
     place: Place,
     cells: &mut [u8],
     layer: &mut [u8],
-    marks: &mut [u64],
+    marks: &mut [u64; 2],
 ) -> Place
     requires ready { Ready frame place cells.old layer.old }
-    requires marks_len { length marks.old ≡ 2 }
     ensures { ActsWith late_step frame place result cells.old layer.old marks.old cells.new layer.new marks.new }
 {
     if place.late == 1 {
@@ -130,10 +126,9 @@ fn onward(
     place: Place,
     cells: &mut [u8],
     layer: &mut [u8],
-    marks: &mut [u64],
+    marks: &mut [u64; 2],
 ) -> Place
     requires ready { Ready frame place cells.old layer.old }
-    requires marks_len { length marks.old ≡ 2 }
     ensures { ActsWith onward frame place result cells.old layer.old marks.old cells.new layer.new marks.new }
 {
     let first = places::put_at(place, place.line, 1);

@@ -35,11 +35,7 @@ fn hold(frame: Frame, place: Place, top: u8) -> u8
     requires { Stands frame place }
     ensures { Top (held top) frame place result }
 {
-    let last = most(frame);
-    if last < top {
-        return last;
-    }
-    if top < 1 { 1 } else { top }
+    top.min(most(frame)).max(1)
 }
 
 // 150: "top less by step".
@@ -47,11 +43,7 @@ pub fn less(frame: Frame, place: Place) -> u8
     requires { Stands frame place }
     ensures { Top earlier frame place result }
 {
-    if frame.step < place.top {
-        hold(frame, place, place.top - frame.step)
-    } else {
-        hold(frame, place, 0)
-    }
+    hold(frame, place, place.top.saturating_sub(frame.step))
 }
 
 // 151: "or more by step".
@@ -67,12 +59,7 @@ pub fn centre(frame: Frame, place: Place) -> u8
     requires { Stands frame place }
     ensures { Top centred frame place result }
 {
-    let half = frame.height / 2;
-    if half < place.line {
-        hold(frame, place, place.line - half)
-    } else {
-        hold(frame, place, 0)
-    }
+    hold(frame, place, place.line.saturating_sub(frame.height / 2))
 }
 
 // "By the least amount": the nearest top that shows the cursor's line.

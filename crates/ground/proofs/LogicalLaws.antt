@@ -14,7 +14,7 @@ use lib.Dec.{eqb, leb, ltb}
 use borrow.Author.Tests.{eq-eqb, eqb-false, eqb-true, le-leb, le-ltb, leb-false, leb-true, lt-leb, lt-ltb, ltb-false, ltb-true, ne_eqb}
 use Rattle.model.specs.Marks.{end_of, end_unmarked, mark_in, marks_down, marks_up, running, running_on, unmarked_from}
 use Rattle.model.proofs.Numbering.{bit_down, bit_low, bit_new, bit_off, bit_or_lem, bit_up}
-use Rattle.model.proofs.Tests.{cond_at, differ}
+use Rattle.model.proofs.Tests.{differ}
 use Rattle.ground.specs.Logical.{Remarks}
 
 -- the mark of a line in what was moved: below the first bit that it has there, and from that on

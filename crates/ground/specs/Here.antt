@@ -2,7 +2,7 @@
 use Rattle.std.specs.Prelude.{ℕ, ◌+◌, ◌-◌, ◌*◌, Bool, ◌&&◌, eqb}
 use Rattle.model.specs.declared.Place.{Place}
 use Rattle.model.specs.State.{State}
-use Rattle.model.specs.Screens.{here, lines_here, columns_here, height, cell_at}
+use Rattle.model.specs.Screens.{here, lines_here, height, cell_at}
 use Rattle.model.specs.Rules.{shown_at, held, missed}
 use Rattle.ground.specs.declared.Frame.{Frame}
 

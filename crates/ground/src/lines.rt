@@ -1,6 +1,5 @@
 // The lines of the selected screen: moved, cleared and blanked. Each empties the layer.
-ghost use Rattle.std.specs.Prelude.{◌≡◌, cond, ◌+◌, ◌≤◌, length};
-ghost use Rattle.model.specs.Bytes.{scrolled_up, scrolled_down};
+ghost use Rattle.std.specs.Prelude.{◌≡◌, ◌+◌, ◌≤◌};
 ghost use Rattle.model.specs.State.{State};
 ghost use Rattle.model.specs.Screens.{columns_here, here, lines_here};
 ghost use Rattle.model.specs.Marks.{end_of};
@@ -8,30 +7,24 @@ ghost use Rattle.model.specs.Rules.{blank_from, cleared, erased, lifted, marks_h
 ghost use Rattle.ground.specs.Frame.{Ready, Stands};
 ghost use Rattle.ground.specs.Acts.{Acts, ActsWith, except_dots};
 ghost use Rattle.ground.specs.Here.{cell_in};
-ghost use Rattle.ground.specs.Logical.{carried};
+ghost use Rattle.ground.specs.Logical.{carried, scrolled};
 
-use super::{Frame, logical, marks, places, times};
+use super::{Frame, Way, logical, marks, places, times};
 use model::Place;
-use store::sizes::as_size;
 
 // The cursor's cell.
 pub fn cell(frame: Frame, place: Place) -> usize
     requires { Stands frame place }
     ensures { result ≡ cell_in frame place }
 {
-    frame.base + times(place.line - 1, frame.columns) + as_size(place.column - 1)
+    frame.base + times(place.line - 1, frame.columns) + usize::from(place.column - 1)
 }
-
-// Which way lines move.
-pub const UP: bool = false;
-
-pub const DOWN: bool = true;
 
 // "Within lines a+1 to a+m, contents move up or down by one": line a+1 is lost and line a+m is blank, or the other way round.
 fn scroll(
     frame: Frame,
     place: Place,
-    down: bool,
+    way: Way,
     from: u8,
     count: u8,
     cells: &mut [u8],
@@ -39,47 +32,44 @@ fn scroll(
 )
     requires ready { Ready frame place cells.old layer.old }
     requires le_count { (1 ≤ count) × (from + count ≤ frame.lines) }
-    ensures { Acts (λ (st : State). on_lines from count (cond down scrolled_down scrolled_up (columns_here st)) st) frame place place cells.old layer.old cells.new layer.new }
+    ensures { Acts (λ (st : State). on_lines from count (scrolled way (columns_here st)) st) frame place place cells.old layer.old cells.new layer.new }
 {
     let start = frame.base + times(from, frame.columns);
     let size = times(count, frame.columns);
-    let width = as_size(frame.columns);
+    let width = usize::from(frame.columns);
     marks::empty(frame, layer);
-    if down {
-        store::scroll_down(cells, start, size, width);
-    } else {
-        store::scroll_up(cells, start, size, width);
+    match way {
+        Way::Up => store::scroll_up(cells, start, size, width),
+        Way::Down => store::scroll_down(cells, start, size, width),
     }
 }
 
 // A lift: the whole screen goes up, and its marks with it, which are moved first: it was a little quicker so.
-pub fn lift(frame: Frame, place: Place, cells: &mut [u8], layer: &mut [u8], marks: &mut [u64])
+pub fn lift(frame: Frame, place: Place, cells: &mut [u8], layer: &mut [u8], marks: &mut [u64; 2])
     requires ready { Ready frame place cells.old layer.old }
-    requires marks_len { length marks.old ≡ 2 }
     ensures { ActsWith lifted frame place place cells.old layer.old marks.old cells.new layer.new marks.new }
 {
-    logical::carry(frame, UP, 0, frame.lines, marks);
-    scroll(frame, place, UP, 0, frame.lines, cells, layer);
+    logical::carry(frame, Way::Up, 0, frame.lines, marks);
+    scroll(frame, place, Way::Up, 0, frame.lines, cells, layer);
 }
 
 // 144, 145: "marks move with lines; the blank line, the line above the region (if any) and the region's last two lines .. end unmarked".
 pub fn shift(
     frame: Frame,
     place: Place,
-    down: bool,
+    way: Way,
     from: u8,
     count: u8,
     cells: &mut [u8],
     layer: &mut [u8],
-    marks: &mut [u64],
+    marks: &mut [u64; 2],
 )
     requires ready { Ready frame place cells.old layer.old }
-    requires marks_len { length marks.old ≡ 2 }
     requires le_count { (1 ≤ count) × (from + count ≤ frame.lines) }
-    ensures { ActsWith (λ (st : State). shifted from count (cond down scrolled_down scrolled_up (columns_here st)) (carried down from count) st) frame place place cells.old layer.old marks.old cells.new layer.new marks.new }
+    ensures { ActsWith (λ (st : State). shifted from count (scrolled way (columns_here st)) (carried way from count) st) frame place place cells.old layer.old marks.old cells.new layer.new marks.new }
 {
-    scroll(frame, place, down, from, count, cells, layer);
-    logical::carry(frame, down, from, count, marks);
+    scroll(frame, place, way, from, count, cells, layer);
+    logical::carry(frame, way, from, count, marks);
     logical::unmark_ends(frame, from, count, marks);
 }
 
@@ -89,10 +79,9 @@ pub fn clear(
     place: Place,
     cells: &mut [u8],
     layer: &mut [u8],
-    marks: &mut [u64],
+    marks: &mut [u64; 2],
 ) -> Place
     requires ready { Ready frame place cells.old layer.old }
-    requires marks_len { length marks.old ≡ 2 }
     ensures { ActsWith (except_dots cleared) frame place result cells.old layer.old marks.old cells.new layer.new marks.new }
 {
     store::blank(cells, frame.base, times(frame.lines, frame.columns));
@@ -119,23 +108,27 @@ fn erase_through(
     to: u8,
     cells: &mut [u8],
     layer: &mut [u8],
-    marks: &mut [u64],
+    marks: &mut [u64; 2],
 )
     requires ready { Ready frame place cells.old layer.old }
-    requires marks_len { length marks.old ≡ 2 }
     requires line_le_to { (place.line ≤ to) × (to ≤ frame.lines) }
     ensures { ActsWith (erased to) frame place place cells.old layer.old marks.old cells.new layer.new marks.new }
 {
     let below = times(to - place.line, frame.columns);
-    let count = below + (as_size(frame.columns) + 1 - as_size(place.column));
+    let count = below + (usize::from(frame.columns) + 1 - usize::from(place.column));
     blank_from(frame, place, count, cells, layer);
     logical::unmark(frame, place.line, to, marks);
 }
 
 // 84: "blanks through the first unmarked line at or after the cursor's".
-pub fn erase_line(frame: Frame, place: Place, cells: &mut [u8], layer: &mut [u8], marks: &mut [u64])
+pub fn erase_line(
+    frame: Frame,
+    place: Place,
+    cells: &mut [u8],
+    layer: &mut [u8],
+    marks: &mut [u64; 2],
+)
     requires ready { Ready frame place cells.old layer.old }
-    requires marks_len { length marks.old ≡ 2 }
     ensures { ActsWith (λ (st : State). erased (end_of (marks_here st) (lines_here st) (here st).line) st) frame place place cells.old layer.old marks.old cells.new layer.new marks.new }
 {
     let to = logical::end_of(frame, place.line, marks);
@@ -143,9 +136,14 @@ pub fn erase_line(frame: Frame, place: Place, cells: &mut [u8], layer: &mut [u8]
 }
 
 // 89: "to the end of the screen".
-pub fn erase_rest(frame: Frame, place: Place, cells: &mut [u8], layer: &mut [u8], marks: &mut [u64])
+pub fn erase_rest(
+    frame: Frame,
+    place: Place,
+    cells: &mut [u8],
+    layer: &mut [u8],
+    marks: &mut [u64; 2],
+)
     requires ready { Ready frame place cells.old layer.old }
-    requires marks_len { length marks.old ≡ 2 }
     ensures { ActsWith (λ (st : State). erased (lines_here st) st) frame place place cells.old layer.old marks.old cells.new layer.new marks.new }
 {
     erase_through(frame, place, frame.lines, cells, layer, marks);

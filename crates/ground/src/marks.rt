@@ -7,7 +7,6 @@ ghost use Rattle.ground.specs.Spots.{empty_from};
 
 use super::Frame;
 use model::SHOWN;
-use store::sizes::lesser;
 
 // "Empties the whole layer."
 pub fn empty(frame: Frame, layer: &mut [u8])
@@ -43,7 +42,7 @@ pub fn empty_from(frame: Frame, shown: usize, count: usize, layer: &mut [u8])
         return;
     }
     if shown < SHOWN {
-        let n = lesser(count, SHOWN - shown);
+        let n = count.min(SHOWN - shown);
         zero(layer, shown, n);
         zero(layer, SHOWN + shown, n);
     }

@@ -1,4 +1,4 @@
-// A place of the selected screen made from another: the only functions that name every field of it.
+// A place of the selected screen made from another.
 ghost use Rattle.std.specs.Prelude.{◌≡◌, ◌+◌, ◌≤◌};
 ghost use Rattle.ground.specs.Spots.{further_by};
 ghost use Rattle.model.specs.State.{home, put_at, top_at, late_at};
@@ -10,10 +10,10 @@ pub fn put_at(place: Place, line: u8, column: u8) -> Place
     ensures { result ≡ put_at line column place }
 {
     Place {
-        line: line,
-        column: column,
-        top: place.top,
+        line,
+        column,
         late: 0,
+        ..place
     }
 }
 
@@ -23,10 +23,8 @@ pub fn further(place: Place, count: u8) -> Place
     ensures { result ≡ further_by count place }
 {
     Place {
-        line: place.line,
         column: place.column + count,
-        top: place.top,
-        late: place.late,
+        ..place
     }
 }
 
@@ -34,24 +32,14 @@ pub fn further(place: Place, count: u8) -> Place
 pub fn top_at(place: Place, top: u8) -> Place
     ensures { result ≡ top_at top place }
 {
-    Place {
-        line: place.line,
-        column: place.column,
-        top: top,
-        late: place.late,
-    }
+    Place { top, ..place }
 }
 
 // P9: "sets the screen's waiting flag".
 pub fn late_at(place: Place) -> Place
     ensures { result ≡ late_at place }
 {
-    Place {
-        line: place.line,
-        column: place.column,
-        top: place.top,
-        late: 1,
-    }
+    Place { late: 1, ..place }
 }
 
 // "Cursor home, top 1."

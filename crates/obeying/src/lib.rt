@@ -52,10 +52,9 @@ pub fn obey_item(
     size: usize,
     cells: &mut [u8],
     layer: &mut [u8],
-    marks: &mut [u64],
+    marks: &mut [u64; 2],
 ) -> Run
     requires ready { Ready frame place cells.old layer.old }
-    requires marks_len { length marks.old ≡ 2 }
     requires offered { Offered message.now at size item (limits_in frame) }
     ensures { Moves message.now at size item frame place result cells.old layer.old marks.old cells.new layer.new marks.new }
 {
@@ -99,7 +98,7 @@ fn clears(item: Item) -> bool
 fn is_clear(q: Sequence) -> bool
     ensures { result ≡ eqb (code_of q) 42 }
 {
-    if let Sequence::Clear = q { true } else { false }
+    matches!(q, Sequence::Clear)
 }
 
 // What is known of the layer after an item: it is empty (true), or nothing is known of it.
@@ -119,27 +118,16 @@ fn bare_then(mode: u8, q: Sequence, bare: bool) -> bool
     ensures { result ≡ bare_then mode (Item.Sequence q) bare }
 {
     match q {
-        Sequence::Cover {
-            row: _,
-            column: _,
-            code: _,
-        } => false,
-        Sequence::Clear => true,
-        Sequence::EraseLine => true,
-        Sequence::EraseRest => true,
-        Sequence::LinesUp { from: _, count: _ } => true,
-        Sequence::LinesDown { from: _, count: _ } => true,
-        Sequence::Mode0 {
-            lines1: _,
-            lines2: _,
-        } => true,
-        Sequence::Mode1 { lines: _ } => true,
-        Sequence::Mode2 {
-            lines: _,
-            columns: _,
-            boundary: _,
-        } => true,
-        Sequence::Mode3 => true,
+        Sequence::Cover { .. } => false,
+        Sequence::Clear
+        | Sequence::EraseLine
+        | Sequence::EraseRest
+        | Sequence::LinesUp { .. }
+        | Sequence::LinesDown { .. }
+        | Sequence::Mode0 { .. }
+        | Sequence::Mode1 { .. }
+        | Sequence::Mode2 { .. }
+        | Sequence::Mode3 => true,
         Sequence::Select(_) => (mode != 3) | bare,
         _ => bare,
     }

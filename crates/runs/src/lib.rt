@@ -10,7 +10,6 @@ ghost use Rattle.runs.specs.Run.{Fitting, Part, Ran, WholeRun, all_print?, print
 use cursor::window;
 use ground::{Frame, lines, places};
 use model::Place;
-use store::sizes::{as_size, lesser};
 
 // Printable bytes are looked for in blocks of so many, and behind one that prints in long blocks.
 const BLOCK: usize = 16;
@@ -28,11 +27,7 @@ pub struct Run {
 fn prints(message: &[u8], at: usize) -> bool
     ensures { result ≡ prints? message.now at }
 {
-    if at < message.len() {
-        message[at] >= 32
-    } else {
-        false
-    }
+    message.get(at).copied().unwrap_or(0) >= 32
 }
 
 // Whether so many bytes are there, and all print. The loop never stops early, so that a compiler tests them all at once.
@@ -44,15 +39,13 @@ fn block_prints(message: &[u8], at: usize, size: usize) -> bool
         return false;
     }
     let mut all = true;
-    let mut k = 0;
-    while k < size {
+    for k in 0..size {
         all = all & (message[at + k] >= 32);
-        k += 1;
     }
     all
 }
 
-// Where the run that begins at an offset ends: at the first byte that does not print, or behind the last of the message.
+// Where the run that begins at an offset ends: at the first byte that does not print, or behind the last of the message. No range gives its steps of 16, 128 and 1.
 pub fn run_end(message: &[u8], at: usize) -> usize
     requires { prints? message.now at ≡ true }
     ensures { WholeRun message.now at result }
@@ -101,7 +94,7 @@ fn fitting(frame: Frame, place: Place, count: usize) -> usize
     if window::misses(frame, place) {
         1
     } else {
-        lesser(count, as_size(frame.columns - place.column) + 1)
+        count.min(usize::from(frame.columns - place.column) + 1)
     }
 }
 
@@ -115,10 +108,9 @@ fn print_line(
     end: usize,
     cells: &mut [u8],
     layer: &mut [u8],
-    marks: &mut [u64],
+    marks: &mut [u64; 2],
 ) -> Run
     requires ready { Ready frame place cells.old layer.old }
-    requires marks_len { length marks.old ≡ 2 }
     requires at_lt_end { (at < end) × (end ≤ length message.now) }
     ensures { Part message.now at end frame place result cells.old layer.old marks.old cells.new layer.new marks.new }
 {
@@ -146,15 +138,14 @@ fn print_part(
     end: usize,
     cells: &mut [u8],
     layer: &mut [u8],
-    marks: &mut [u64],
+    marks: &mut [u64; 2],
 ) -> Run
     requires ready { Ready frame place cells.old layer.old }
-    requires marks_len { length marks.old ≡ 2 }
     requires at_lt_end { (at < end) × (end ≤ length message.now) }
     ensures { Part message.now at end frame place result cells.old layer.old marks.old cells.new layer.new marks.new }
 {
     let count = end - at;
-    if (as_size(frame.columns - place.column) < count) | window::misses(frame, place) {
+    if (usize::from(frame.columns - place.column) < count) | window::misses(frame, place) {
         print_line(frame, place, message, at, end, cells, layer, marks)
     } else {
         let next = print_chunk(frame, place, message, at, count, cells, layer);
@@ -173,10 +164,9 @@ pub fn print_run(
     at: usize,
     cells: &mut [u8],
     layer: &mut [u8],
-    marks: &mut [u64],
+    marks: &mut [u64; 2],
 ) -> Run
     requires ready { Ready frame place cells.old layer.old }
-    requires marks_len { length marks.old ≡ 2 }
     requires at_value { prints? message.now at ≡ true }
     ensures { Ran message.now at frame place result cells.old layer.old marks.old cells.new layer.new marks.new }
 {

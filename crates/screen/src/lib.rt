@@ -3,7 +3,7 @@
 // the settings is a frame, which a caller keeps beside the selected screen's place and the marks, so that a printed byte copies no settings.
 #![tactic(auto)]
 
-ghost use Rattle.std.specs.Prelude.{◌≡◌, ◌+◌, ◌-◌, ◌<◌, eqb, length, cond, false, true};
+ghost use Rattle.std.specs.Prelude.{◌≡◌, ◌+◌, ◌-◌, ◌<◌, eqb, cond, false, true};
 ghost use Rattle.model.specs.Sound.{Sound};
 ghost use Rattle.model.specs.Checks.{InRanges};
 ghost use Rattle.model.specs.Judging.{ranges, legal?};
@@ -16,7 +16,7 @@ ghost use Rattle.model.specs.OnScreen.{on_screen?};
 ghost use Rattle.screen.specs.Obeys.{Obeys};
 
 use cursor::window;
-use ground::{Frame, lines, places, times};
+use ground::{Frame, Way, lines, places, times};
 use model::{Place, Sequence, Settings};
 
 // The frame of sound settings, under a layer that is known to be empty or not.
@@ -24,36 +24,30 @@ pub fn frame_of(settings: Settings, bare: bool) -> Frame
     requires { Sound settings }
     ensures { (FrameOf settings result) × (result.bare ≡ bare) }
 {
+    let first = Frame {
+        base: 0,
+        screen: 0,
+        lines: settings.lines1,
+        columns: settings.columns1,
+        rows: tables::text_rows(settings.display),
+        height: tables::height_of(settings.mode, settings.display),
+        shift: 0,
+        step: settings.step,
+        tracking: settings.tracking,
+        rule: settings.rule,
+        mode: settings.mode,
+        bare,
+    };
     if settings.selected == 0 {
-        Frame {
-            base: 0,
-            screen: 0,
-            lines: settings.lines1,
-            columns: settings.columns1,
-            rows: tables::text_rows(settings.display),
-            height: tables::height_of(settings.mode, settings.display),
-            shift: 0,
-            step: settings.step,
-            tracking: settings.tracking,
-            rule: settings.rule,
-            mode: settings.mode,
-            bare,
-        }
-    } else {
-        Frame {
-            base: times(settings.lines1, settings.columns1),
-            screen: 1,
-            lines: settings.lines2,
-            columns: settings.columns2,
-            rows: tables::text_rows(settings.display),
-            height: tables::height_of(settings.mode, settings.display),
-            shift: shift_of(settings.mode, settings.columns1),
-            step: settings.step,
-            tracking: settings.tracking,
-            rule: settings.rule,
-            mode: settings.mode,
-            bare,
-        }
+        return first;
+    }
+    Frame {
+        base: times(settings.lines1, settings.columns1),
+        screen: 1,
+        lines: settings.lines2,
+        columns: settings.columns2,
+        shift: shift_of(settings.mode, settings.columns1),
+        ..first
     }
 }
 
@@ -64,10 +58,9 @@ pub fn print(
     code: u8,
     cells: &mut [u8],
     layer: &mut [u8],
-    marks: &mut [u64],
+    marks: &mut [u64; 2],
 ) -> Place
     requires ready { Ready frame place cells.old layer.old }
-    requires marks_len { length marks.old ≡ 2 }
     ensures { ActsWith (printed code) frame place result cells.old layer.old marks.old cells.new layer.new marks.new }
 {
     let first = cursor::late_step(frame, place, cells, layer, marks);
@@ -81,10 +74,9 @@ pub fn print_here(
     code: u8,
     cells: &mut [u8],
     layer: &mut [u8],
-    marks: &mut [u64],
+    marks: &mut [u64; 2],
 ) -> Place
     requires ready { Ready frame place cells.old layer.old }
-    requires marks_len { length marks.old ≡ 2 }
     ensures { ActsWith (λ (st : State). tracked (right (stored code st))) frame place result cells.old layer.old marks.old cells.new layer.new marks.new }
 {
     cursor::store(frame, place, code, cells, layer);
@@ -100,10 +92,9 @@ pub fn control(
     code: u8,
     cells: &mut [u8],
     layer: &mut [u8],
-    marks: &mut [u64],
+    marks: &mut [u64; 2],
 ) -> Place
     requires ready { Ready frame place cells.old layer.old }
-    requires marks_len { length marks.old ≡ 2 }
     ensures { ActsWith (except_dots (control code)) frame place result cells.old layer.old marks.old cells.new layer.new marks.new }
 {
     match code {
@@ -133,10 +124,9 @@ pub fn obey_sequence(
     q: Sequence,
     cells: &mut [u8],
     layer: &mut [u8],
-    marks: &mut [u64],
+    marks: &mut [u64; 2],
 ) -> Place
     requires ready { Ready frame place cells.old layer.old }
-    requires marks_len { length marks.old ≡ 2 }
     requires frame_value { legal? q (limits_in frame) ≡ true }
     ensures { Obeys q frame place result cells.old layer.old marks.old cells.new layer.new marks.new }
 {
@@ -153,11 +143,11 @@ pub fn obey_sequence(
             place
         }
         Sequence::LinesUp { from, count } => {
-            lines::shift(frame, place, lines::UP, from, count, cells, layer, marks);
+            lines::shift(frame, place, Way::Up, from, count, cells, layer, marks);
             place
         }
         Sequence::LinesDown { from, count } => {
-            lines::shift(frame, place, lines::DOWN, from, count, cells, layer, marks);
+            lines::shift(frame, place, Way::Down, from, count, cells, layer, marks);
             place
         }
         Sequence::WindowUp => window::turn(frame, place, window::less(frame, place), layer),
@@ -173,21 +163,21 @@ pub fn obey_sequence(
 pub fn on_screen(q: Sequence) -> bool
     ensures { result ≡ on_screen? q }
 {
-    match q {
-        Sequence::PrintCode(_) => true,
-        Sequence::Clear => true,
-        Sequence::Put { line: _, column: _ } => true,
-        Sequence::EraseLine => true,
-        Sequence::EraseRest => true,
-        Sequence::LinesUp { from: _, count: _ } => true,
-        Sequence::LinesDown { from: _, count: _ } => true,
-        Sequence::WindowUp => true,
-        Sequence::WindowDown => true,
-        Sequence::WindowTop => true,
-        Sequence::WindowBottom => true,
-        Sequence::WindowCursor => true,
-        _ => false,
-    }
+    matches!(
+        q,
+        Sequence::PrintCode(_)
+            | Sequence::Clear
+            | Sequence::Put { .. }
+            | Sequence::EraseLine
+            | Sequence::EraseRest
+            | Sequence::LinesUp { .. }
+            | Sequence::LinesDown { .. }
+            | Sequence::WindowUp
+            | Sequence::WindowDown
+            | Sequence::WindowTop
+            | Sequence::WindowBottom
+            | Sequence::WindowCursor
+    )
 }
 
 // 61: "bytes m+31, n+31".

@@ -63,7 +63,8 @@ pub fn message_short(
     Outcome { settings, answer }
 }
 
-// Row 8, of stores that are known to have their sizes.
+// Row 8, of stores that are known to have their sizes. (Always put in where it is called: a call copies the settings, 1.2 of a short message.)
+#[inline(always)]
 fn paint_row_8(settings: Settings, top: u8, cells: &[u8], layer: &[u8], shown: &mut [u8])
     requires sound { (Sound settings) × (top ≡ (place_of settings settings.selected).top) }
     requires sizes { (length cells.now ≡ 3840) × ((length layer.now ≡ 1280) × (length shown.old ≡ 640)) }

@@ -33,39 +33,28 @@ fn stirs(frame: Frame, place: Place, item: Item) -> bool
 fn changes(q: Sequence) -> bool
     ensures { result ≡ member (code_of q) wide_codes }
 {
-    match q {
-        Sequence::Clear => true,
-        Sequence::EraseLine => true,
-        Sequence::EraseRest => true,
-        Sequence::SecretOn => true,
-        Sequence::SecretOff => true,
-        Sequence::LinesUp { from: _, count: _ } => true,
-        Sequence::LinesDown { from: _, count: _ } => true,
-        Sequence::WindowUp => true,
-        Sequence::WindowDown => true,
-        Sequence::Mode0 {
-            lines1: _,
-            lines2: _,
-        } => true,
-        Sequence::Mode1 { lines: _ } => true,
-        Sequence::Mode2 {
-            lines: _,
-            columns: _,
-            boundary: _,
-        } => true,
-        Sequence::Mode3 => true,
-        Sequence::Select(_) => true,
-        Sequence::Cover {
-            row: _,
-            column: _,
-            code: _,
-        } => true,
-        Sequence::Display(_) => true,
-        Sequence::WindowTop => true,
-        Sequence::WindowBottom => true,
-        Sequence::WindowCursor => true,
-        _ => false,
-    }
+    matches!(
+        q,
+        Sequence::Clear
+            | Sequence::EraseLine
+            | Sequence::EraseRest
+            | Sequence::SecretOn
+            | Sequence::SecretOff
+            | Sequence::LinesUp { .. }
+            | Sequence::LinesDown { .. }
+            | Sequence::WindowUp
+            | Sequence::WindowDown
+            | Sequence::Mode0 { .. }
+            | Sequence::Mode1 { .. }
+            | Sequence::Mode2 { .. }
+            | Sequence::Mode3
+            | Sequence::Select(_)
+            | Sequence::Cover { .. }
+            | Sequence::Display(_)
+            | Sequence::WindowTop
+            | Sequence::WindowBottom
+            | Sequence::WindowCursor
+    )
 }
 
 // What an item does on the selected screen, and on the shown screen. An item that does not stay moves nothing here.
@@ -80,10 +69,10 @@ pub fn obey_item(
     cells: &mut [u8],
     layer: &mut [u8],
     shown: &mut [u8],
-    marks: &mut [u64],
+    marks: &mut [u64; 2],
 ) -> Seen
     requires ready { Ready frame place cells.old layer.old }
-    requires marks_len { (length marks.old ≡ 2) × (length shown.old ≡ 640) }
+    requires shown_len { length shown.old ≡ 640 }
     requires offered { Offered message.now at size item (limits_in frame) }
     ensures { (Moves message.now at size item frame place (run_of result) cells.old layer.old marks.old cells.new layer.new marks.new) × (Watches message.now at item frame place secret result cells.old layer.old marks.old shown.old shown.new) }
 {
@@ -116,10 +105,9 @@ fn obey(
     size: usize,
     cells: &mut [u8],
     layer: &mut [u8],
-    marks: &mut [u64],
+    marks: &mut [u64; 2],
 ) -> Seen
     requires ready { Ready frame place cells.old layer.old }
-    requires marks_len { length marks.old ≡ 2 }
     requires offered { (Offered message.now at size item (limits_in frame)) × (printing? item ≡ false) }
     ensures { (Moves message.now at size item frame place (run_of result) cells.old layer.old marks.old cells.new layer.new marks.new) × ((secret : ℕ) (shown : List ℕ) → length shown ≡ 640 → SeesItem item frame place secret result.wide cells.old layer.old marks.old shown shown) }
 {

@@ -11,7 +11,6 @@ ghost use Rattle.short_printing.specs.Seen.{SeenPart, SeenRun, Sees, shown_from,
 
 use ground::Frame;
 use model::{Place, SHOWN};
-use store::sizes::lesser;
 
 // A printed character: where the cursor and the window are then, and whether it is wide.
 #[derive(Clone, Copy)]
@@ -61,7 +60,7 @@ fn paint_bytes(secret: u8, spot: usize, message: &[u8], at: usize, count: usize,
     if spot >= SHOWN {
         return;
     }
-    let n = lesser(count, SHOWN - spot);
+    let n = count.min(SHOWN - spot);
     if secret == 1 {
         let to = spot + n;
         store::fill(&mut shown[spot..to], 32);
@@ -106,10 +105,10 @@ pub fn print_code(
     cells: &mut [u8],
     layer: &mut [u8],
     shown: &mut [u8],
-    marks: &mut [u64],
+    marks: &mut [u64; 2],
 ) -> Letter
     requires ready { Ready frame place cells.old layer.old }
-    requires marks_len { (length marks.old ≡ 2) × (length shown.old ≡ 640) }
+    requires shown_len { length shown.old ≡ 640 }
     ensures { (ActsWith (printed code) frame place result.place cells.old layer.old marks.old cells.new layer.new marks.new) × (Sees (code ∷ []) frame place secret result.wide cells.old layer.old marks.old shown.old shown.new) }
 {
     let late = (place.late == 1) & lowest(frame, place);
@@ -134,14 +133,14 @@ fn print_part(
     cells: &mut [u8],
     layer: &mut [u8],
     shown: &mut [u8],
-    marks: &mut [u64],
+    marks: &mut [u64; 2],
 ) -> Seen
     requires ready { Ready frame place cells.old layer.old }
-    requires marks_len { (length marks.old ≡ 2) × (length shown.old ≡ 640) }
+    requires shown_len { length shown.old ≡ 640 }
     requires at_lt_end { (at < end) × (end ≤ length message.now) }
     ensures { SeenPart message.now at end frame place secret result cells.old layer.old marks.old shown.old cells.new layer.new marks.new shown.new }
 {
-    let count = lesser(end - at, (frame.columns - place.column) as usize);
+    let count = (end - at).min(usize::from(frame.columns - place.column));
     if (count < 1) | cursor::window::misses(frame, place) {
         let one = print_code(
             frame,
@@ -180,10 +179,10 @@ pub fn print_run(
     cells: &mut [u8],
     layer: &mut [u8],
     shown: &mut [u8],
-    marks: &mut [u64],
+    marks: &mut [u64; 2],
 ) -> Seen
     requires ready { Ready frame place cells.old layer.old }
-    requires marks_len { (length marks.old ≡ 2) × (length shown.old ≡ 640) }
+    requires shown_len { length shown.old ≡ 640 }
     requires at_value { prints? message.now at ≡ true }
     ensures { SeenRun message.now at frame place secret result cells.old layer.old marks.old shown.old cells.new layer.new marks.new shown.new }
 {

@@ -1,5 +1,6 @@
 -- `late_step` meets its contract: the step where the cursor is late, else nothing.
 use native.Mathlib.Omega.{arith}
+use borrow.Author.Rules.{rules}
 use Rattle.ground.proofs.Carried.{unmarked_acts}
 use Rattle.cursor.proofs.Moves.{late_step_steps, late_step_still}
 use Rattle.cursor.proofs.late_step.Goals as goal
@@ -10,4 +11,4 @@ returns-then-place-eq1 c =
 
 pub returns-else-place-eq1 : goal.returns-else-place-eq1
 returns-else-place-eq1 c =
-    unmarked_acts c.requires.marks_len (late_step_still c.requires.ready (λ e. omega (arith, e, c.if-place-eq1.false)))
+    unmarked_acts (search rules) (late_step_still c.requires.ready (λ e. omega (arith, e, c.if-place-eq1.false)))

@@ -5,8 +5,8 @@ use Rattle.ground.proofs.times.Goals as goal
 
 pub overflow_mul-result : goal.overflow_mul-result
 overflow_mul-result c =
-    record { fits = omega (arith, product c.as_size.ensures c.as_size-2.ensures (omega arith) (omega arith)) }
+    record { fits = omega (arith, product c.from.ensures c.from-2.ensures (omega arith) (omega arith)) }
 
 pub returns : goal.returns
 returns c =
-    product c.as_size.ensures c.as_size-2.ensures (omega arith) (omega arith)
+    product c.from.ensures c.from-2.ensures (omega arith) (omega arith)

@@ -11,11 +11,11 @@ overflow_add-next c =
 
 pub print_run-requires : goal.print_run-requires
 print_run-requires c =
-    record { ready = c.requires.ready; marks_len = c.requires.marks_len; at_value = c.requires.offered.prints (rw c.in-Printed.is) }
+    record { ready = c.requires.ready; at_value = c.requires.offered.prints (rw c.in-Printed.is) }
 
 pub obey_sequence-requires : goal.obey_sequence-requires
 obey_sequence-requires c =
-    record { ready = c.requires.ready; marks_len = c.requires.marks_len; frame_value = rw c.in-Sequence.is at c.requires.offered.legal }
+    record { ready = c.requires.ready; frame_value = rw c.in-Sequence.is at c.requires.offered.legal }
 
 pub returns-in-Printed : goal.returns-in-Printed
 returns-in-Printed c =

@@ -1,6 +1,5 @@
 -- `block_prints`: the loop's test is that of the first k bytes of the block.
 use mathlib.Core.Path.{◌∙◌, ◌≡◌, ap}
-use Prim.Native.Nat.{◌-◌}
 use native.Mathlib.Omega.{arith}
 use borrow.Author.Rules.{rules}
 use Rattle.runs.specs.Run.{all_print?}

@@ -11,4 +11,4 @@ returns-then-misses c =
 pub returns-else-misses : goal.returns-else-misses
 returns-else-misses c =
     let h = c.requires in
-    record { some = omega (arith, h.le_count, c.lesser.ensures); most = omega (arith, c.lesser.ensures); room = omega (arith, h.stands.fits, c.lesser.ensures, c.as_size.ensures); seen = λ k st e i. c.misses.ensures st e i ∙ c.if-misses.false }
+    record { some = omega (arith, h.le_count, c.min.ensures); most = omega (arith, c.min.ensures); room = omega (arith, h.stands.fits, c.min.ensures, c.from.ensures); seen = λ k st e i. c.misses.ensures st e i ∙ c.if-misses.false }

@@ -1,7 +1,6 @@
 -- `print_line` meets its contract: behind the step that waited as many bytes as the line has room for are laid down, and then comes the rest of
 -- the last one's rule.
 use mathlib.Core.Path.{refl}
-use Prim.Native.Nat.{◌-◌}
 use native.Mathlib.Omega.{arith}
 use borrow.Author.Rules.{rules}
 use Rattle.ground.proofs.Cells.{cell_room}
@@ -47,7 +46,7 @@ right-right-requires c =
     let a = c.args in
     let w = c.late_step-first.ensures in
     let laid = line_laid w a.message.now a.at a.end c.fitting-count.result c.fitting-count.ensures c.requires.at_lt_end.1 c.cell-from.ensures c.copy_in.ensures c.uncover.ensures c.further-last.ensures in
-    record { ready = laid.ready; marks_len = w.marks_are }
+    record { ready = laid.ready }
 
 pub track-next-requires : goal.track-next-requires
 track-next-requires c =
@@ -65,10 +64,6 @@ pub shape_of-layer : goal.shape_of-layer
 shape_of-layer c =
     let after = c.track-next.ensures c.args.cells.now c.requires.ready.cells_are in
     search (rules, after.ready.layer_are.size, c.requires.ready.layer_are.size)
-
-pub shape_of-marks : goal.shape_of-marks
-shape_of-marks c =
-    search (rules, c.right-right.ensures.marks_are, c.requires.marks_len)
 
 pub returns : goal.returns
 returns c =

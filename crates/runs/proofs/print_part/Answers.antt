@@ -17,15 +17,15 @@ pub print_chunk-next-requires : goal.print_chunk-next-requires
 print_chunk-next-requires c =
     let h = c.requires in
     let n = c.args.end - c.args.at in
-    let k = or_false (ltb c.as_size.result n) c.misses.result c.if-as_size-count.false in
-    let room = ltb-false c.as_size.result n k.0 in
-    record { ready = h.ready; reads = (λ st e i. c.misses.ensures st e i ∙ k.1); le_count = (omega (arith, h.at_lt_end), (omega (arith, room, c.as_size.ensures, h.ready.stands.fits), omega (arith, h.at_lt_end))) }
+    let k = or_false (ltb c.from.result n) c.misses.result c.if-from-count.false in
+    let room = ltb-false c.from.result n k.0 in
+    record { ready = h.ready; reads = (λ st e i. c.misses.ensures st e i ∙ k.1); le_count = (omega (arith, h.at_lt_end), (omega (arith, room, c.from.ensures, h.ready.stands.fits), omega (arith, h.at_lt_end))) }
 
-pub returns-then-as_size-count : goal.returns-then-as_size-count
-returns-then-as_size-count c =
+pub returns-then-from-count : goal.returns-then-from-count
+returns-then-from-count c =
     c.print_line.ensures
 
-pub returns-else-as_size-count : goal.returns-else-as_size-count
-returns-else-as_size-count c =
+pub returns-else-from-count : goal.returns-else-from-count
+returns-else-from-count c =
     let h = c.requires in
-    part_many h.marks_len h.at_lt_end.0 refl c.print_chunk-next.ensures
+    part_many (search rules) h.at_lt_end.0 refl c.print_chunk-next.ensures

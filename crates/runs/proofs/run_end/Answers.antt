@@ -1,6 +1,5 @@
 -- `run_end`: the bytes up to i print, in blocks, behind a block in long ones, and then one by one, until one does not.
 use mathlib.Core.Path.{◌∙◌, sym}
-use Prim.Native.Nat.{◌-◌}
 use native.Mathlib.Omega.{arith}
 use Rattle.runs.proofs.Runs.{all_printing, printing_more, printing_one, there}
 use Rattle.runs.proofs.run_end.Goals as goal

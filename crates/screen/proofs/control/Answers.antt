@@ -1,5 +1,6 @@
 -- `control` meets its contract: a step and the tracking for 8, 10 and 13, clearing for 12, nothing for another code.
 use native.Mathlib.Omega.{arith}
+use borrow.Author.Rules.{rules}
 use Rattle.model.specs.Rules.{control}
 use Rattle.ground.proofs.Acting.{then_above}
 use Rattle.ground.proofs.Carried.{dots_aside, then_above_with, unmarked_acts}
@@ -24,7 +25,7 @@ track-requires-in-13 c =
 pub returns-in-8 : goal.returns-in-8
 unfolding control
 returns-in-8 c =
-    rw c.in-8.is (dots_aside (unmarked_acts c.requires.marks_len (then_above (back_acts c.requires.ready c.before-in-8.ensures c.put_at-next.ensures) c.track.ensures)))
+    rw c.in-8.is (dots_aside (unmarked_acts (search rules) (then_above (back_acts c.requires.ready c.before-in-8.ensures c.put_at-next.ensures) c.track.ensures)))
 
 pub returns-in-10 : goal.returns-in-10
 unfolding control
@@ -34,7 +35,7 @@ returns-in-10 c =
 pub returns-in-13 : goal.returns-in-13
 unfolding control
 returns-in-13 c =
-    rw c.in-13.is (dots_aside (unmarked_acts c.requires.marks_len (then_above (column_acts c.requires.ready 1 (omega arith) (omega arith) c.put_at-next-in-13.ensures) c.track-in-13.ensures)))
+    rw c.in-13.is (dots_aside (unmarked_acts (search rules) (then_above (column_acts c.requires.ready 1 (omega arith) (omega arith) c.put_at-next-in-13.ensures) c.track-in-13.ensures)))
 
 pub returns-in-12 : goal.returns-in-12
 unfolding control
@@ -44,4 +45,4 @@ returns-in-12 c =
 pub returns-in_default : goal.returns-in_default
 unfolding control
 returns-in_default c =
-    let n = c.in_default.in_default-own.rest in dots_aside (unmarked_acts c.requires.marks_len (no_code c.args.code c.requires.ready n.0.0.0.1 n.0.0.1 n.0.1 n.1))
+    let n = c.in_default.in_default-own.rest in dots_aside (unmarked_acts (search rules) (no_code c.args.code c.requires.ready n.0.0.0.1 n.0.0.1 n.0.1 n.1))

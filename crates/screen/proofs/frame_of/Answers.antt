@@ -17,9 +17,9 @@ returns-then-settings-eq0 c =
     let k = c.if-settings-eq0.true in let s = c.args.settings in
     (frame c.requires (rw k) (rw k) (rw k) (rw k) (c.height_of.ensures s refl refl) (shift_first s k) (c.text_rows.ensures.0 s refl) refl refl refl refl, refl)
 
-pub returns-else-settings-eq0 : goal.returns-else-settings-eq0
+pub returns : goal.returns
 unfolding base columns_of lines_of
-returns-else-settings-eq0 c =
+returns c =
     let s = c.args.settings in
     let k : s.selected ≡ 1 = omega (arith, chosen s c.requires) in
-    (frame c.requires (rw k) (rw k) (rw k c.times.ensures.0) (rw k) (c.height_of-else-settings-eq0.ensures s refl refl) (c.shift_of.ensures ∙ shift_second s k) (c.text_rows-else-settings-eq0.ensures.0 s refl) refl refl refl refl, refl)
+    (frame c.requires (rw k) (rw k) (rw k c.times.ensures.0) (rw k) (c.height_of.ensures s refl refl) (c.shift_of.ensures ∙ shift_second s k) (c.text_rows.ensures.0 s refl) refl refl refl refl, refl)

@@ -2,6 +2,7 @@
 -- window are idle in mode 3; there the top has one place.
 use mathlib.Core.Path.{refl}
 use native.Mathlib.Omega.{arith}
+use borrow.Author.Rules.{rules}
 use Rattle.model.specs.Checks.{member}
 use Rattle.model.specs.Rules.{obeyed}
 use Rattle.model.specs.OnScreen.{on_screen?}
@@ -20,12 +21,12 @@ put-requires c =
 pub shift-requires : goal.shift-requires
 unfolding member obeyed on_screen?
 shift-requires c =
-    let e = ranged _ c.requires.frame_value c.in-LinesUp.is (never_idle 144 refl refl _) in record { ready = c.requires.ready; marks_len = c.requires.marks_len; le_count = (e.1.0.0.0, e.1.0.1) }
+    let e = ranged _ c.requires.frame_value c.in-LinesUp.is (never_idle 144 refl refl _) in record { ready = c.requires.ready; le_count = (e.1.0.0.0, e.1.0.1) }
 
 pub shift-requires-in-LinesDown : goal.shift-requires-in-LinesDown
 unfolding member obeyed on_screen?
 shift-requires-in-LinesDown c =
-    let e = ranged _ c.requires.frame_value c.in-LinesDown.is (never_idle 145 refl refl _) in record { ready = c.requires.ready; marks_len = c.requires.marks_len; le_count = (e.1.0.0.0, e.1.0.1) }
+    let e = ranged _ c.requires.frame_value c.in-LinesDown.is (never_idle 145 refl refl _) in record { ready = c.requires.ready; le_count = (e.1.0.0.0, e.1.0.1) }
 
 pub turn-requires-in-WindowTop : goal.turn-requires-in-WindowTop
 unfolding member obeyed on_screen?
@@ -50,7 +51,7 @@ returns-in-Clear c =
 pub returns-in-Put : goal.returns-in-Put
 unfolding member obeyed on_screen?
 returns-in-Put c =
-    obeys c.in-Put.is refl refl refl (λ m. unmarked_acts c.requires.marks_len (c.put.ensures _ c.requires.ready.cells_are))
+    obeys c.in-Put.is refl refl refl (λ m. unmarked_acts (search rules) (c.put.ensures _ c.requires.ready.cells_are))
 
 pub returns-in-EraseLine : goal.returns-in-EraseLine
 unfolding member obeyed on_screen?
@@ -75,27 +76,27 @@ returns-in-LinesDown c =
 pub returns-in-WindowUp : goal.returns-in-WindowUp
 unfolding member obeyed on_screen?
 returns-in-WindowUp c =
-    turns c.in-WindowUp.is refl refl (λ n st. refl) c.requires.ready c.requires.marks_len c.less.ensures c.turn.ensures
+    turns c.in-WindowUp.is refl refl (λ n st. refl) c.requires.ready (search rules) c.less.ensures c.turn.ensures
 
 pub returns-in-WindowDown : goal.returns-in-WindowDown
 unfolding member obeyed on_screen?
 returns-in-WindowDown c =
-    turns c.in-WindowDown.is refl refl (λ n st. refl) c.requires.ready c.requires.marks_len c.more.ensures c.turn-in-WindowDown.ensures
+    turns c.in-WindowDown.is refl refl (λ n st. refl) c.requires.ready (search rules) c.more.ensures c.turn-in-WindowDown.ensures
 
 pub returns-in-WindowTop : goal.returns-in-WindowTop
 unfolding member obeyed on_screen?
 returns-in-WindowTop c =
-    turns c.in-WindowTop.is refl refl (λ n st. refl) c.requires.ready c.requires.marks_len (first_top c.requires.ready.stands) c.turn-in-WindowTop.ensures
+    turns c.in-WindowTop.is refl refl (λ n st. refl) c.requires.ready (search rules) (first_top c.requires.ready.stands) c.turn-in-WindowTop.ensures
 
 pub returns-in-WindowBottom : goal.returns-in-WindowBottom
 unfolding member obeyed on_screen?
 returns-in-WindowBottom c =
-    turns c.in-WindowBottom.is refl refl (λ n st. refl) c.requires.ready c.requires.marks_len (greatest_top c.requires.ready.stands c.most.ensures) c.turn-in-WindowBottom.ensures
+    turns c.in-WindowBottom.is refl refl (λ n st. refl) c.requires.ready (search rules) (greatest_top c.requires.ready.stands c.most.ensures) c.turn-in-WindowBottom.ensures
 
 pub returns-in-WindowCursor : goal.returns-in-WindowCursor
 unfolding member obeyed on_screen?
 returns-in-WindowCursor c =
-    turns c.in-WindowCursor.is refl refl (λ n st. refl) c.requires.ready c.requires.marks_len c.centre.ensures c.turn-in-WindowCursor.ensures
+    turns c.in-WindowCursor.is refl refl (λ n st. refl) c.requires.ready (search rules) c.centre.ensures c.turn-in-WindowCursor.ensures
 
 pub returns-in_default : goal.returns-in_default
 unfolding member obeyed on_screen?

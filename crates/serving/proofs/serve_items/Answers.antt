@@ -4,12 +4,11 @@ use mathlib.Core.Path.{◌∙◌, ap, sym}
 use Prim.Native.Nat.{◌<◌}
 use native.Mathlib.Omega.{arith}
 use mathlib.Core.Bool.{cond}
-use borrow.Author.Rules.{rules}
 use Rattle.model.specs.declared.Settings.{Settings}
 use Rattle.model.specs.State.{state}
 use Rattle.model.specs.Picture.{painting}
 use Rattle.model.proofs.Keep.{chosen}
-use Rattle.serving.proofs.Turns.{acted, applying, begin, changed, countable, end, further, good, marks_are, offered}
+use Rattle.serving.proofs.Turns.{acted, applying, begin, changed, countable, end, further, good, offered}
 use Rattle.serving.proofs.serve_items.Goals as goal
 
 pub selected_place-place-requires : goal.selected_place-place-requires
@@ -36,13 +35,9 @@ pub count-counts-requires : goal.count-counts-requires
 count-counts-requires c =
     countable _ _ _ _ _ _ _ _ c.loop-at.invariant c.loop-at-test.true c.read_at-read.result c.read_at-read.ensures (omega (arith, c.loop-at.invariant.going.same_size, c.well_formed.1.1.1.1.1.1.1.1.1.0))
 
-pub slice_bounds-obey_item-end : goal.slice_bounds-obey_item-end
-slice_bounds-obey_item-end c =
-    search (rules, marks_are _ _ _ _ _ _ _ _ c.loop-at.invariant)
-
 pub obey_item-run-requires : goal.obey_item-run-requires
 obey_item-run-requires c =
-    record { ready = c.loop-at.invariant.ready; marks_len = marks_are _ _ _ _ _ _ _ _ c.loop-at.invariant; offered = offered _ _ _ _ _ _ _ _ c.loop-at.invariant c.loop-at-test.true c.read_at-read.result c.read_at-read.ensures }
+    record { ready = c.loop-at.invariant.ready; offered = offered _ _ _ _ _ _ _ _ c.loop-at.invariant c.loop-at-test.true c.read_at-read.result c.read_at-read.ensures }
 
 pub wipe_after-requires : goal.wipe_after-requires
 wipe_after-requires c =

@@ -21,14 +21,14 @@ others = 1 ∷ 2 ∷ 3 ∷ 4 ∷ 5 ∷ 6 ∷ 7 ∷ 8 ∷ 9 ∷ 10 ∷ 11 ∷ 12 
 
 pub print_run-requires : goal.print_run-requires
 print_run-requires c =
-    record { ready = c.requires.ready; marks_len = c.requires.marks_len; at_value = c.requires.offered.prints (rw c.in-Printed.is) }
+    record { ready = c.requires.ready; shown_len = c.requires.shown_len; at_value = c.requires.offered.prints (rw c.in-Printed.is) }
 
 pub returns-in-Printed : goal.returns-in-Printed
 returns-in-Printed c =
     rw c.in-Printed.is (run_arm _ c.print_run.ensures)
 
 pub print_code-one-requires : goal.print_code-one-requires
-print_code-one-requires c = record { ready = c.requires.ready; marks_len = c.requires.marks_len }
+print_code-one-requires c = record { ready = c.requires.ready; shown_len = c.requires.shown_len }
 
 pub overflow_add-result : goal.overflow_add-result
 overflow_add-result c = omega (arith, c.requires.offered.inside, c.requires.offered.sendable)
@@ -49,7 +49,6 @@ obey-requires c =
     ]
     in record {
       ready = h.ready;
-      marks_len = h.marks_len.0;
       offered = (subst (λ (i : Item). Offered a.message.now a.at a.size i (limits_in a.frame)) (sym told.0) h.offered, told.1);
     }
 
@@ -61,4 +60,4 @@ returns c =
       | in-Sequence+in_default-q w ↦ other_code w.item-is w.in-Sequence.is (none_passes (λ n. eqb n 37) others w.in-Sequence.q refl (opened w.in_default-q.in_default-q-own.keys2))
       | in_default-item w ↦ other_item w.item-is c.in_default.not-Printed w.in_default-item.not-Sequence
     ]
-    in other_arm told.0 (subst (λ (i : Item). printing? i ≡ false) told.0 told.1) c.requires.marks_len.1 c.obey.ensures
+    in other_arm told.0 (subst (λ (i : Item). printing? i ≡ false) told.0 told.1) c.requires.shown_len c.obey.ensures

@@ -12,7 +12,7 @@ returns-then-spot-ge-SHOWN c = let a =
 
 pub returns-then-secret-eq1 : goal.returns-then-secret-eq1
 returns-then-secret-eq1 c =
-    let n = c.lesser-n in
+    let n = c.min-n in
     let a = c.args in
     blanks_put a.secret a.message.now a.at a.count a.spot a.shown.now c.requires.shown_len (omega arith) c.requires.count_in_bounds n.ensures c.if-secret-eq1.true
     (lent_filled a.spot n.result (a.spot + n.result - a.spot) 32 a.shown.now c.fill.ensures (omega arith) (omega arith))
@@ -20,4 +20,4 @@ returns-then-secret-eq1 c =
 pub returns : goal.returns
 returns c =
     let a = c.args in
-    bytes_put a.secret a.message.now a.at a.count a.spot a.shown.now c.requires.shown_len (omega arith) c.requires.count_in_bounds c.lesser-n.ensures c.if-secret-eq1.false c.copy_in.ensures
+    bytes_put a.secret a.message.now a.at a.count a.spot a.shown.now c.requires.shown_len (omega arith) c.requires.count_in_bounds c.min-n.ensures c.if-secret-eq1.false c.copy_in.ensures

@@ -15,7 +15,7 @@ returns c =
     let first = c.late_step-first in
     let next = c.print_here-next in (
       then_with first.ensures next.ensures,
-      sees_one first.ensures next.ensures c.requires.marks_len.1
+      sees_one first.ensures next.ensures c.requires.shown_len
           (ap (λ (b : Bool). eqb c.args.place.late 1 && b) c.lowest.ensures)
           (ap (λ (b : Bool). not (ltb first.result.column f.columns) && (not (eqb f.rule 2) && b)) c.lowest-2.ensures) c.shown.ensures c.paint_code.ensures,
     )

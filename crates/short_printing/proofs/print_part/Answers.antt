@@ -2,6 +2,7 @@
 use mathlib.Core.Path.{◌∙◌, refl}
 use native.Mathlib.Omega.{arith}
 use lib.Dec.{ltb}
+use borrow.Author.Rules.{rules}
 use borrow.Author.Tests.{ltb-false}
 use Rattle.model.proofs.Tests.{or_false}
 use Rattle.short_printing.proofs.Seeing.{part_code, part_line}
@@ -14,19 +15,19 @@ returns-then-count-misses c =
 
 pub print_line-next-requires : goal.print_line-next-requires
 print_line-next-requires c =
-    let n = c.lesser-count in
+    let n = c.min-count in
     let h = c.requires in
     let k = or_false (ltb n.result 1) c.misses.result c.if-count-misses.false in
     record {
       ready = h.ready;
       reads = λ st e i. c.misses.ensures st e i ∙ k.1;
-      le_count = (ltb-false n.result 1 k.0, (omega (arith, n.ensures, h.ready.stands.fits), omega (arith, n.ensures, h.at_lt_end)));
-      shown_len = h.marks_len.1;
+      le_count = (ltb-false n.result 1 k.0, (omega (arith, n.ensures, c.from.ensures, h.ready.stands.fits), omega (arith, n.ensures, h.at_lt_end)));
+      shown_len = h.shown_len;
     }
 
 pub returns : goal.returns
 returns c =
-    let n = c.lesser-count in
+    let n = c.min-count in
     let h = c.requires in
     let k = or_false (ltb n.result 1) c.misses.result c.if-count-misses.false in
-    part_line (ltb-false n.result 1 k.0) (omega (arith, n.ensures, h.at_lt_end)) refl refl h.marks_len.0 c.print_line-next.ensures.0 (c.print_line-next.ensures.1 c.args.marks.now)
+    part_line (ltb-false n.result 1 k.0) (omega (arith, n.ensures, h.at_lt_end)) refl refl (search rules) c.print_line-next.ensures.0 (c.print_line-next.ensures.1 c.args.marks.now)

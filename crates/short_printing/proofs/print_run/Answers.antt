@@ -6,12 +6,12 @@ use Rattle.short_printing.proofs.print_run.Goals as goal
 
 pub loop-i-init : goal.loop-i-init
 loop-i-init c =
-    let h = c.requires in (omega (arith, c.run_end-end.ensures.printing.some), seen_none _ h.ready h.marks_len.0 h.marks_len.1)
+    let h = c.requires in (omega (arith, c.run_end-end.ensures.printing.some), seen_none _ h.ready (search rules) h.shown_len)
 
 pub print_part-part-requires : goal.print_part-part-requires
 print_part-part-requires c =
     let a = c.loop-i.invariant.1 in
-    record { ready = a.along.acts.ready; marks_len = (a.along.acts.marks_are, a.sees.size); at_lt_end = search rules }
+    record { ready = a.along.acts.ready; shown_len = a.sees.size; at_lt_end = search rules }
 
 pub loop-i-preserved : goal.loop-i-preserved
 loop-i-preserved c =

@@ -5,7 +5,7 @@ use Prim.Native.Nat.{◌<◌}
 use native.Mathlib.Omega.{arith}
 use borrow.Author.Rules.{rules}
 use Rattle.model.proofs.Keep.{chosen}
-use Rattle.serving.proofs.Turns.{applying, countable, further, good, marks_are, offered}
+use Rattle.serving.proofs.Turns.{applying, countable, further, good, offered}
 use Rattle.short_serving.proofs.Watching.{watch_away, watch_ends, watch_first, watch_stays}
 use Rattle.short_serving.proofs.serve_items.Goals as goal
 
@@ -33,14 +33,10 @@ pub count-counts-requires : goal.count-counts-requires
 count-counts-requires c =
     countable _ _ _ _ _ _ _ _ c.loop-at.invariant.loop c.loop-at-test.true c.read_at-read.result c.read_at-read.ensures (omega (arith, c.loop-at.invariant.loop.going.same_size, c.well_formed.1.1.1.1.1.1.0))
 
-pub slice_bounds-obey_item-end : goal.slice_bounds-obey_item-end
-slice_bounds-obey_item-end c =
-    search (rules, marks_are _ _ _ _ _ _ _ _ c.loop-at.invariant.loop)
-
 pub obey_item-run-requires : goal.obey_item-run-requires
 obey_item-run-requires c =
     let g = c.loop-at.invariant in
-    record { ready = g.loop.ready; marks_len = (marks_are _ _ _ _ _ _ _ _ g.loop, g.still.size); offered = offered _ _ _ _ _ _ _ _ g.loop c.loop-at-test.true c.read_at-read.result c.read_at-read.ensures }
+    record { ready = g.loop.ready; shown_len = g.still.size; offered = offered _ _ _ _ _ _ _ _ g.loop c.loop-at-test.true c.read_at-read.result c.read_at-read.ensures }
 
 pub wipe_after-requires : goal.wipe_after-requires
 wipe_after-requires c =

@@ -3,10 +3,6 @@ use native.Mathlib.Omega.{arith}
 use Rattle.cursor.proofs.Windows.{centred_top}
 use Rattle.cursor.proofs.window.centre.Goals as goal
 
-pub returns-then-half-place : goal.returns-then-half-place
-returns-then-half-place c =
+pub returns : goal.returns
+returns c =
     centred_top c.hold.ensures (omega arith)
-
-pub returns-else-half-place : goal.returns-else-half-place
-returns-else-half-place c =
-    centred_top c.hold-else-half-place.ensures (omega arith)

@@ -6,8 +6,8 @@ use Rattle.ground.proofs.lines.clear.Goals as goal
 
 pub unmark-requires : goal.unmark-requires
 unmark-requires c =
-    record { le_from = (omega arith, (omega arith, omega arith)); screen_bound = search rules }
+    record { le_from = (omega arith, (omega arith, omega arith)); screen_bound = c.requires.ready.stands.screen_low }
 
 pub returns : goal.returns
 returns c =
-    cleared_acts c.requires.ready c.empty.ensures c.times.ensures.0 c.blank.ensures c.requires.marks_len c.unmark.ensures c.home_place.ensures
+    cleared_acts c.requires.ready c.empty.ensures c.times.ensures.0 c.blank.ensures (search rules) c.unmark.ensures c.home_place.ensures

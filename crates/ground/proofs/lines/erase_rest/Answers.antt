@@ -5,7 +5,7 @@ use Rattle.ground.proofs.lines.erase_rest.Goals as goal
 
 pub erase_through-requires : goal.erase_through-requires
 erase_through-requires c =
-    record { ready = c.requires.ready; marks_len = c.requires.marks_len; line_le_to = (c.requires.ready.stands.fits.line_high, omega arith) }
+    record { ready = c.requires.ready; line_le_to = (c.requires.ready.stands.fits.line_high, omega arith) }
 
 pub returns : goal.returns
 returns c =

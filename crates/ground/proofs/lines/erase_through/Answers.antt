@@ -11,8 +11,8 @@ blank_from-requires c =
 
 pub unmark-requires : goal.unmark-requires
 unmark-requires c =
-    record { le_from = (omega arith, (omega arith, omega arith)); screen_bound = search rules }
+    record { le_from = (omega arith, (omega arith, omega arith)); screen_bound = c.requires.ready.stands.screen_low }
 
 pub returns : goal.returns
 returns c =
-    erased_acts c.requires.marks_len c.args.to (omega (arith, c.times-below.ensures.0, c.as_size.ensures, c.as_size-2.ensures)) c.blank_from.ensures c.unmark.ensures
+    erased_acts (search rules) c.args.to (omega (arith, c.times-below.ensures.0, c.from.ensures, c.from-2.ensures)) c.blank_from.ensures c.unmark.ensures

@@ -6,7 +6,7 @@ use Rattle.ground.proofs.lines.lift.Goals as goal
 
 pub carry-requires : goal.carry-requires
 carry-requires c =
-    record { le_count = (omega arith, omega arith); screen_bound = search rules }
+    record { le_count = (omega arith, omega arith); screen_bound = c.requires.ready.stands.screen_low }
 
 pub scroll-requires : goal.scroll-requires
 scroll-requires c =
@@ -14,4 +14,4 @@ scroll-requires c =
 
 pub returns : goal.returns
 returns c =
-    lifted_acts c.requires.marks_len c.scroll.ensures c.carry.ensures
+    lifted_acts (search rules) c.scroll.ensures c.carry.ensures

@@ -15,12 +15,12 @@ pub scroll_up-requires : goal.scroll_up-requires
 scroll_up-requires c =
     omega (arith, lines_room c.requires.ready.stands _ _ c.requires.le_count.0 c.requires.le_count.1)
 
-pub returns-then-down : goal.returns-then-down
-returns-then-down c =
-    rw c.if-down.true
-    (lines_move (search rules) c.empty.ensures _ _ scrolled_down length_down c.requires.le_count.1 c.times.ensures.0 c.times-size.ensures.0 c.as_size-width.ensures c.scroll_down.ensures)
+pub returns-in-Down : goal.returns-in-Down
+returns-in-Down c =
+    rw c.in-Down.is
+    (lines_move (search rules) c.empty.ensures _ _ scrolled_down length_down c.requires.le_count.1 c.times.ensures.0 c.times-size.ensures.0 c.from-width.ensures c.scroll_down.ensures)
 
-pub returns-else-down : goal.returns-else-down
-returns-else-down c =
-    rw c.if-down.false
-    (lines_move (search rules) c.empty.ensures _ _ scrolled_up length_up c.requires.le_count.1 c.times.ensures.0 c.times-size.ensures.0 c.as_size-width.ensures c.scroll_up.ensures)
+pub returns-in-Up : goal.returns-in-Up
+returns-in-Up c =
+    rw c.in-Up.is
+    (lines_move (search rules) c.empty.ensures _ _ scrolled_up length_up c.requires.le_count.1 c.times.ensures.0 c.times-size.ensures.0 c.from-width.ensures c.scroll_up.ensures)

@@ -4,12 +4,12 @@ use native.Mathlib.Omega.{arith}
 use Rattle.ground.proofs.LogicalLaws.{down_made, up_made}
 use Rattle.ground.proofs.logical.carry.Goals as goal
 
-pub returns-then-down : goal.returns-then-down
-returns-then-down c =
+pub returns-in-Down : goal.returns-in-Down
+returns-in-Down c =
     let a = c.args in
-    rw c.if-down.true (down_made a.from a.count (omega arith) (omega arith) refl c.moved.ensures c.lowest.ensures refl c.lowest-then-down.ensures c.moved-then-down.ensures)
+    rw c.in-Down.is (down_made a.from a.count (omega arith) (omega arith) refl c.moved.ensures c.lowest.ensures refl c.lowest-in-Down.ensures c.moved-in-Down.ensures)
 
-pub returns-else-down : goal.returns-else-down
-returns-else-down c =
+pub returns-in-Up : goal.returns-in-Up
+returns-in-Up c =
     let a = c.args in
-    rw c.if-down.false (up_made a.from a.count (omega arith) (omega arith) refl c.moved.ensures c.lowest.ensures refl c.lowest-else-down.ensures c.moved-else-down.ensures)
+    rw c.in-Up.is (up_made a.from a.count (omega arith) (omega arith) refl c.moved.ensures c.lowest.ensures refl c.lowest-in-Up.ensures c.moved-in-Up.ensures)

@@ -8,5 +8,5 @@ use Rattle.ground.proofs.logical.run_on.Goals as goal
 
 pub returns : goal.returns
 returns c =
-    let a = c.args in let small : get_or a.marks.now a.frame.screen 0 < 2 ^ 64 = omega (arith, c.slice_known-2-1.given a.frame.screen) in
+    let a = c.args in let small : get_or a.marks.now a.frame.screen 0 < 2 ^ 64 = omega (arith, c.fits-marks a.frame.screen) in
     run_on_made a.line (omega arith) (omega arith) refl c.bit.ensures refl small

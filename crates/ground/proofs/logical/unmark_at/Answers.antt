@@ -7,5 +7,5 @@ use Rattle.ground.proofs.logical.unmark_at.Goals as goal
 
 pub returns-else-line-ge1 : goal.returns-else-line-ge1
 returns-else-line-ge1 c =
-    let a = c.args in let small : get_or a.marks.now a.frame.screen 0 < 2 ^ 64 = omega (arith, c.slice_known-1.given a.frame.screen) in
+    let a = c.args in let small : get_or a.marks.now a.frame.screen 0 < 2 ^ 64 = omega (arith, c.fits-marks a.frame.screen) in
     no_line a.line (omega arith) small

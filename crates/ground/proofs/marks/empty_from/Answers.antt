@@ -9,7 +9,7 @@ returns-then-frame c =
 
 pub returns-then-shown-lt-SHOWN : goal.returns-then-shown-lt-SHOWN
 returns-then-shown-lt-SHOWN c =
-    let n = c.lesser-n in
+    let n = c.min-n in
     c.zero-then-shown-lt-SHOWN.ensures ∙ rw c.zero.ensures (empty_from-put c.args.count c.args.shown c.args.layer.now c.if-shown-lt-SHOWN.true c.requires.size n.ensures)
 
 pub returns-else-shown-lt-SHOWN : goal.returns-else-shown-lt-SHOWN
