@@ -3,7 +3,6 @@
 use mathlib.Core.Path.{◌∙◌, refl, sym}
 use Prim.Native.Nat.{◌<◌}
 use native.Mathlib.Omega.{arith}
-use borrow.Author.Rules.{rules}
 use Rattle.model.proofs.Keep.{chosen}
 use Rattle.serving.proofs.Turns.{applying, countable, further, good, offered}
 use Rattle.short_serving.proofs.Watching.{watch_away, watch_ends, watch_first, watch_stays}
