@@ -1,5 +1,5 @@
 -- Refused by its own line, or by the message call of what waits; served, that call is all of it.
-use mathlib.Core.Path.{◌∙◌, ◌≡◌, sym}
+use mathlib.Core.Path.{◌≡◌, sym}
 use native.Mathlib.Omega.{arith}
 use lib.ListN.{length}
 use lib.Seq.{length-take-le}
