@@ -2,12 +2,7 @@
 // bytes alone, has a way of its own; any other goes item by item (the crate `short_serving`). The crate `export_short` hands the call to C and Rust.
 #![tactic(auto)]
 
-ghost use Rattle.std.specs.Prelude.{◌≡◌, true, ℕ, List, length};
-ghost use Rattle.model.specs.Picture.{picture};
-ghost use Rattle.model.specs.Screens.{place_of};
-ghost use Rattle.model.specs.Sound.{Sound};
-ghost use Rattle.model.specs.State.{state};
-ghost use Rattle.views.specs.Painted.{painted};
+ghost use Rattle.std.specs.Prelude.{◌≡◌, true};
 ghost use Rattle.calls.specs.Calls.{terminal};
 ghost use Rattle.short.specs.Short.{ShortPromised, InLine};
 ghost use Rattle.ground.specs.Frame.{Stands};
@@ -58,22 +53,15 @@ pub fn message_short(
     );
     let places = placed(settings, next);
     settings.places = places;
-    paint_row_8(settings, next.top, cells, layer, shown);
+    paint::paint_row_8(
+        settings,
+        next.top,
+        cells.as_array().unwrap(),
+        layer.as_array().unwrap(),
+        shown.as_mut_array().unwrap(),
+    );
     let answer = answer_of(no_counts(), count);
     Outcome { settings, answer }
-}
-
-// Row 8, of stores that are known to have their sizes. (Always put in where it is called: a call copies the settings, 1.2 of a short message.)
-#[inline(always)]
-fn paint_row_8(settings: Settings, top: u8, cells: &[u8], layer: &[u8], shown: &mut [u8])
-    requires sound { (Sound settings) × (top ≡ (place_of settings settings.selected).top) }
-    requires sizes { (length cells.now ≡ 3840) × ((length layer.now ≡ 1280) × (length shown.old ≡ 640)) }
-    ensures { (dots : List ℕ) → shown.new ≡ painted 560 80 (picture (state settings cells.now layer.now dots)) shown.old }
-{
-    let cells = cells.as_array().unwrap();
-    let layer = layer.as_array().unwrap();
-    let shown = shown.as_mut_array().unwrap();
-    paint::paint_row_8(settings, top, cells, layer, shown);
 }
 
 // Whether a message is one run of printed bytes, which its first item begins, that stays in the cursor's line under a window that shows it.

@@ -8,6 +8,7 @@ use Rattle.counting.specs.Counting.{answer_at}
 use Rattle.terminal.proofs.Answers.{servable}
 use Rattle.short_serving.proofs.Ends.{visible}
 use Rattle.short.proofs.Promises.{line_first, line_served, line_visible, short_refused, short_served}
+use Rattle.std.proofs.lemmas.Option.{MatchOption-at_some}
 use Rattle.short.proofs.message_short.Goals as goal
 
 pub returns-in-Err : goal.returns-in-Err
@@ -51,12 +52,20 @@ print_line-next-requires c =
     let l = c.in_line.ensures c.if-not-in_line.false in
     record { ready = (line_first a.settings a.message.now a.cells.now a.layer.now a.dots.now a.shown.now a.printer.now able c.frame_of-frame.ensures c.selected_place-place.ensures).loop.ready; reads = l.seen; le_count = (l.some, (l.room, omega arith)); shown_len = able.shown_are }
 
+-- the shown screen has its size still
+pub unwrap-requires-3 : goal.unwrap-requires-3
+unwrap-requires-3 c =
+    let a = c.args in
+    let able = servable a.settings a.message.now a.cells.now a.layer.now a.dots.now a.shown.now (sym c.in_default.ensures) in
+    let seen = line_visible a.settings a.message.now a.cells.now a.layer.now a.dots.now a.shown.now a.printer.now able c.frame_of-frame.ensures c.selected_place-place.ensures (c.in_line.ensures c.if-not-in_line.false) c.print_line-next.ensures in
+    c.as_mut_array.follows.1.1 seen.1
+
 pub paint_row_8-requires : goal.paint_row_8-requires
 paint_row_8-requires c =
     let a = c.args in
     let able = servable a.settings a.message.now a.cells.now a.layer.now a.dots.now a.shown.now (sym c.in_default.ensures) in
     let seen = line_visible a.settings a.message.now a.cells.now a.layer.now a.dots.now a.shown.now a.printer.now able c.frame_of-frame.ensures c.selected_place-place.ensures (c.in_line.ensures c.if-not-in_line.false) c.print_line-next.ensures in
-    record { sound = visible a.settings c.print_line-next.result seen.0.sound c.placed-places.ensures; sizes = (seen.0.cells_are, (seen.0.layer_are, seen.1)) }
+    record { visible = visible a.settings c.print_line-next.result seen.0.sound c.placed-places.ensures }
 
 pub answer_of-answer-requires : goal.answer_of-answer-requires
 answer_of-answer-requires c =
@@ -70,4 +79,9 @@ returns c =
     let able = servable a.settings a.message.now a.cells.now a.layer.now a.dots.now a.shown.now (sym c.in_default.ensures) in
     short_served a.settings a.message.now a.cells.now a.layer.now a.dots.now a.shown.now a.printer.now _ _ _ _ _ _ (sym c.in_default.ensures)
     (line_served a.settings a.message.now a.cells.now a.layer.now a.dots.now a.shown.now a.printer.now able c.frame_of-frame.ensures c.selected_place-place.ensures (c.in_line.ensures c.if-not-in_line.false) c.print_line-next.ensures c.placed-places.ensures
-    (c.answer_of-answer.ensures ∙ ap (answer_at (length a.message.now)) c.no_counts.ensures) c.paint_row_8.ensures)
+    (c.answer_of-answer.ensures ∙ ap (answer_at (length a.message.now)) c.no_counts.ensures)
+    (λ dots.
+    let cells = MatchOption-at_some _ _ _ c.unwrap.ensures c.as_array.ensures.cases in
+    let layer = MatchOption-at_some _ _ _ c.unwrap-2.ensures c.as_array-2.ensures.cases in
+    let shown = MatchOption-at_some _ _ _ c.unwrap-3.ensures c.as_mut_array.follows.0 in
+    rw (← cells.same, ← layer.same, ← shown.same) (c.paint_row_8.ensures dots)))
