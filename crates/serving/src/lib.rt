@@ -29,7 +29,11 @@ pub fn serve(
     ensures { Serves message.now (state settings cells.old layer.old dots.old) printer.old result cells.new layer.new dots.new shown.new printer.new }
 {
     let none = no_counts();
-    serve_from(
+    let cells = cells.as_mut_array().unwrap();
+    let layer = layer.as_mut_array().unwrap();
+    let shown = shown.as_mut_array().unwrap();
+    let dots = dots.as_mut_array().unwrap();
+    serve_items(
         settings, message, 0, none, true, cells, layer, shown, dots, printer,
     )
 }
@@ -62,7 +66,7 @@ pub fn serve_from(
     )
 }
 
-// The same, the stores as arrays of their sizes.
+// The same, the stores as arrays of their sizes. (Both calls above make them: one through the other would copy the settings once more.)
 fn serve_items(
     settings: Settings,
     message: &[u8],
