@@ -28,7 +28,7 @@ pub struct Compared {
     pub count: usize,
 }
 
-// Why a call is refused, by the names of docs/REFUSALS.md.
+// Why a call is refused: a shown screen is not of its size (1), or "the differences exceed the list" (18); `number_of` has the numbers.
 #[derive(Clone, Copy, Debug, PartialEq, Eq)]
 pub enum Refusal {
     StoreSize,

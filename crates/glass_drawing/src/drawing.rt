@@ -53,7 +53,8 @@ impl Drawn {
     }
 
     pub fn as_slice(&self) -> &[u8]
-        ensures { result.now ≡ self.now }
+        ensures bytes { result.now ≡ self.now }
+        ensures most { length result.now ≤ 5120 }
     {
         &self.bytes[..self.length]
     }

@@ -29,7 +29,7 @@ pub struct Repeats {
     pub count: u64,
 }
 
-// Why a call is refused, by the names of docs/REFUSALS.md.
+// Why a call is refused; `number_of` has the numbers.
 #[derive(Clone, Copy, Debug, PartialEq, Eq)]
 pub enum Refusal {
     Unsound,
