@@ -5,7 +5,7 @@
 
 mod search;
 
-ghost use Rattle.std.specs.Prelude.{◌≡◌, replicate};
+ghost use Rattle.std.specs.Prelude.{◌≡◌, MatchResult, Ok, replicate};
 ghost use Rattle.differences.specs.Answers.{ComparePromised, FirstPromised, answer_of, first_of, nowhere, number_of, values_of};
 
 use search::Screens;
@@ -155,9 +155,19 @@ pub fn first_difference(first: &[u8], second: &[u8]) -> Result<Option<Difference
     Ok(found)
 }
 
-// Its values.
-pub fn values(first: Result<Option<Difference>, Refusal>) -> FirstValues
-    ensures { result ≡ values_of first }
+// Its values; those too of a refusal that is told by any number.
+pub fn values<R: Into<u8>>(first: Result<Option<Difference>, R>) -> FirstValues
+    ensures { MatchResult first (λ o. result ≡ values_of (Ok o)) (λ r. (R.converts r result.number) × ((result.found ≡ 0) × (result.difference ≡ nowhere))) }
 {
-    first.into()
+    match first {
+        Ok(found) => Ok(found).into(),
+        Err(refusal) => {
+            let number = refusal.into();
+            FirstValues {
+                number,
+                found: 0,
+                difference: Difference::default(),
+            }
+        }
+    }
 }

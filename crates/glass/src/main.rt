@@ -8,6 +8,8 @@
 mod cursor_place;
 mod totals;
 
+ghost use Rattle.std.specs.Prelude.{◌≤◌, IfSome, length};
+
 use glass_drawing::{curve, drawing};
 use model::{Answer, CELLS, DOTS, LAYER, Outcome, SHOWN, Settings};
 use std::io::Read;
@@ -48,8 +50,10 @@ fn main(rt: HostRuntime) {
     close(&rt, stream, &mut cells, &mut layer, &mut shown, &mut dots);
 }
 
-// As much as one read gives: nothing at the input's end, where the read fails, and after a call that was refused by a number.
-fn next_part<'a, R: Read>(from: &mut R, number: u8, part: &'a mut [u8]) -> Option<&'a [u8]> {
+// As much as one read gives, which `part` has room for: nothing at the input's end, where the read fails, and after a call that was refused by a number.
+fn next_part<'a, R: Read>(from: &mut R, number: u8, part: &'a mut [u8]) -> Option<&'a [u8]>
+    ensures { IfSome result (λ p. (1 ≤ length p.now) × (length p.now ≤ length part.old)) }
+{
     if number != 0 {
         return None;
     }

@@ -1,7 +1,8 @@
 // Recordings of calls, read record by record: body length and kind, two bytes each, little-endian, then the body.
 #![tactic(auto)]
 
-ghost use Rattle.std.specs.Prelude.{◌≡◌, ◌+◌, ◌<◌, ◌≤◌, IfOk, IfSome, length};
+ghost use Rattle.std.specs.Prelude.{◌≡◌, ◌+◌, ◌<◌, ◌≤◌, IfOk, IfSome, MatchOption, length};
+ghost use Rattle.record_input.specs.Records.{body_of, size_of};
 
 use input::read_full;
 use std::io::Read;
@@ -78,7 +79,8 @@ pub fn next_call<'a, R: Read>(
     left: &mut usize,
     buffer: &'a mut [u8],
 ) -> Result<Option<Call<'a>>, BadRecord>
-    ensures { (left.new ≤ left.old) × (left.old ≤ left.new + 65539) }
+    ensures at_most_a_record { (left.new ≤ left.old) × (left.old ≤ left.new + 65539) }
+    ensures taken_off { IfOk result (λ o. MatchOption o (left.new ≡ left.old) (λ c. left.old ≡ left.new + size_of c)) }
 {
     let Some(record) = next_record(from, buffer)? else {
         return Ok(None);
@@ -96,6 +98,8 @@ pub fn next_call<'a, R: Read>(
 impl<'a> TryFrom<Record<'a>> for Call<'a> {
     type Error = BadRecord;
 
+    ghost try_from_gives = { λ r result. IfOk result (λ c. body_of c ≡ length r.body.now) };
+
     fn try_from(record: Record<'a>) -> Result<Call<'a>, BadRecord> {
         let body = record.body;
         match (record.kind, body) {
@@ -112,7 +116,9 @@ impl<'a> TryFrom<Record<'a>> for Call<'a> {
     }
 }
 
-fn room<'a>(bytes: u16) -> Result<Call<'a>, BadRecord> {
+fn room<'a>(bytes: u16) -> Result<Call<'a>, BadRecord>
+    ensures { IfOk result (λ c. body_of c ≡ 2) }
+{
     match usize::from(bytes) {
         room @ 0..=MOST_ROOM => Ok(Call::Room(room)),
         _ => Err(BadRecord),

@@ -1,6 +1,8 @@
 // A recording played: its records from an opening by rule 1, and what each of them asks for.
 #![tactic(auto)]
 
+ghost use Rattle.std.specs.Prelude.{◌≤◌, IfSome};
+
 use playing::{Played, play_key, play_opening, play_room};
 use playing_messages::{play_closing, play_message, play_pack, play_piece, play_short};
 use record_input::{BadRecord, Call, next_call};
@@ -26,7 +28,9 @@ pub fn play_all<R: Read>(
     shown: &mut [u8],
     dots: &mut [u8],
     printer: &mut [u8],
-) -> Ended {
+) -> Ended
+    ensures { IfSome result.bad (λ n. (1 ≤ n) × (n ≤ 250001)) }
+{
     let mut body = [0u8; 65536];
     let mut left = MOST;
     let mut played = playing::open(cells, layer, shown, dots);
