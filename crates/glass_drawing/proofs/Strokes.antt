@@ -5,8 +5,9 @@ use native.Mathlib.Numerals.{add-one}
 use native.Mathlib.Omega.{arith}
 use mathlib.Core.Bool.{false, true}
 use mathlib.Core.List.{List, [], ◌++◌, ◌∷◌, append_assoc, append-nil}
-use lib.ListN.{drop, get_or, length, length-append}
+use lib.ListN.{drop, get_or, length, length-append, replicate, set}
 use lib.Seq.{drop-cons, drop-length}
+use Rattle.std.proofs.lemmas.List.{drop-drop, drop-replicate, drop-set-lt}
 use Rattle.report.specs.Letters.{letter}
 use Rattle.glass_drawing.specs.Drawing.{Stroke, address_of, apart, bytes_of, changed, move, strokes, strokes_at, strokes_from, write}
 
@@ -42,6 +43,11 @@ one_behind drawn bytes all i h e =
 
 pub all_behind : (drawn bytes all : List ℕ) (i : ℕ) → i ≡ length bytes → drawn ++ drop i bytes ≡ all → drawn ≡ all
 all_behind drawn bytes all i h e = sym (append-nil drawn) ∙ ap (λ (l : List ℕ). drawn ++ l) (sym (drop-length bytes)) ∙ (rw h at e)
+
+-- of the zeros behind what is drawn a byte more takes the first
+pub zeros_behind : (bytes : List ℕ) (n most byte : ℕ) → n < most → drop n bytes ≡ replicate (most - n) 0 → drop (n + 1) (set bytes n byte) ≡ replicate (most - (n + 1)) 0
+zeros_behind bytes n most byte h e =
+    drop-set-lt (n + 1) bytes n byte (omega arith) ∙ sym (drop-drop 1 n bytes) ∙ ap (drop 1) e ∙ drop-replicate 1 (most - n) 0 ∙ ap (λ (k : ℕ). replicate k 0) (omega arith)
 
 -- what is drawn, with what is left to be drawn behind it, is the whole
 module _ (old new : List ℕ) (p : ℕ) (drawn : List ℕ) (e : drawn ++ bytes_of (strokes_from old new p (640 - p)) ≡ bytes_of (strokes old new)) where

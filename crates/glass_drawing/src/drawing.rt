@@ -8,21 +8,30 @@ use std::marker::Model;
 // A letter has one byte and an address before it seven.
 const MOST: usize = 8 * SHOWN;
 
-// Bytes one behind another, the first of an array; a contract sees the list of them.
-#[derive(Drop)]
+// Bytes one behind another, the first of an array; a contract sees the list of them. The array is 0 behind them, so that the list gives the fields
+// back, which `Copy` needs.
+#[derive(Clone, Copy)]
 pub struct Drawn {
     bytes: [u8; MOST],
     length: usize,
 }
 
 impl Model for Drawn {
-    ghost use Rattle.std.specs.Prelude.{List, ℕ, ◌≤◌, take};
+    ghost use Rattle.std.specs.Prelude.{◌≡◌, ℕ, ◌-◌, ◌≤◌, List, ◌++◌, length as len, take, drop, replicate};
+    ghost use Rattle.std.proofs.Common.{arith, length-take-le, take-append-drop};
 
     ghost Value = { List ℕ };
 
     ghost view = { λ s. take s.length s.bytes };
 
-    ghost invariant = { λ s. s.length ≤ 5120 };
+    ghost invariant = { λ s. (s.length ≤ 5120) × (len s.bytes ≡ 5120) × (drop s.length s.bytes ≡ replicate (5120 - s.length) 0) };
+
+    ghost inverse = { λ bs. record { length = len bs; bytes = bs ++ replicate (5120 - len bs) 0 } };
+
+    ghost inverse_ok = { λ a h i.
+        let all : len (take a.length a.bytes) ≡ a.length = length-take-le a.length a.bytes (omega (arith, h)) in
+        let whole : take a.length a.bytes ++ replicate (5120 - len (take a.length a.bytes)) 0 ≡ a.bytes = rw (all, ← h.2) (take-append-drop a.length a.bytes) in
+        record { length = all i; bytes = whole i } };
 }
 
 impl Drawn {

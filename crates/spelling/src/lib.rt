@@ -1,7 +1,7 @@
 // The bytes of a sequence (document 02, P7): ESC, its second byte, its parameters as sent.
 #![tactic(auto)]
 
-ghost use Rattle.std.specs.Prelude.{◌≡◌, ℕ, ◌≤◌, List, length, take};
+ghost use Rattle.std.specs.Prelude.{◌≡◌, ◌≤◌, length, take};
 ghost use Rattle.model.specs.Sequences.{code_of};
 ghost use Rattle.spelling.specs.Spelling.{bytes_of};
 
@@ -9,19 +9,29 @@ use model::Sequence;
 use std::marker::Model;
 
 // The bytes of a sequence, at least ESC and a second byte: the first `length` of an array.
-#[derive(Drop)]
+#[derive(Clone, Copy)]
 pub struct Spelled {
     length: usize,
     bytes: [u8; 13],
 }
 
-// Clauses see its bytes.
+// Clauses see its bytes. The array is 0 behind them, so that they give the fields back, which `Copy` needs.
 impl Model for Spelled {
+    ghost use Rattle.std.specs.Prelude.{◌≡◌, ℕ, ◌-◌, ◌≤◌, List, ◌++◌, length as len, take, drop, replicate};
+    ghost use Rattle.std.proofs.Common.{arith, length-take-le, take-append-drop};
+
     ghost Value = { List ℕ };
 
     ghost view = { λ s. take s.length s.bytes };
 
-    ghost invariant = { λ s. (2 ≤ s.length) × (s.length ≤ 13) };
+    ghost invariant = { λ s. (2 ≤ s.length) × (s.length ≤ 13) × (len s.bytes ≡ 13) × (drop s.length s.bytes ≡ replicate (13 - s.length) 0) };
+
+    ghost inverse = { λ bs. record { length = len bs; bytes = bs ++ replicate (13 - len bs) 0 } };
+
+    ghost inverse_ok = { λ a h i.
+        let all : len (take a.length a.bytes) ≡ a.length = length-take-le a.length a.bytes (omega (arith, h)) in
+        let whole : take a.length a.bytes ++ replicate (13 - len (take a.length a.bytes)) 0 ≡ a.bytes = rw (all, ← h.3) (take-append-drop a.length a.bytes) in
+        record { length = all i; bytes = whole i } };
 }
 
 impl Spelled {
@@ -35,11 +45,13 @@ impl Spelled {
         Spelled { length: N, bytes }
     }
 
-    // The first of thirteen.
+    // The first of thirteen; those behind them are cleared.
     pub fn front(bytes: [u8; 13], length: usize) -> Spelled
         requires { (2 ≤ length) × (length ≤ 13) }
         ensures { result ≡ take length bytes }
     {
+        let mut bytes = bytes;
+        bytes[length..].fill(0);
         Spelled { length, bytes }
     }
 
