@@ -72,9 +72,7 @@ fn count_at(repeating: Repeating, stroke: Stroke, behind: &[[u8; 9]]) -> u64
     }
 }
 
-// How many codes the trace sends. (A function of its own in the archive too, as `write_all`: where all became one, the loops kept in memory what
-// registers hold here; docs/DESIGN-PASS.md has the times.)
-#[inline(never)]
+// How many codes the trace sends.
 pub(crate) fn count_all(repeating: Repeating, strokes: &[[u8; 9]]) -> u64
     requires { length strokes.now ≤ 6666 }
     ensures { result ≡ length (sent repeating.keys (strokes_read strokes.now)) }

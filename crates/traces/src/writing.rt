@@ -83,8 +83,7 @@ fn write_at(
     }
 }
 
-// All codes, from the output's start. (Why it is not inlined: `codes::count_all`.)
-#[inline(never)]
+// All codes, from the output's start.
 pub(crate) fn write_all(repeating: Repeating, strokes: &[[u8; 9]], output: &mut [u8])
     requires { 5 * length (sent repeating.keys (strokes_read strokes.now)) ≤ length output.old }
     ensures { output.new ≡ put 0 (codes_bytes (sent repeating.keys (strokes_read strokes.now))) output.old }
