@@ -1,8 +1,8 @@
 // Recordings of calls, read record by record: body length and kind, two bytes each, little-endian, then the body.
 #![tactic(auto)]
 
-ghost use Rattle.std.specs.Prelude.{◌≡◌, ◌+◌, ◌<◌, ◌≤◌, IfOk, IfSome, MatchOption, length};
-ghost use Rattle.record_input.specs.Records.{body_of, size_of};
+ghost use Rattle.std.specs.Prelude.{◌≡◌, true, false, ◌+◌, ◌/◌, ◌%◌, ◌<◌, ◌≤◌, [], ◌∷◌, IfOk, IfSome, MatchOption, MatchResult, length};
+ghost use Rattle.record_input.specs.Records.{has_call, body_of, kind_of, size_of};
 
 use input::read_full;
 use std::io::Read;
@@ -80,7 +80,7 @@ pub fn next_call<'a, R: Read>(
     buffer: &'a mut [u8],
 ) -> Result<Option<Call<'a>>, BadRecord>
     ensures at_most_a_record { (left.new ≤ left.old) × (left.old ≤ left.new + 65539) }
-    ensures taken_off { IfOk result (λ o. MatchOption o (left.new ≡ left.old) (λ c. left.old ≡ left.new + size_of c)) }
+    ensures taken_off { MatchResult result (λ o. MatchOption o (left.new ≡ left.old) (λ c. left.old ≡ left.new + size_of c)) (λ _. left.new ≡ left.old) }
 {
     let Some(record) = next_record(from, buffer)? else {
         return Ok(None);
@@ -94,12 +94,13 @@ pub fn next_call<'a, R: Read>(
     Ok(Some(call))
 }
 
-// A closing has no body, a key text a byte at least, an opening one byte, a printer room two.
+// The call whose record it is, or there is none. A closing has no body, a key text a byte at least, an opening one byte, a printer room two.
 impl<'a> TryFrom<Record<'a>> for Call<'a> {
     type Error = BadRecord;
 
-    ghost try_from_gives = { λ r result. IfOk result (λ c. body_of c ≡ length r.body.now) };
+    ghost try_from_gives = { λ r result. MatchResult result (λ c. (has_call r.kind r.body.now ≡ true) × ((kind_of c ≡ r.kind) × (body_of c ≡ r.body.now))) (λ _. has_call r.kind r.body.now ≡ false) };
 
+    #[tactic(auto, unfolding(crate::specs::Records::has_call))]
     fn try_from(record: Record<'a>) -> Result<Call<'a>, BadRecord> {
         let body = record.body;
         match (record.kind, body) {
@@ -117,7 +118,7 @@ impl<'a> TryFrom<Record<'a>> for Call<'a> {
 }
 
 fn room<'a>(bytes: u16) -> Result<Call<'a>, BadRecord>
-    ensures { IfOk result (λ c. body_of c ≡ 2) }
+    ensures { MatchResult result (λ c. (bytes ≤ 8192) × ((kind_of c ≡ 8) × (body_of c ≡ bytes % 256 ∷ bytes / 256 ∷ []))) (λ _. 8192 < bytes) }
 {
     match usize::from(bytes) {
         room @ 0..=MOST_ROOM => Ok(Call::Room(room)),

@@ -18,7 +18,7 @@ pub struct Ended {
     pub bad: Option<u64>,
 }
 
-// All records of a recording, each with its line where they are told.
+// All records of a recording, each with its line where they are told. Each has four bytes at least, so that none behind the 250,000th is good.
 pub fn play_all<R: Read>(
     out: &impl Print,
     from: &mut R,
